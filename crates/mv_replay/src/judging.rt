@@ -15,7 +15,7 @@ ghost use Rattle.mv_replay.specs.Judgement.{journal_limit, IsLegalJournal, IsRef
 ghost use Rattle.mv_replay.specs.Outcome.{converted};
 
 use crate::status::ReplayStatus;
-use mv_calls::{EntryRefusal, Judge};
+use mv_calls::Judge;
 use mv_entrytext::{JournalWriter, OpenJournal, TextRefusal, Version, open_journal};
 use mv_io::NoMemory;
 use mv_machine::{Entry, ValidConfig};
@@ -110,18 +110,17 @@ impl Course {
             return Ok(());
         }
         match self.judge.next(&self.config, entry) {
-            Ok(number) => {
+            Some(number) => {
                 if is_told(told, number) {
                     return copy_line(&mut self.copy, number, entry);
                 }
                 self.wrong = Some(line);
                 Ok(())
             }
-            Err(EntryRefusal::Illegal) => {
+            None => {
                 self.wrong = Some(line);
                 Ok(())
             }
-            Err(EntryRefusal::NoMemory) => Err(NoMemory),
         }
     }
 

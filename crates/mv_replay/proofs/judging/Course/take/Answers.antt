@@ -1,8 +1,6 @@
 -- What is wrong stays so; else the judge says of the entry what it is.
-use Rattle.std.proofs.Common.{subst, sym, ◌∙◌}
+use Rattle.std.proofs.Common.{sym, ◌∙◌}
 use Rattle.std.proofs.lemmas.Bool.{false≢true}
-use Rattle.mv_calls.specs.declared.judge.EntryRefusal.{EntryRefusal}
-use Rattle.mv_calls.specs.Judge.{IsUnfitNext}
 use Rattle.mv_replay.proofs.Courses.{course_still, right_so, right_on, wrong_by_number, wrong_by_entry}
 use Rattle.mv_replay.proofs.judging.Course.take.Goals as goal
 
@@ -23,8 +21,8 @@ returns-then-is_told-clause-course c = λ v copied es ns h before now at.
     let old = c.args.self.now in
     let config = c.args.self.now.config in
     let right = right_so v copied config es ns old.wrong old.judge old.copy c.in_default.is h in
-    let next = c.in-Ok.ensures es right.judged in
-    right_on c.copy_line.result v copied config es ns c.args.told c.args.entry.now c.in-Ok.number old.wrong old.judge c.next.new.self
+    let next = c.in-Some-next.ensures es right.judged in
+    right_on c.copy_line.result v copied config es ns c.args.told c.args.entry.now c.in-Some-next.number old.wrong old.judge c.next.new.self
     old.copy c.copy_line.new.copy c.in_default.is right before now next (c.is_told.ensures.0 c.if-is_told.true)
     (c.copy_line.ensures copied config es right.copy_is next.number)
 
@@ -33,14 +31,14 @@ returns-else-is_told-clause-course c = λ v copied es ns h before now at.
     let old = c.args.self.now in
     let config = c.args.self.now.config in
     let right = right_so v copied config es ns old.wrong old.judge old.copy c.in_default.is h in
-    wrong_by_number v copied config es ns c.args.told c.args.entry.now c.in-Ok.number c.args.line old.judge c.next.new.self old.copy right
-    before now at (c.in-Ok.ensures es right.judged) (λ same. false≢true (sym c.if-is_told.false ∙ c.is_told.ensures.1 same))
+    wrong_by_number v copied config es ns c.args.told c.args.entry.now c.in-Some-next.number c.args.line old.judge c.next.new.self old.copy right
+    before now at (c.in-Some-next.ensures es right.judged) (λ same. false≢true (sym c.if-is_told.false ∙ c.is_told.ensures.1 same))
 
-pub returns-in-Err-Illegal-clause-course : goal.returns-in-Err-Illegal-clause-course
-returns-in-Err-Illegal-clause-course c = λ v copied es ns h before now at.
+pub returns-in-None-clause-course : goal.returns-in-None-clause-course
+returns-in-None-clause-course c = λ v copied es ns h before now at.
     let old = c.args.self.now in
     let config = c.args.self.now.config in
     let e = c.args.entry.now in
     let right = right_so v copied config es ns old.wrong old.judge old.copy c.in_default.is h in
     wrong_by_entry v copied config es ns c.args.told e c.args.line old.judge old.copy right before now at
-    (subst (λ (r : EntryRefusal). IsUnfitNext config es e r) c.in-Err-Illegal.field-0-is (c.in-Err-Illegal.ensures es right.judged))
+    (c.in-None.ensures es right.judged)
