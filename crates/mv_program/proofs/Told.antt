@@ -2,8 +2,9 @@
 use Rattle.std.proofs.Common.{◌≡◌, ℕ, true, false, List, [], Option, Some, None, refl, sym, ap, subst, ◌∙◌, append-nil}
 use Rattle.std.specs.Prelude.{IfSome, IsSomeAnd}
 use Rattle.mv_io.specs.Sink.{Appends}
+use Rattle.mv_entrytext.specs.HistoryText.{IsCut}
 use Rattle.mv_ending.specs.Note.{NotesAfter}
-use Rattle.mv_ending.specs.Written.{WroteOf}
+use Rattle.mv_ending.specs.Written.{AppendsFront, WroteOf}
 use Rattle.mv_replay.specs.Outcome.{ReportAfter}
 use Rattle.mv_replay.specs.Outcome as replays
 use Rattle.mv_replay.specs.Status as replay
@@ -24,6 +25,11 @@ told_for w c s input report0 report1 journal0 journal1 e told =
     subst (λ (k : Option Command). Told k s input report0 report1 journal0 journal1) (sym e) told
 
 -- ---- a command that writes both texts
+
+-- a journal that was cut is a front of it
+pub cut_is_front : (old new : Option (List ℕ)) (text : List ℕ) → IsCut old new text → AppendsFront old new text
+cut_is_front None new text cut = tt
+cut_is_front (Some xs) new text cut = cut
 
 -- texts that are told of the bytes that were read are told of the input
 of_input : (TellsTexts : List ℕ → List ℕ → List ℕ → Type 0) (input left : Option (List ℕ)) (items report journal : List ℕ)

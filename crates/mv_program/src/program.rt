@@ -56,8 +56,8 @@ fn judge<D: Source, R: Sink, N: Sink>(
     }
 }
 
-/// Runs a command: reads the input, and writes the report, and after it the journal where the command has one. What is
-/// written is made in memory before. Last it tells on the notes how it ended, where it did not end well.
+/// Runs a command: reads the input, and writes the report, and after it the journal where the command has one. All
+/// memory is taken before. Last it tells on the notes how it ended, where it did not end well.
 ///
 /// The commands are `spool I` for I from 1 to 8, `load N I` for N from 1 to 2000, `polled I S` for S from 0 to 9999, `script`, `replay`
 /// and `convert`. The words are those behind the program's name. Of the input no more than the command's limit and one byte is taken; `load` takes nothing of it.

@@ -50,7 +50,7 @@ fn texts_told<X: Threads + Wait + Sync, G: Gate + Sync>(
     requires runs { has_journal command ≡ true }
     requires runnable { IsRunnable command }
     requires short { length text.now ≤ deck_limit }
-    ensures told { IfOk result (λ texts. TellsTexts command text.now texts.report.items texts.journal.items) }
+    ensures told { IfOk result (λ texts. TellsTexts command text.now texts.report.items texts.journal) }
     ensures asked { IfOk result (λ _. Asks command text.now Status.Done) }
     ensures refused { IfErr result (λ status. IsRefused command text.now status) }
 {
@@ -67,20 +67,25 @@ fn texts_told<X: Threads + Wait + Sync, G: Gate + Sync>(
     Ok(texts)
 }
 
-// Writes the report, and then the journal.
-fn write_texts<R: Sink, K: Sink>(report: &mut R, journal: &mut K, texts: &Texts) -> Status
+// Writes the report, and then the journal. It takes no memory.
+#[tactic(auto, using(crate::proofs::Told::cut_is_front))]
+fn write_texts<R: Sink, K: Sink>(report: &mut R, journal: &mut K, texts: Texts) -> Status
     ensures written { Writes result (R.taken report.old) (R.taken report.new) (K.taken journal.old) (K.taken journal.new)
-        texts.now.report.items texts.now.journal.items }
+        texts.report.items texts.journal }
     ensures report_failed { result ≡ Status.ReportFailed → Rose (R.faults report.old) (R.faults report.new) }
     ensures journal_failed { result ≡ Status.JournalFailed → Rose (K.faults journal.old) (K.faults journal.new) }
     ensures no_journal { result ≡ Status.ReportFailed → journal.new ≡ journal.old }
     ensures report_count { R.faults report.old ≤ R.faults report.new }
     ensures journal_count { K.faults journal.old ≤ K.faults journal.new }
 {
-    if write_all(report, &texts.report).is_err() {
+    let Texts {
+        report: made,
+        journal: ready,
+    } = texts;
+    if write_all(report, &made).is_err() {
         return Status::ReportFailed;
     }
-    if write_all(journal, &texts.journal).is_err() {
+    if ready.write(journal).is_err() {
         return Status::JournalFailed;
     }
     Status::Done
@@ -116,7 +121,7 @@ pub(crate) fn run<X: Threads + Wait + Sync, D: Source, R: Sink, K: Sink, G: Gate
         Err(status) => return status,
     };
     match texts_told(rt, alloc, command, &text, gate) {
-        Ok(texts) => write_texts(report, journal, &texts),
+        Ok(texts) => write_texts(report, journal, texts),
         Err(status) => status,
     }
 }

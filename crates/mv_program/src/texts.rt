@@ -1,4 +1,5 @@
-//! Both texts of a run, made in memory. Clauses cite specs/Texts and the report's `Outcome.antt`.
+//! Both texts of a run: the report, made in memory, and the journal, ready to be written. Clauses cite specs/Texts and the report's
+//! `Outcome.antt`.
 
 ghost use Rattle.std.specs.Prelude.{◌≡◌, ◌≤◌, [], All, length, None, IfOk, IfErr};
 ghost use Rattle.mv_deck.specs.Deck.{deck_data, deck_of};
@@ -20,7 +21,7 @@ ghost use Rattle.mv_program.specs.Texts.{report_of, IsJournalOfRun, IsRunOfScrip
 
 use crate::status::Status;
 use mv_deck::{Deck, load_deck, read_deck};
-use mv_entrytext::write_history;
+use mv_entrytext::HistoryText;
 use mv_io::NoMemory;
 use mv_line::TextRefusal;
 use mv_polled::{RoundOrder, run_polled};
@@ -37,7 +38,7 @@ use std::thread::Threads;
 #[derive(Drop)]
 pub(crate) struct Texts {
     pub report: Vec<u8>,
-    pub journal: Vec<u8>,
+    pub journal: HistoryText,
 }
 
 /// Where the tasks of a deck are run.
@@ -92,11 +93,11 @@ fn texts_of_deck<X: Threads + Wait + Sync, G: Gate + Sync>(
     requires few { initiators ≤ most_initiators }
     requires sound { IsSound (deck_data deck.now) initiators }
     ensures report { IfOk result (λ texts. texts.report.items ≡ report (deck_data deck.now)) }
-    ensures journal { IfOk result (λ texts. IsJournalOfRun (deck_data deck.now) initiators texts.journal.items) }
+    ensures journal { IfOk result (λ texts. IsJournalOfRun (deck_data deck.now) initiators texts.journal) }
 {
     let run = run_of(rt, alloc, deck, initiators, way, gate)?;
     let report = write_report(alloc, deck, &run.ends, &run.lines, &run.volumes)?;
-    let journal = write_history(alloc, run.history)?;
+    let journal = HistoryText::open(alloc, run.history)?;
     Ok(Texts { report, journal })
 }
 
@@ -113,7 +114,7 @@ pub(crate) fn texts_of<X: Threads + Wait + Sync, G: Gate + Sync>(
     requires initiators { (1 ≤ initiators) × (initiators ≤ most_initiators) }
     ensures sound { IfOk result (λ _. first_fault input.now initiators ≡ None) }
     ensures report { IfOk result (λ texts. texts.report.items ≡ report_of input.now) }
-    ensures run { IfOk result (λ texts. IsJournalOfRun (deck_of input.now) initiators texts.journal.items) }
+    ensures run { IfOk result (λ texts. IsJournalOfRun (deck_of input.now) initiators texts.journal) }
     ensures refused { IfErr result (λ status. IsRefusedDeck initiators input.now status) }
 {
     let deck = match read_deck(alloc, input, initiators) {
@@ -151,12 +152,12 @@ pub(crate) fn texts_of_load<X: Threads + Wait + Sync, G: Gate + Sync>(
     requires jobs { AreJobs jobs }
     requires initiators { AreInitiators initiators }
     ensures report { IfOk result (λ texts. texts.report.items ≡ load_summary jobs initiators) }
-    ensures run { IfOk result (λ texts. IsJournalOfRun (deck_of (load_text jobs)) initiators texts.journal.items) }
+    ensures run { IfOk result (λ texts. IsJournalOfRun (deck_of (load_text jobs)) initiators texts.journal) }
 {
     let deck = deck_of_load(alloc, jobs, initiators)?;
     let run = run_deck(rt, alloc, &deck, initiators, gate)?;
     let report = write_summary(alloc, jobs, initiators, &run.ends, &run.volumes)?;
-    let journal = write_history(alloc, run.history)?;
+    let journal = HistoryText::open(alloc, run.history)?;
     Ok(Texts { report, journal })
 }
 
@@ -167,11 +168,11 @@ fn texts_of_run<X: Threads + Wait + Sync>(
     script: &Script,
 ) -> Result<Texts, NoMemory>
     requires { IsSoundScript (script_data script.now) }
-    ensures { IfOk result (λ texts. IsRunOfScript (script_data script.now) texts.report.items texts.journal.items) }
+    ensures { IfOk result (λ texts. IsRunOfScript (script_data script.now) texts.report.items texts.journal) }
 {
     let run = run_script(rt, alloc, script)?;
     let report = write_answers(alloc, &run)?;
-    let journal = write_history(alloc, run.history)?;
+    let journal = HistoryText::open(alloc, run.history)?;
     Ok(Texts { report, journal })
 }
 
@@ -183,7 +184,7 @@ pub(crate) fn texts_of_script<X: Threads + Wait + Sync>(
 ) -> Result<Texts, Status>
     requires short { length input.now ≤ deck_limit }
     ensures sound { IfOk result (λ _. scripts.first_fault input.now ≡ None) }
-    ensures run { IfOk result (λ texts. IsRunOfScript (script_of input.now) texts.report.items texts.journal.items) }
+    ensures run { IfOk result (λ texts. IsRunOfScript (script_of input.now) texts.report.items texts.journal) }
     ensures refused { IfErr result (λ status. IsRefusedScript input.now status) }
 {
     let script = match read_script(alloc, input) {

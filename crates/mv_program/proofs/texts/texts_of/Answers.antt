@@ -13,5 +13,5 @@ texts_of_deck-requires-clause-sound g c = λ κs live.
 
 pub returns-clause-run : goal.returns-clause-run
 returns-clause-run g c =
-    subst (λ (d : List JobData). IsJournalOfRun d c.args.initiators c.in_ok-texts.texts.journal.items)
+    subst (λ (d : List JobData). IsJournalOfRun d c.args.initiators c.in_ok-texts.texts.journal)
     c.in-Ok.ensures.deck.1 c.in_ok-texts.ensures.journal

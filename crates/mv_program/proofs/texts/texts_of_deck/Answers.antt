@@ -42,8 +42,8 @@ write_report-requires-clause-end_codes g c =
     (sound_ends (deck_data c.args.deck.now) c.args.initiators c.requires.sound)
 
 -- the history is legal, and short enough for its text
-pub write_history-requires : goal.write_history-requires
-write_history-requires g c =
+pub open-requires : goal.open-requires
+open-requires g c =
     let run = c.in_ok-run.ensures in
     record {
       whole = run.whole;
@@ -67,6 +67,6 @@ returns-clause-journal g c =
     let deck = deck_data c.args.deck.now in
     let run = c.in_ok-run.ensures in
     let es = c.in_ok-run.run'.history.coming in
-    journal_of_run deck c.args.initiators es c.in_ok-journal.journal.items c.requires.some c.requires.few c.requires.sound run.run
+    journal_of_run deck c.args.initiators es c.in_ok-journal.journal c.requires.some c.requires.few c.requires.sound run.run
     (omega (arith, run.few)) run.places c.in_ok-journal.ensures.typed
     (c.in_ok-journal.ensures.text ∙ ap (λ (x : Setup). journal_text x es) run.config)

@@ -50,8 +50,8 @@ write_summary-requires-clause-end_codes g c =
     (no_fault c.args.jobs c.args.initiators c.requires.jobs.0 c.requires.jobs.1 c.requires.initiators.1))))
 
 -- the history is legal, and short enough for its text
-pub write_history-requires : goal.write_history-requires
-write_history-requires g c =
+pub open-requires : goal.open-requires
+open-requires g c =
     let run = c.in_ok-run.ensures in
     record {
       whole = run.whole;
@@ -78,7 +78,7 @@ returns-clause-run g c =
     subst (λ (d : List JobData). IsSound d c.args.initiators) (sym c.in_ok-deck.ensures.deck)
     (sound (load_text c.args.jobs) c.args.initiators
     (no_fault c.args.jobs c.args.initiators c.requires.jobs.0 c.requires.jobs.1 c.requires.initiators.1)) in
-    subst (λ (d : List JobData). IsJournalOfRun d c.args.initiators c.in_ok-journal.journal.items) c.in_ok-deck.ensures.deck
-    (journal_of_run deck c.args.initiators es c.in_ok-journal.journal.items c.requires.initiators.0 c.requires.initiators.1 is_sound run.run
+    subst (λ (d : List JobData). IsJournalOfRun d c.args.initiators c.in_ok-journal.journal) c.in_ok-deck.ensures.deck
+    (journal_of_run deck c.args.initiators es c.in_ok-journal.journal c.requires.initiators.0 c.requires.initiators.1 is_sound run.run
     (omega (arith, run.few)) run.places c.in_ok-journal.ensures.typed
     (c.in_ok-journal.ensures.text ∙ ap (λ (x : Setup). journal_text x es) run.config))

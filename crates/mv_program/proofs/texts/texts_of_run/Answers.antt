@@ -8,8 +8,8 @@ use Rattle.mv_program.proofs.Runs.{run_of_script}
 use Rattle.mv_program.proofs.texts.texts_of_run.Goals as goal
 
 -- the history is legal, and short enough for its text
-pub write_history-requires : goal.write_history-requires
-write_history-requires g c =
+pub open-requires : goal.open-requires
+open-requires g c =
     let run = c.in_ok-run.ensures in
     record {
       whole = run.whole;
@@ -22,6 +22,6 @@ returns g c =
     let run = c.in_ok-run.ensures in
     let es = c.in_ok-run.run'.history.coming in
     run_of_script (script_data c.args.script.now) c.in_ok-run.run'.answers.items es c.in_ok-report.report.items
-    c.in_ok-journal.journal.items run.valid run.run run.answers (omega (arith, run.few)) run.places
+    c.in_ok-journal.journal run.valid run.run run.answers (omega (arith, run.few)) run.places
     c.in_ok-journal.ensures.typed c.in_ok-report.ensures.text c.in_ok-report.ensures.in_range run.events
     (c.in_ok-journal.ensures.text ∙ ap (λ (x : Setup). journal_text x es) run.config)

@@ -6,5 +6,5 @@ use Rattle.mv_program.proofs.texts.texts_of_script.Goals as goal
 
 pub returns-clause-run : goal.returns-clause-run
 returns-clause-run g c =
-    subst (λ (d : ScriptData). IsRunOfScript d c.in_ok-texts.texts.report.items c.in_ok-texts.texts.journal.items) c.in-Ok.ensures.script.1
+    subst (λ (d : ScriptData). IsRunOfScript d c.in_ok-texts.texts.report.items c.in_ok-texts.texts.journal) c.in-Ok.ensures.script.1
     c.in_ok-texts.ensures
