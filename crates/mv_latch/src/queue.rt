@@ -198,6 +198,10 @@ pub(crate) fn remove(list: &mut Vec<Request>, selection: Selection, wakes: &mut 
     ensures capacity { vec_capacity list.new ≡ vec_capacity list.old }
     ensures wakes_capacity { vec_capacity wakes.new ≡ vec_capacity wakes.old }
 {
+    // A purge asks this of each latch, of which few have requests.
+    if list.is_empty() {
+        return 0;
+    }
     let kept = granted_left(list, selection);
     take_out(list, selection);
     let newly = granted_behind(list, kept);
