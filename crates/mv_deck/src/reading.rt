@@ -351,9 +351,9 @@ impl<'a> Reading<'a> {
             × (self.new.version ≡ self.old.version) × (self.new.names ≡ self.old.names)) }
         ensures bound { OnOk result (length self.new.finished.items ≤ length self.old.finished.items + 1) }
     {
-        // Most jobs have one step, and a list that grows begins with room for four.
-        let next = Vec::with_capacity(self.alloc, 1)?;
-        let steps = std::mem::replace(&mut self.steps, next);
+        // A job's steps take no more room than they need, and the next one's begin in the room of the last.
+        let mut steps = Vec::with_capacity(self.alloc, self.steps.len())?;
+        steps.append(&mut self.steps)?;
         let after = std::mem::replace(&mut self.after, Vec::new(self.alloc));
         if let Some(name) = self.name.take() {
             self.finished.push(Job { name, after, steps })?;
