@@ -137,9 +137,10 @@ impl History {
         &self.config
     }
 
-    /// The callers' logs, in which what is still to come stands.
+    /// The callers' logs, in the order of their numbers, with what was given and what is still to come.
     pub fn logs(&self) -> &[Log]
-        ensures { All (StandsIn result.now) self.now.coming }
+        ensures logs { parts self.now.config.callers (self.now.past ++ self.now.coming) ≡ result.now }
+        ensures coming { All (StandsIn result.now) self.now.coming }
     {
         &self.logs
     }

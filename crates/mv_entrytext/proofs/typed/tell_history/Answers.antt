@@ -28,4 +28,4 @@ returns c =
     subst (λ (xs : List (List Entry)). All AreTyped xs)
     (take_all c.loop-log.log-index logs (omega (arith, c.loop-log-test.false))) c.loop-log.invariant in
     All-weaker (StandsIn logs) IsTyped
-    (λ e s. All-contains IsTyped s.0 e (All-contains AreTyped logs s.0 all s.1) s.2) c.args.history.now.coming c.logs-logs.ensures
+    (λ e s. All-contains IsTyped s.0 e (All-contains AreTyped logs s.0 all s.1) s.2) c.args.history.now.coming c.logs-logs.ensures.coming
