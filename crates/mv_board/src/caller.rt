@@ -30,6 +30,7 @@ pub(crate) struct Events {
 
 impl Events {
     /// One event more, and one less that is left.
+    #[inline(always)]
     pub(crate) fn append(&mut self, object: Object, place: u32, op: Op, reply: Reply)
         requires left { 0 < self.old.left }
         requires room { 0 < self.old.log.room }

@@ -81,6 +81,7 @@ fn extra(phase: Phase) -> u64
 
 /// What an operation makes of a word: the place before, the word after, and the reply. There is nothing where the object
 /// can't have this word before a further event of the run.
+#[inline(always)]
 pub(crate) fn change(object: Object, op: Op, word: u64) -> Option<(u32, u64, Reply)>
     requires { HasOpFields op }
     ensures { result ≡ changed object op word }

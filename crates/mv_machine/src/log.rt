@@ -87,7 +87,7 @@ impl OpenLog {
     }
 
     /// One more entry of the caller, for which there is room.
-    #[inline]
+    #[inline(always)]
     pub fn push(&mut self, object: Object, place: u32, op: Op, reply: Reply)
         requires room { 0 < self.old.room }
         ensures { self.new ≡ with_entry self.old

@@ -114,6 +114,7 @@ fn element_in(generation: u32, phase: u64, code: u32) -> Option<ElementState>
 
 /// One operation on the state of an object: the state after it, and the reply. There is none where the operation is
 /// of another kind of object. Who may make it is not asked.
+#[inline(always)]
 pub fn state_apply(op: Op, state: WordState) -> Option<(WordState, Reply)>
     requires op { HasOpFields op }
     requires fields { HasFields state }

@@ -160,6 +160,7 @@ impl State {
     /// and is the number of an obtain's request. There is no answer, and nothing changes, exactly where the operation
     /// is not admitted: there is no such caller or object, or the operation is not for that caller or not within its limits. It
     /// never waits, and needs no memory.
+    #[inline(always)]
     pub fn step(
         &mut self,
         config: &ValidConfig,
@@ -179,6 +180,7 @@ impl State {
 
     // A step at any place that has 19 bits. The place behind the last of them has not, so this is for those who do
     // not go on from there.
+    #[inline(always)]
     pub(crate) fn advance(
         &mut self,
         config: &ValidConfig,
@@ -206,6 +208,7 @@ impl State {
         }
     }
 
+    #[inline(always)]
     fn advance_ecb(
         &mut self,
         config: &ValidConfig,
