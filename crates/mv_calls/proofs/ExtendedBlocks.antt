@@ -17,8 +17,9 @@ use Rattle.mv_machine.specs.declared.entry.Reply.TheVariants as reply_of
 use Rattle.mv_machine.specs.Parts.{IsPossible}
 use Rattle.mv_machine.specs.Setup.{Setup, SetupExit, owner_of, is_exit_of, starts_from}
 use Rattle.mv_machine.specs.System.{System, admitted}
+use Rattle.mv_calls.specs.Exits.{StartsExit}
 use Rattle.mv_calls.specs.Keeping.{kept_of, extended_with}
-use Rattle.mv_calls.specs.Table.{StartsExit, is_on_exit, has_exit}
+use Rattle.mv_calls.specs.Table.{is_on_exit, has_exit}
 use Rattle.mv_calls.proofs.Folds.{known}
 
 -- the source of an exit is on it

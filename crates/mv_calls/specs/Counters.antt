@@ -18,8 +18,8 @@ numbering_of x = record { group = x.group; pending = reverse x.pending.items; la
 abbrev pub counted : List Counter → ℕ → Numbering
 counted xs k = slice_index_or (map numbering_of xs) k unnumbered
 
--- No more blocks are ever pending of a caller: those of the wakes of one event, and for each exit the seven by which its targets may be
--- more than its source
+-- No more blocks are ever pending of a caller: one that was posted, those of the wakes of one event, and for each exit the seven by which
+-- its targets may be more than its source
 abbrev pub pending_room : Setup → ℕ
 pending_room c = 1 + c.callers * c.posted_quota + 7 * length c.exits
 

@@ -1,5 +1,5 @@
--- Exits that replies name, and wakes, in what a task hears.
-use Rattle.std.specs.Prelude.{◌≡◌, suc, true, List}
+-- Blocks that exits start from, exits that replies name, and wakes, in what a task hears.
+use Rattle.std.specs.Prelude.{◌≡◌, ℕ, suc, true, List}
 use Rattle.std.specs.List.{AllByRecursion}
 use Rattle.mv_ecb.specs.declared.operation.EcbReply.TheVariants.{Woke}
 use Rattle.mv_machine.specs.declared.entry.Object.{Object}
@@ -9,6 +9,10 @@ use Rattle.mv_machine.specs.declared.entry.Reply.TheVariants as reply_of
 use Rattle.mv_machine.specs.Setup.{Setup, is_exit_of}
 use Rattle.mv_machine.specs.Waking.{AreFairWakes}
 use Rattle.mv_calls.specs.Program.{Heard}
+
+-- an exit starts from a block
+abbrev pub StartsExit : Setup → ℕ → Type 0
+StartsExit c e = (x : ℕ) × (is_exit_of c x e ≡ true)
 
 -- the exit that a block's reply names, if it names one, is the block's
 abbrev pub NamesOwnExit : Setup → Object → Reply → Type 0

@@ -1,10 +1,10 @@
 -- Tables of events: which tables a configuration can have.
 use Rattle.std.specs.Prelude.{◌≡◌, ℕ, ◌+◌, ◌==◌, ◌<◌, ◌≤◌, nat_lt, not, Bool, false, ◌&&◌, ◌||◌, List, ◌++◌, length, find, Option, Some, None}
-use Rattle.std.specs.Prelude.{true, option_map, if◌then◌else◌}
+use Rattle.std.specs.Prelude.{option_map, if◌then◌else◌}
 use Rattle.std.specs.List.{list_any, range_with_len}
 use Rattle.mv_machine.specs.Check.{is_within, or_else}
 use Rattle.mv_machine.specs.Limits.{ecbs_limit}
-use Rattle.mv_machine.specs.Setup.{Setup, SetupExit, owner_of, is_exit_of}
+use Rattle.mv_machine.specs.Setup.{Setup, SetupExit, owner_of}
 use Rattle.mv_calls.specs.declared.table.Table.{Table}
 use Rattle.mv_calls.specs.declared.table.TableRefusal.{TableRefusal}
 use Rattle.mv_calls.specs.declared.table.TableRefusal.TheVariants.{BadSize, BadRange, NotOwner, BadLatch, BadVolume, HasExit}
@@ -46,10 +46,6 @@ is_on_exit x e = (x.source == e) || list_any (λ target. target == e) x.targets
 -- whether a block is on any exit
 abbrev pub has_exit : Setup → ℕ → Bool
 has_exit c e = list_any (λ x. is_on_exit x e) c.exits
-
--- an exit starts from a block
-abbrev pub StartsExit : Setup → ℕ → Type 0
-StartsExit c e = (x : ℕ) × (is_exit_of c x e ≡ true)
 
 -- the lowest block of a table that is not its owner's
 abbrev pub first_of_others : Setup → Table → Option ℕ

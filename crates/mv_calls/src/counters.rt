@@ -32,7 +32,8 @@ fn new_counters(alloc: Global, callers: u32, room: usize) -> Result<Vec<Counter>
 }
 
 impl CallCounters {
-    /// Before the first entry. All memory is taken here.
+    /// Before the first entry. All memory is taken here: of each caller 4 bytes for each block that may be pending, of which there are
+    /// 1 + callers × posted quota + 7 × exits.
     ///
     /// # Errors
     ///

@@ -18,7 +18,7 @@ use Rattle.mv_calls.specs.Keeping.{Kept, kept_of, nothing_kept}
 use Rattle.mv_calls.specs.Program.{Program, Done, Heard, Says, left, asks, heard, entries, on_ecb, unless_refused}
 use Rattle.mv_calls.specs.Refusal.{Refusal}
 use Rattle.mv_calls.specs.Refusal as refusal
-use Rattle.mv_calls.specs.Table.{StartsExit}
+use Rattle.mv_calls.specs.Exits.{StartsExit}
 use Rattle.mv_calls.specs.Waits.{wait, wait_refusal, is_others_block, armed, settled, enough, arm_all, settle_all}
 use Rattle.mv_calls.proofs.Making.{kept_caller}
 use Rattle.mv_wait.specs.Answers.{slots_of, wait_refused}

@@ -16,7 +16,7 @@ use Rattle.mv_calls.specs.Program.{Program}
 use Rattle.mv_calls.specs.Refusal.{Refusal}
 use Rattle.mv_calls.specs.Rest.{no_waits, waits_from}
 use Rattle.mv_calls.specs.Waits.{arm_all, settle_all, complete_count, wait_refusal, AreDistinct}
-use Rattle.mv_calls.specs.Table.{StartsExit}
+use Rattle.mv_calls.specs.Exits.{StartsExit}
 use Rattle.mv_wait.specs.declared.waiting.WaitRefusal.{WaitRefusal}
 use Rattle.mv_wait.specs.declared.waiting.WaitRefusal.TheVariants as refusal
 use Rattle.mv_wait.specs.declared.waiting.WaitSlot.{WaitSlot}

@@ -6,7 +6,7 @@ ghost use Rattle.mv_machine.specs.Setup.{owner_of};
 ghost use Rattle.mv_board.specs.Faces.{IsOf};
 ghost use Rattle.mv_calls.specs.Keeping.{kept_of};
 ghost use Rattle.mv_calls.specs.Rest.{IsAtRest};
-ghost use Rattle.mv_calls.specs.Table.{StartsExit};
+ghost use Rattle.mv_calls.specs.Exits.{StartsExit};
 ghost use Rattle.mv_calls.specs.Waits.{wait};
 ghost use Rattle.mv_wait.specs.OneBlock.{WaitedFor};
 ghost use Rattle.mv_wait.specs.Run.{IsServed};

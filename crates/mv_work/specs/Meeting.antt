@@ -5,7 +5,7 @@ use Rattle.mv_board.specs.Faces.{CallerFace}
 use Rattle.mv_machine.specs.Limits.{highest_generation}
 use Rattle.mv_machine.specs.Setup.{Setup, element_count, owner_of}
 use Rattle.mv_calls.specs.Program.{Done, Wrong}
-use Rattle.mv_calls.specs.Table.{StartsExit}
+use Rattle.mv_calls.specs.Exits.{StartsExit}
 use Rattle.mv_work.specs.declared.lost.Lost.{Lost}
 use Rattle.mv_work.specs.declared.need.Got.{Got}
 use Rattle.mv_work.specs.declared.need.Got.TheVariants as got
