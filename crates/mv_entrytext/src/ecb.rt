@@ -1,7 +1,7 @@
 //! Operations on event control blocks and their replies, as text: `specs/EcbText.antt`.
 
 ghost use Rattle.std.specs.Prelude.{◌≡◌, ◌≤◌, ◌+◌, ◌++◌, vec_len, vec_capacity};
-ghost use Rattle.mv_entrytext.specs.EcbText.{ecb_op_text, ecb_reply_text, IsEcbReplyTyped, ecb_op, ecb_reply};
+ghost use Rattle.mv_entrytext.specs.EcbText.{ecb_op_text, ecb_reply_text, ecb_op, ecb_reply};
 ghost use Rattle.mv_entrytext.specs.Reading.{seen};
 ghost use Rattle.mv_entrytext.specs.Widths.{op_width, reply_width};
 
@@ -30,7 +30,6 @@ pub(crate) fn put_ecb_op(out: &mut Vec<u8>, op: EcbOp)
 pub(crate) fn put_ecb_reply(out: &mut Vec<u8>, reply: EcbReply)
     requires room { vec_len out.old + reply_width ≤ vec_capacity out.old }
     ensures text { out.new.items ≡ out.old.items ++ ecb_reply_text reply }
-    ensures typed { IsEcbReplyTyped reply }
     ensures within { vec_len out.new ≤ vec_len out.old + reply_width }
     ensures capacity { vec_capacity out.new ≡ vec_capacity out.old }
 {

@@ -1,8 +1,8 @@
 //! Operations on pause elements and their replies, as text: `specs/ElementText.antt`.
 
 ghost use Rattle.std.specs.Prelude.{◌≡◌, ◌≤◌, ◌+◌, ◌++◌, vec_len, vec_capacity};
-ghost use Rattle.mv_entrytext.specs.ElementText.{phase_text, element_op_text, element_reply_text, IsElementOpTyped, phase, highest_kept};
-ghost use Rattle.mv_entrytext.specs.ElementText.{state_in, element_state, element_op, telling_reply, element_reply};
+ghost use Rattle.mv_entrytext.specs.ElementText.{phase_text, element_op_text, element_reply_text, phase, highest_kept, state_in};
+ghost use Rattle.mv_entrytext.specs.ElementText.{element_state, element_op, telling_reply, element_reply};
 ghost use Rattle.mv_entrytext.specs.Reading.{seen};
 ghost use Rattle.mv_entrytext.specs.Widths.{op_width, phase_width, reply_width};
 
@@ -44,7 +44,6 @@ fn put_state(out: &mut Vec<u8>, state: ElementState)
 pub(crate) fn put_element_op(out: &mut Vec<u8>, op: ElementOp)
     requires room { vec_len out.old + op_width ≤ vec_capacity out.old }
     ensures text { out.new.items ≡ out.old.items ++ element_op_text op }
-    ensures typed { IsElementOpTyped op }
     ensures within { vec_len out.new ≤ vec_len out.old + op_width }
     ensures capacity { vec_capacity out.new ≡ vec_capacity out.old }
 {

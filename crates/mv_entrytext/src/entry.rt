@@ -1,7 +1,6 @@
 //! Entries as text: `specs/EntryText.antt`.
 
 ghost use Rattle.std.specs.Prelude.{◌≡◌, ◌≤◌, ◌+◌, ◌++◌, codes, decimal, vec_len, vec_capacity};
-ghost use Rattle.mv_entrytext.specs.Ranges.{highest_u32};
 ghost use Rattle.mv_entrytext.specs.Words.{◌<+>◌};
 ghost use Rattle.mv_entrytext.specs.EcbText.{ecb_op, ecb_reply};
 ghost use Rattle.mv_entrytext.specs.ElementText.{element_op, element_reply};
@@ -9,8 +8,8 @@ ghost use Rattle.mv_entrytext.specs.VolumeText.{volume_op, volume_reply};
 ghost use Rattle.mv_entrytext.specs.LatchText.{latch_op, latch_reply};
 ghost use Rattle.mv_entrytext.specs.Reading.{seen};
 ghost use Rattle.mv_entrytext.specs.Widths.{caller_width, entry_width, event_width, front_width, object_width, op_width, reply_width};
-ghost use Rattle.mv_entrytext.specs.EntryText.{caller_text, caller_read, object_text, op_text, reply_text, entry_text, IsObjectTyped};
-ghost use Rattle.mv_entrytext.specs.EntryText.{IsOpTyped, IsReplyTyped, IsTyped, object_read, event, entry_on, entry_read};
+ghost use Rattle.mv_entrytext.specs.EntryText.{caller_text, caller_read, object_text, op_text, reply_text, entry_text, object_read};
+ghost use Rattle.mv_entrytext.specs.EntryText.{event, entry_on, entry_read};
 
 use crate::ecb::{put_ecb_op, put_ecb_reply, read_ecb_op, read_ecb_reply};
 use crate::element::{put_element_op, put_element_reply, read_element_op, read_element_reply};
@@ -28,7 +27,6 @@ use mv_machine::{Entry, HIGHEST_PLACE, Object, Op, Reply, VolumeOp, VolumeReply}
 fn put_object(out: &mut Vec<u8>, object: Object)
     requires room { vec_len out.old + object_width ≤ vec_capacity out.old }
     ensures text { out.new.items ≡ out.old.items ++ object_text object }
-    ensures typed { IsObjectTyped object }
     ensures within { vec_len out.new ≤ vec_len out.old + object_width }
     ensures capacity { vec_capacity out.new ≡ vec_capacity out.old }
 {
@@ -44,7 +42,6 @@ fn put_object(out: &mut Vec<u8>, object: Object)
 fn put_op(out: &mut Vec<u8>, op: Op)
     requires room { vec_len out.old + op_width ≤ vec_capacity out.old }
     ensures text { out.new.items ≡ out.old.items ++ op_text op }
-    ensures typed { IsOpTyped op }
     ensures within { vec_len out.new ≤ vec_len out.old + op_width }
     ensures capacity { vec_capacity out.new ≡ vec_capacity out.old }
 {
@@ -60,7 +57,6 @@ fn put_op(out: &mut Vec<u8>, op: Op)
 fn put_reply(out: &mut Vec<u8>, reply: Reply)
     requires room { vec_len out.old + reply_width ≤ vec_capacity out.old }
     ensures text { out.new.items ≡ out.old.items ++ reply_text reply }
-    ensures typed { IsReplyTyped reply }
     ensures within { vec_len out.new ≤ vec_len out.old + reply_width }
     ensures capacity { vec_capacity out.new ≡ vec_capacity out.old }
 {
@@ -77,7 +73,6 @@ fn put_reply(out: &mut Vec<u8>, reply: Reply)
 fn put_caller(out: &mut Vec<u8>, caller: u32, call: Option<u32>)
     requires room { vec_len out.old + caller_width ≤ vec_capacity out.old }
     ensures text { out.new.items ≡ out.old.items ++ caller_text caller call }
-    ensures typed { caller ≤ highest_u32 }
     ensures within { vec_len out.new ≤ vec_len out.old + caller_width }
     ensures capacity { vec_capacity out.new ≡ vec_capacity out.old }
 {
@@ -94,7 +89,6 @@ fn put_front(out: &mut Vec<u8>, call: Option<u32>, entry: &Entry)
     requires room { vec_len out.old + front_width ≤ vec_capacity out.old }
     ensures text { out.new.items
         ≡ out.old.items ++ (caller_text entry.now.caller call <+> object_text entry.now.object <+> decimal entry.now.place) }
-    ensures typed { (entry.now.caller ≤ highest_u32) × IsObjectTyped entry.now.object }
     ensures within { vec_len out.new ≤ vec_len out.old + front_width }
     ensures capacity { vec_capacity out.new ≡ vec_capacity out.old }
 {
@@ -109,7 +103,6 @@ fn put_front(out: &mut Vec<u8>, call: Option<u32>, entry: &Entry)
 fn put_event(out: &mut Vec<u8>, entry: &Entry)
     requires room { vec_len out.old + event_width ≤ vec_capacity out.old }
     ensures text { out.new.items ≡ out.old.items ++ (op_text entry.now.op <+> codes "=" <+> reply_text entry.now.reply) }
-    ensures typed { IsOpTyped entry.now.op × IsReplyTyped entry.now.reply }
     ensures within { vec_len out.new ≤ vec_len out.old + event_width }
     ensures capacity { vec_capacity out.new ≡ vec_capacity out.old }
 {
@@ -124,7 +117,6 @@ fn put_event(out: &mut Vec<u8>, entry: &Entry)
 pub(crate) fn put_entry(out: &mut Vec<u8>, call: Option<u32>, entry: &Entry)
     requires room { vec_len out.old + entry_width ≤ vec_capacity out.old }
     ensures text { out.new.items ≡ out.old.items ++ entry_text call entry.now }
-    ensures typed { IsTyped entry.now }
     ensures within { vec_len out.new ≤ vec_len out.old + entry_width }
     ensures capacity { vec_capacity out.new ≡ vec_capacity out.old }
 {

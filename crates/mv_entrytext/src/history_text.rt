@@ -1,12 +1,14 @@
 //! The journal of a run, made and written piece by piece: `specs/HistoryText.antt`.
 
-ghost use Rattle.std.specs.Prelude.{◌≡◌, ◌≤◌, ◌<◌, ◌+◌, ◌^◌, [], ℕ, List, length, All, IfOk, OnOk, OnErr, vec_len, vec_capacity};
+ghost use Rattle.std.specs.Prelude.{◌≡◌, ◌≤◌, ◌+◌, [], ℕ, List, length, All, IfOk, OnOk, OnErr, vec_len, vec_capacity};
 ghost use Rattle.std.specs.declared.option.Option.{Option as AnyOption};
 ghost use Rattle.mv_io.specs.Fault.{Rose};
 ghost use Rattle.mv_io.specs.Sink.{Appends};
 ghost use Rattle.mv_machine.specs.Legal.{Legal};
+ghost use Rattle.mv_machine.specs.Limits.{events_limit};
 ghost use Rattle.mv_entrytext.specs.EntryText.{IsTyped};
-ghost use Rattle.mv_entrytext.specs.HistoryText.{piece_size, IsPoured, IsCut};
+ghost use Rattle.mv_entrytext.specs.Fault.{HasJournal};
+ghost use Rattle.mv_entrytext.specs.HistoryText.{piece_size, IsPartlyWritten, IsFrontWritten};
 ghost use Rattle.mv_entrytext.specs.Journal.{journal_text};
 ghost use Rattle.mv_entrytext.specs.Widths.{line_width};
 
@@ -47,10 +49,10 @@ impl Model for HistoryText {
 
 // Writes the piece, and begins the next one in its place.
 fn write_piece<K: Sink>(journal: &mut K, piece: &mut Vec<u8>) -> Result<(), Failed>
-    ensures poured { (first : AnyOption (List ℕ)) (text : List ℕ) → IsPoured first (K.taken journal.old) piece.old.items text
-        → OnOk result (IsPoured first (K.taken journal.new) piece.new.items text) }
-    ensures cut { (first : AnyOption (List ℕ)) (text : List ℕ) → IsPoured first (K.taken journal.old) piece.old.items text
-        → OnErr result (IsCut first (K.taken journal.new) text) }
+    ensures written { (first : AnyOption (List ℕ)) (text : List ℕ) → IsPartlyWritten first (K.taken journal.old) piece.old.items text
+        → OnOk result (IsPartlyWritten first (K.taken journal.new) piece.new.items text) }
+    ensures cut { (first : AnyOption (List ℕ)) (text : List ℕ) → IsPartlyWritten first (K.taken journal.old) piece.old.items text
+        → OnErr result (IsFrontWritten first (K.taken journal.new) text) }
     ensures empty { OnOk result (piece.new.items ≡ []) }
     ensures capacity { vec_capacity piece.new ≡ vec_capacity piece.old }
     ensures failed { OnErr result (Rose (K.faults journal.old) (K.faults journal.new)) }
@@ -69,10 +71,10 @@ fn write_piece<K: Sink>(journal: &mut K, piece: &mut Vec<u8>) -> Result<(), Fail
 #[inline(always)]
 fn make_room<K: Sink>(journal: &mut K, piece: &mut Vec<u8>) -> Result<(), Failed>
     requires size { piece_size ≤ vec_capacity piece.old }
-    ensures poured { (first : AnyOption (List ℕ)) (text : List ℕ) → IsPoured first (K.taken journal.old) piece.old.items text
-        → OnOk result (IsPoured first (K.taken journal.new) piece.new.items text) }
-    ensures cut { (first : AnyOption (List ℕ)) (text : List ℕ) → IsPoured first (K.taken journal.old) piece.old.items text
-        → OnErr result (IsCut first (K.taken journal.new) text) }
+    ensures written { (first : AnyOption (List ℕ)) (text : List ℕ) → IsPartlyWritten first (K.taken journal.old) piece.old.items text
+        → OnOk result (IsPartlyWritten first (K.taken journal.new) piece.new.items text) }
+    ensures cut { (first : AnyOption (List ℕ)) (text : List ℕ) → IsPartlyWritten first (K.taken journal.old) piece.old.items text
+        → OnErr result (IsFrontWritten first (K.taken journal.new) text) }
     ensures room { OnOk result (vec_len piece.new + line_width ≤ vec_capacity piece.new) }
     ensures capacity { vec_capacity piece.new ≡ vec_capacity piece.old }
     ensures failed { OnErr result (Rose (K.faults journal.old) (K.faults journal.new)) }
@@ -85,7 +87,8 @@ fn make_room<K: Sink>(journal: &mut K, piece: &mut Vec<u8>) -> Result<(), Failed
 }
 
 impl HistoryText {
-    /// All memory is taken here: that of a piece and of the head, and of the counters of calls.
+    /// All memory is taken here: that of a piece and of the head, and of the counters of calls. It takes time linear in the history's
+    /// length: each entry is looked at once, for what its types say.
     ///
     /// The history is legal, so each operation and reply is of its object's kind, with numbers in the ranges of `docs/FORMATS.md`;
     /// what a number's type says already needs no condition, and is told.
@@ -96,10 +99,11 @@ impl HistoryText {
     pub fn open(alloc: Global, history: History) -> Result<HistoryText, NoMemory>
         requires whole { history.past ≡ [] }
         requires legal { Legal history.config history.coming }
-        requires few { length history.coming < 2 ^ 32 }
+        requires few { length history.coming ≤ events_limit }
         ensures text { IfOk result (λ text. text ≡ journal_text history.config history.coming) }
-        // So these entries have a text that reads back.
         ensures typed { OnOk result (All IsTyped history.coming) }
+        // So these entries have a text that reads back.
+        ensures readable { OnOk result (HasJournal history.config history.coming) }
     {
         let mut piece = Vec::new(alloc);
         push_head(&mut piece, Version::Two, history.config().config())?;
@@ -118,9 +122,10 @@ impl HistoryText {
     /// # Errors
     ///
     /// `Failed` at the sink's first failure, which is not tried again.
+    #[inline(never)]
     pub fn write<K: Sink>(self, journal: &mut K) -> Result<(), Failed>
         ensures whole { OnOk result (Appends (K.taken journal.old) (K.taken journal.new) self) }
-        ensures cut { OnErr result (IsCut (K.taken journal.old) (K.taken journal.new) self) }
+        ensures cut { OnErr result (IsFrontWritten (K.taken journal.old) (K.taken journal.new) self) }
         ensures failed { OnErr result (Rose (K.faults journal.old) (K.faults journal.new)) }
         ensures count { K.faults journal.old ≤ K.faults journal.new }
     {

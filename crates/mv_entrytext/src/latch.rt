@@ -1,9 +1,8 @@
 //! Operations on the latch set and their replies, as text: `specs/LatchText.antt`.
 
 ghost use Rattle.std.specs.Prelude.{◌≡◌, ◌≤◌, ◌+◌, ◌++◌, vec_len, vec_capacity};
-ghost use Rattle.mv_entrytext.specs.LatchText.{mode_text, form_text, condition_text, latch_op_text, latch_reply_text, IsFormTyped};
-ghost use Rattle.mv_entrytext.specs.LatchText.{IsLatchOpTyped, IsLatchReplyTyped, mode_read, form_read, condition, obtain_rest, obtain};
-ghost use Rattle.mv_entrytext.specs.LatchText.{release, latch_op, latch_reply};
+ghost use Rattle.mv_entrytext.specs.LatchText.{mode_text, form_text, condition_text, latch_op_text, latch_reply_text, mode_read};
+ghost use Rattle.mv_entrytext.specs.LatchText.{form_read, condition, obtain_rest, obtain, release, latch_op, latch_reply};
 ghost use Rattle.mv_entrytext.specs.Reading.{seen};
 ghost use Rattle.mv_entrytext.specs.Widths.{object_width, op_width, reply_width};
 
@@ -28,7 +27,6 @@ fn put_mode(out: &mut Vec<u8>, mode: Mode)
 fn put_form(out: &mut Vec<u8>, form: LatchForm)
     requires room { vec_len out.old + object_width ≤ vec_capacity out.old }
     ensures text { out.new.items ≡ out.old.items ++ form_text form }
-    ensures typed { IsFormTyped form }
     ensures within { vec_len out.new ≤ vec_len out.old + object_width }
     ensures capacity { vec_capacity out.new ≡ vec_capacity out.old }
 {
@@ -57,7 +55,6 @@ fn put_condition(out: &mut Vec<u8>, conditional: bool)
 fn put_obtain(out: &mut Vec<u8>, latch: u32, requestor: u64, mode: Mode, form: LatchForm)
     requires room { vec_len out.old + op_width ≤ vec_capacity out.old }
     ensures text { out.new.items ≡ out.old.items ++ latch_op_text (LatchOp.Obtain latch requestor mode form) }
-    ensures typed { IsFormTyped form }
     ensures within { vec_len out.new ≤ vec_len out.old + op_width }
     ensures capacity { vec_capacity out.new ≡ vec_capacity out.old }
 {
@@ -73,7 +70,6 @@ fn put_obtain(out: &mut Vec<u8>, latch: u32, requestor: u64, mode: Mode, form: L
 pub(crate) fn put_latch_op(out: &mut Vec<u8>, op: LatchOp)
     requires room { vec_len out.old + op_width ≤ vec_capacity out.old }
     ensures text { out.new.items ≡ out.old.items ++ latch_op_text op }
-    ensures typed { IsLatchOpTyped op }
     ensures within { vec_len out.new ≤ vec_len out.old + op_width }
     ensures capacity { vec_capacity out.new ≡ vec_capacity out.old }
 {
@@ -102,7 +98,6 @@ pub(crate) fn put_latch_op(out: &mut Vec<u8>, op: LatchOp)
 pub(crate) fn put_latch_reply(out: &mut Vec<u8>, reply: LatchReply)
     requires room { vec_len out.old + reply_width ≤ vec_capacity out.old }
     ensures text { out.new.items ≡ out.old.items ++ latch_reply_text reply }
-    ensures typed { IsLatchReplyTyped reply }
     ensures within { vec_len out.new ≤ vec_len out.old + reply_width }
     ensures capacity { vec_capacity out.new ≡ vec_capacity out.old }
 {

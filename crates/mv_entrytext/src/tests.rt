@@ -5,7 +5,6 @@ ghost use Rattle.mv_machine.specs.Limits.{highest_place};
 ghost use Rattle.mv_entrytext.specs.Fault.{HasJournal};
 
 use super::*;
-use mv_calls::number_calls;
 use mv_ecb::{EcbOp, EcbReply};
 use mv_io::NoMemory;
 use mv_machine::{Entry, HIGHEST_PLACE, Object, Op, Reply, replay};
@@ -191,12 +190,7 @@ fn converted(rt: &impl Abort, alloc: Global, journal: &Journal) -> Result<Vec<u8
     assert!(rt; are_low(&journal.entries));
     assert!(rt; journal.entries.len() < 4_294_967_296);
     replay(alloc, &journal.config, &journal.entries)?;
-    let calls = number_calls(alloc, &journal.config, &journal.entries)?;
-    let mut writer = JournalWriter::open(alloc, Version::Two, &journal.config)?;
-    for (i, entry) in journal.entries.iter().enumerate() {
-        writer.push(calls.get(i).copied(), entry)?;
-    }
-    Ok(writer.end(journal.entries.len() as u64)?)
+    Ok(write_journal(alloc, &journal.config, &journal.entries)?)
 }
 
 #[test]

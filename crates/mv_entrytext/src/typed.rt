@@ -1,4 +1,5 @@
-//! What the types of an entry's numbers say: `specs/EntryText.antt`. Nothing here does any work; it only tells.
+//! What the types of an entry's numbers say: `specs/EntryText.antt`. Nothing here changes anything, or has a result; it only tells.
+//! `tell_history` is one pass over the logs, of which a compiler leaves nothing where it sees that.
 
 ghost use Rattle.std.specs.Prelude.{◌≤◌, All};
 ghost use Rattle.mv_entrytext.specs.EcbText.{IsEcbReplyTyped};
@@ -156,8 +157,9 @@ fn tell_reply(reply: Reply)
     }
 }
 
+/// Each number of an entry is one of its type.
 #[inline(always)]
-fn tell_entry(entry: &Entry)
+pub(crate) fn tell_entry(entry: &Entry)
     ensures { IsTyped entry.now }
 {
     tell_u32(entry.caller);

@@ -1,8 +1,7 @@
 //! Operations on volumes and their replies, as text: `specs/VolumeText.antt`.
 
 ghost use Rattle.std.specs.Prelude.{◌≡◌, ◌≤◌, ◌+◌, ◌++◌, vec_len, vec_capacity};
-ghost use Rattle.mv_entrytext.specs.VolumeText.{volume_op_text, volume_reply_text, IsVolumeOpTyped, IsVolumeReplyTyped, volume_op};
-ghost use Rattle.mv_entrytext.specs.VolumeText.{volume_reply};
+ghost use Rattle.mv_entrytext.specs.VolumeText.{volume_op_text, volume_reply_text, volume_op, volume_reply};
 ghost use Rattle.mv_entrytext.specs.Reading.{seen};
 ghost use Rattle.mv_entrytext.specs.Widths.{op_width, reply_width};
 
@@ -14,7 +13,6 @@ use mv_machine::{VolumeOp, VolumeReply};
 pub(crate) fn put_volume_op(out: &mut Vec<u8>, op: VolumeOp)
     requires room { vec_len out.old + op_width ≤ vec_capacity out.old }
     ensures text { out.new.items ≡ out.old.items ++ volume_op_text op }
-    ensures typed { IsVolumeOpTyped op }
     ensures within { vec_len out.new ≤ vec_len out.old + op_width }
     ensures capacity { vec_capacity out.new ≡ vec_capacity out.old }
 {
@@ -28,7 +26,6 @@ pub(crate) fn put_volume_op(out: &mut Vec<u8>, op: VolumeOp)
 pub(crate) fn put_volume_reply(out: &mut Vec<u8>, reply: VolumeReply)
     requires room { vec_len out.old + reply_width ≤ vec_capacity out.old }
     ensures text { out.new.items ≡ out.old.items ++ volume_reply_text reply }
-    ensures typed { IsVolumeReplyTyped reply }
     ensures within { vec_len out.new ≤ vec_len out.old + reply_width }
     ensures capacity { vec_capacity out.new ≡ vec_capacity out.old }
 {

@@ -1,21 +1,25 @@
 //! The lines of a journal, and its text made in memory: `specs/Journal.antt`.
 
-ghost use Rattle.std.specs.Prelude.{◌≡◌, ◌≤◌, ◌<◌, ◌+◌, ◌++◌, ◌∷◌, [], List, length, All, map, OnOk, IfOk};
+ghost use Rattle.std.specs.Prelude.{◌≡◌, ◌≤◌, ◌<◌, ◌+◌, ◌^◌, ◌++◌, ◌∷◌, [], List, length, All, map, OnOk, IfOk};
 ghost use Rattle.std.specs.Prelude.{codes, decimal, vec_len, vec_capacity};
 ghost use Rattle.std.specs.List.{flat_map};
 ghost use Rattle.mv_machine.specs.Config.{setup_of, exit_of};
+ghost use Rattle.mv_machine.specs.Legal.{Legal};
+ghost use Rattle.mv_machine.specs.Limits.{highest_place};
 ghost use Rattle.mv_machine.specs.Setup.{Setup};
 ghost use Rattle.mv_entrytext.specs.declared.version.Version.{Version as AnyVersion};
 ghost use Rattle.mv_entrytext.specs.EntryText.{IsInRange, IsTyped};
 ghost use Rattle.mv_entrytext.specs.Journal.{JournalOf, Callers, Elements, Volumes, Latches, Quota, Budget, Owner, ExitTo};
-ghost use Rattle.mv_entrytext.specs.Journal.{Line, EntryOf, End, line, counts_text, lists_text, head_text, text1};
+ghost use Rattle.mv_entrytext.specs.Journal.{Line, EntryOf, End, line, counts_text, lists_text, head_text, text1, journal_text};
 ghost use Rattle.mv_entrytext.specs.Widths.{line_width, number_width};
 ghost use Rattle.mv_entrytext.specs.Writer.{IsWrittenTo};
 
 use crate::entry::put_entry;
 use crate::number::{push_number, push_pair, push_word};
 use crate::reserved::{LINE_WIDTH, put_number, put_wide, put_word};
+use crate::typed::tell_entry;
 use crate::version::Version;
+use mv_calls::Judge;
 use mv_io::NoMemory;
 use mv_machine::{Config, Entry, Exit, ValidConfig};
 use std::alloc::Global;
@@ -175,13 +179,13 @@ pub(crate) fn push_head(
     push_word(out, b"EVENTS\n")
 }
 
-/// The line of an entry, where there is room for it.
-#[inline(always)]
+/// The line of an entry, where there is room for it. It is called and not inlined, so that what it calls is inlined into it alone, and
+/// the text's length stays in a register.
+#[inline(never)]
 #[tactic(auto, unfolding(crate::specs::Journal::line))]
 pub(crate) fn put_entry_line(out: &mut Vec<u8>, call: Option<u32>, entry: &Entry)
     requires room { vec_len out.old + line_width ≤ vec_capacity out.old }
     ensures text { out.new.items ≡ out.old.items ++ line (EntryOf call entry.now) }
-    ensures typed { IsTyped entry.now }
     ensures capacity { vec_capacity out.new ≡ vec_capacity out.old }
 {
     let mut text = take_out(out);
@@ -206,6 +210,7 @@ fn push_entry_line(out: &mut Vec<u8>, call: Option<u32>, entry: &Entry) -> Resul
 {
     out.reserve(LINE_WIDTH)?;
     put_entry_line(out, call, entry);
+    tell_entry(entry);
     Ok(())
 }
 
@@ -269,6 +274,35 @@ pub fn write_old_journal(
     let mut writer = JournalWriter::open(alloc, Version::One, config)?;
     for entry in entries {
         writer.push(None, entry)?;
+    }
+    let text = writer.end(entries.len() as u64)?;
+    Ok(text)
+}
+
+/// The journal of a configuration and a legal list of entries in version 2 of the text, with the call numbers that the machine's rules
+/// give. One pass, in time linear in the length; a caller with a history, and no list, has `HistoryText`.
+///
+/// # Errors
+///
+/// `NoMemory` where there is no room for the text, or for the machine's state and the counters of calls.
+pub fn write_journal(
+    alloc: Global,
+    config: &ValidConfig,
+    entries: &[Entry],
+) -> Result<Vec<u8>, NoMemory>
+    requires legal { Legal config.now entries.now }
+    requires few { length entries.now < 2 ^ 32 }
+    requires places { All (λ e. e.place ≤ highest_place) entries.now }
+    ensures text { IfOk result (λ text. text.items ≡ journal_text config.now entries.now) }
+    ensures typed { OnOk result (All IsTyped entries.now) }
+{
+    let mut judge = Judge::open(alloc, config)?;
+    let mut writer = JournalWriter::open(alloc, Version::Two, config)?;
+    for entry in entries {
+        let Some(call) = judge.next(config, entry) else {
+            unreachable!()
+        };
+        writer.push(Some(call), entry)?;
     }
     let text = writer.end(entries.len() as u64)?;
     Ok(text)

@@ -2,7 +2,7 @@
 use Rattle.std.proofs.Common.{◌≡◌, ℕ, true, false, List, [], Option, Some, None, refl, sym, ap, subst, ◌∙◌, append-nil}
 use Rattle.std.specs.Prelude.{IfSome, IsSomeAnd}
 use Rattle.mv_io.specs.Sink.{Appends}
-use Rattle.mv_entrytext.specs.HistoryText.{IsCut}
+use Rattle.mv_entrytext.specs.HistoryText.{IsFrontWritten}
 use Rattle.mv_ending.specs.Note.{NotesAfter}
 use Rattle.mv_ending.specs.Written.{AppendsFront, WroteOf}
 use Rattle.mv_replay.specs.Outcome.{ReportAfter}
@@ -27,7 +27,7 @@ told_for w c s input report0 report1 journal0 journal1 e told =
 -- ---- a command that writes both texts
 
 -- a journal that was cut is a front of it
-pub cut_is_front : (old new : Option (List ℕ)) (text : List ℕ) → IsCut old new text → AppendsFront old new text
+pub cut_is_front : (old new : Option (List ℕ)) (text : List ℕ) → IsFrontWritten old new text → AppendsFront old new text
 cut_is_front None new text cut = tt
 cut_is_front (Some xs) new text cut = cut
 

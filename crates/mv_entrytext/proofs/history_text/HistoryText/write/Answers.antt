@@ -1,14 +1,14 @@
--- Each entry that is given is numbered, and its line is poured behind the others.
+-- Each entry that is given is numbered, and its line is put behind the others.
 use Rattle.std.proofs.Common.{ℕ, List, [], ◌∷◌, ◌++◌, length, Some, subst, refl, sym, ap, ◌∙◌, arith}
 use Rattle.std.proofs.lemmas.List.{length-append}
 use Rattle.mv_machine.specs.declared.entry.Entry.{Entry}
 use Rattle.mv_machine.specs.History.{IsGiven}
 use Rattle.mv_machine.specs.Setup.{Setup}
 use Rattle.mv_calls.specs.Counters.{HasCounted, IsCountable, IsCountedNext}
-use Rattle.mv_entrytext.specs.HistoryText.{IsPoured, IsCut, text_up_to}
+use Rattle.mv_entrytext.specs.HistoryText.{IsPartlyWritten, IsFrontWritten, text_up_to}
 use Rattle.mv_entrytext.specs.Journal.{EntryOf, line}
 use Rattle.mv_entrytext.proofs.OnePass.{given_countable, shorter_so_far, split_there}
-use Rattle.mv_entrytext.proofs.Poured.{all_poured, cut_so_far, head_poured, if_refused, poured_more, poured_out, text_line_more}
+use Rattle.mv_entrytext.proofs.PartlyWritten.{all_written, cut_so_far, head_written, if_refused, written_more, written_out, text_line_more}
 use Rattle.mv_entrytext.proofs.history_text.HistoryText.write.Goals as goal
 
 pub loop-entry-init : goal.loop-entry-init
@@ -20,8 +20,8 @@ loop-entry-init g c =
       config = refl;
       whole = ap (λ (es : List Entry). es ++ x.history.coming) known.whole;
       counted = subst (λ (es : List Entry). HasCounted x.history.config es x.counters) (sym known.whole) known.counted;
-      poured = subst (λ (es : List Entry). IsPoured old old x.piece.items (text_up_to x.history.config es)) (sym known.whole)
-          (head_poured old x.history.config x.piece.items known.head);
+      written = subst (λ (es : List Entry). IsPartlyWritten old old x.piece.items (text_up_to x.history.config es)) (sym known.whole)
+          (head_written old x.history.config x.piece.items known.head);
       room = known.room;
       count = sym (ap (λ (es : List Entry). length es) known.whole);
       faults = omega arith;
@@ -35,9 +35,9 @@ returns-in_err-make_room-clause-cut g c =
     let old = g.K.Sink.taken c.args.journal.now in
     let now = g.K.Sink.taken c.make_room.new.journal in
     if_refused c.from_residual.result
-    (subst (λ (text : List ℕ). IsCut old now text) c.self.view_is
+    (subst (λ (text : List ℕ). IsFrontWritten old now text) c.self.view_is
     (cut_so_far old now x.history.config h.past h.coming x.history.coming known.whole
-    (c.in_err-make_room.ensures.cut old (text_up_to x.history.config h.past) known.poured)))
+    (c.in_err-make_room.ensures.cut old (text_up_to x.history.config h.past) known.written)))
 
 pub count-call-requires : goal.count-call-requires
 count-call-requires g c =
@@ -79,16 +79,16 @@ loop-entry-preserved g c =
     let old = g.K.Sink.taken c.args.journal.now in
     let now = g.K.Sink.taken c.make_room.new.journal in
     let longer = c.put_entry_line.new.out.items in
-    let poured : IsPoured old now longer (text_up_to start h.past ++ line (EntryOf (Some n) e)) =
-    poured_more old now c.make_room.new.piece.items longer (text_up_to start h.past) (line (EntryOf (Some n) e)) c.put_entry_line.ensures.text
-    (c.in_ok-make_room.ensures.poured old (text_up_to start h.past) known.poured) in
+    let written : IsPartlyWritten old now longer (text_up_to start h.past ++ line (EntryOf (Some n) e)) =
+    written_more old now c.make_room.new.piece.items longer (text_up_to start h.past) (line (EntryOf (Some n) e)) c.put_entry_line.ensures.text
+    (c.in_ok-make_room.ensures.written old (text_up_to start h.past) known.written) in
     record {
       config = given.config ∙ known.config;
       whole = ap (λ (es : List Entry). es ++ new.coming) given.past
           ∙ split_there all h.past h.coming new.coming e known.whole given.coming;
       counted = subst (λ (es : List Entry). HasCounted start es c.count-call.new.self) (sym given.past) counted.counted;
-      poured = subst (λ (text : List ℕ). IsPoured old now longer text)
-          (sym (ap (λ (es : List Entry). text_up_to start es) given.past ∙ text_line_more start h.past e n counted.number)) poured;
+      written = subst (λ (text : List ℕ). IsPartlyWritten old now longer text)
+          (sym (ap (λ (es : List Entry). text_up_to start es) given.past ∙ text_line_more start h.past e n counted.number)) written;
       room = omega (arith, known.room, c.in_ok-make_room.ensures.capacity, c.put_entry_line.ensures.capacity);
       count = omega (arith, known.count, ap (λ (es : List Entry). length es) given.past, length-append h.past (e ∷ []));
       faults = omega (arith, known.faults, c.in_ok-make_room.ensures.count);
@@ -102,9 +102,9 @@ returns-in_err-make_room-2-clause-cut g c =
     let old = g.K.Sink.taken c.args.journal.now in
     let now = g.K.Sink.taken c.make_room-2.new.journal in
     if_refused c.from_residual-in_err-make_room-2.result
-    (subst (λ (text : List ℕ). IsCut old now text) c.self.view_is
+    (subst (λ (text : List ℕ). IsFrontWritten old now text) c.self.view_is
     (cut_so_far old now x.history.config h.past h.coming x.history.coming known.whole
-    (c.in_err-make_room-2.ensures.cut old (text_up_to x.history.config h.past) known.poured)))
+    (c.in_err-make_room-2.ensures.cut old (text_up_to x.history.config h.past) known.written)))
 
 -- the text is whole, in what was taken and the last piece
 pub returns-clause-whole : goal.returns-clause-whole
@@ -114,11 +114,11 @@ returns-clause-whole g c =
     let known = c.loop-entry.invariant in
     let old = g.K.Sink.taken c.args.journal.now in
     let now = g.K.Sink.taken c.make_room-2.new.journal in
-    poured_out c.write_piece.result old (g.K.Sink.taken c.write_piece.new.journal) c.write_piece.new.piece.items c.args.self
-    (c.write_piece.ensures.poured old c.args.self
-    (all_poured old now x.history.config h.past h.coming x.history.coming c.loop-entry.count c.make_room-2.new.piece.items
+    written_out c.write_piece.result old (g.K.Sink.taken c.write_piece.new.journal) c.write_piece.new.piece.items c.args.self
+    (c.write_piece.ensures.written old c.args.self
+    (all_written old now x.history.config h.past h.coming x.history.coming c.loop-entry.count c.make_room-2.new.piece.items
     c.put_end_line.new.out.items c.args.self known.whole c.in_default.ensures.0 known.count c.self.view_is c.put_end_line.ensures.text
-    (c.in_ok-make_room-2.ensures.poured old (text_up_to x.history.config h.past) known.poured))) c.write_piece.ensures.empty
+    (c.in_ok-make_room-2.ensures.written old (text_up_to x.history.config h.past) known.written))) c.write_piece.ensures.empty
 
 pub returns-clause-cut : goal.returns-clause-cut
 returns-clause-cut g c =
@@ -128,6 +128,6 @@ returns-clause-cut g c =
     let old = g.K.Sink.taken c.args.journal.now in
     let now = g.K.Sink.taken c.make_room-2.new.journal in
     c.write_piece.ensures.cut old c.args.self
-    (all_poured old now x.history.config h.past h.coming x.history.coming c.loop-entry.count c.make_room-2.new.piece.items
+    (all_written old now x.history.config h.past h.coming x.history.coming c.loop-entry.count c.make_room-2.new.piece.items
     c.put_end_line.new.out.items c.args.self known.whole c.in_default.ensures.0 known.count c.self.view_is c.put_end_line.ensures.text
-    (c.in_ok-make_room-2.ensures.poured old (text_up_to x.history.config h.past) known.poured))
+    (c.in_ok-make_room-2.ensures.written old (text_up_to x.history.config h.past) known.written))

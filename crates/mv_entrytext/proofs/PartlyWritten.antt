@@ -1,4 +1,4 @@
--- A text that is poured into a sink piece by piece.
+-- A text that is written to a sink piece by piece.
 use Rattle.std.proofs.Common.{◌≡◌, ℕ, ◌+◌, ◌<◌, List, [], ◌∷◌, ◌++◌, length, take, Some, None, subst, refl, sym, ap, ◌∙◌, arith}
 use Rattle.std.proofs.Common.{append-nil, append_assoc, take-add, take_at, drop_at}
 use Rattle.std.proofs.lemmas.Grind.{flat_map-append}
@@ -14,7 +14,7 @@ use Rattle.mv_machine.specs.System.{opening}
 use Rattle.mv_calls.specs.Numbers.{calls, unnumbered}
 use Rattle.mv_calls.proofs.call_numbers.Counted.{calls_more}
 use Rattle.mv_entrytext.specs.declared.version.Version.TheVariants.{Two}
-use Rattle.mv_entrytext.specs.HistoryText.{IsPoured, IsCut, text_up_to}
+use Rattle.mv_entrytext.specs.HistoryText.{IsPartlyWritten, IsFrontWritten, text_up_to}
 use Rattle.mv_entrytext.specs.Journal.{Line, EntryOf, End, entry_lines, head_text, journal_text, line}
 use Rattle.mv_entrytext.proofs.OnePass.{call_line_more, text_over}
 
@@ -26,9 +26,9 @@ appends_both None mid new xs ys a b = tt
 appends_both (Some zs) mid new xs ys a b = (rw a at b) ∙ ap Some (append_assoc zs xs ys)
 
 -- the piece was written
-pub poured_on : (first mid new : Option (List ℕ)) (piece text : List ℕ) → Appends mid new piece → IsPoured first mid piece text
-    → IsPoured first new [] text
-poured_on first mid new piece text wrote p = record {
+pub written_on : (first mid new : Option (List ℕ)) (piece text : List ℕ) → Appends mid new piece → IsPartlyWritten first mid piece text
+    → IsPartlyWritten first new [] text
+written_on first mid new piece text wrote p = record {
   taken = p.taken ++ piece;
   appended = appends_both first mid new p.taken piece p.appended wrote;
   whole = append-nil (p.taken ++ piece) ∙ p.whole;
@@ -36,7 +36,7 @@ poured_on first mid new piece text wrote p = record {
 
 -- a front of it was written
 pub cut_there : (first mid new : Option (List ℕ)) (piece text : List ℕ) (k : ℕ) → k < length piece → Appends mid new (take k piece)
-    → IsPoured first mid piece text → IsCut first new text
+    → IsPartlyWritten first mid piece text → IsFrontWritten first new text
 cut_there first mid new piece text k few wrote p =
     let n : ℕ = length p.taken in
     let front : p.taken ++ take k piece ≡ take (n + k) text =
@@ -49,16 +49,16 @@ cut_there first mid new piece text k few wrote p =
     )
 
 -- more was put behind it
-pub poured_more : (first now : Option (List ℕ)) (piece longer text more : List ℕ) → longer ≡ piece ++ more → IsPoured first now piece text
-    → IsPoured first now longer (text ++ more)
-poured_more first now piece longer text more is p = record {
+pub written_more : (first now : Option (List ℕ)) (piece longer text more : List ℕ) → longer ≡ piece ++ more → IsPartlyWritten first now piece text
+    → IsPartlyWritten first now longer (text ++ more)
+written_more first now piece longer text more is p = record {
   taken = p.taken;
   appended = p.appended;
   whole = ap (λ (xs : List ℕ). p.taken ++ xs) is ∙ sym (append_assoc p.taken piece more) ∙ ap (λ (xs : List ℕ). xs ++ more) p.whole;
 }
 
 -- a front of a text is one of a longer text
-pub cut_longer : (first now : Option (List ℕ)) (text rest : List ℕ) → IsCut first now text → IsCut first now (text ++ rest)
+pub cut_longer : (first now : Option (List ℕ)) (text rest : List ℕ) → IsFrontWritten first now text → IsFrontWritten first now (text ++ rest)
 cut_longer first now text rest cut = (
   cut.0,
   omega (arith, cut.1, length-append text rest),
@@ -71,10 +71,10 @@ nothing_taken None = tt
 nothing_taken (Some xs) = ap Some (sym (append-nil xs))
 
 -- all was
-pub poured_out : {T E : Type 0} (r : Result T E) (old new : Option (List ℕ)) (piece text : List ℕ) → OnOk r (IsPoured old new piece text)
+pub written_out : {T E : Type 0} (r : Result T E) (old new : Option (List ℕ)) (piece text : List ℕ) → OnOk r (IsPartlyWritten old new piece text)
     → OnOk r (piece ≡ []) → OnOk r (Appends old new text)
-poured_out (Err e) old new piece text p none = tt
-poured_out (Ok x) old new piece text p none =
+written_out (Err e) old new piece text p none = tt
+written_out (Ok x) old new piece text p none =
     subst (λ (xs : List ℕ). Appends old new xs)
     (sym (append-nil p.taken) ∙ ap (λ (xs : List ℕ). p.taken ++ xs) (sym none) ∙ p.whole) p.appended
 
@@ -86,8 +86,8 @@ if_refused (Err e) q = q
 -- ---- the text of a history
 
 -- its head is the first piece
-pub head_poured : (old : Option (List ℕ)) (c : Setup) (piece : List ℕ) → piece ≡ head_text Two c → IsPoured old old piece (text_up_to c [])
-head_poured old c piece is = record {
+pub head_written : (old : Option (List ℕ)) (c : Setup) (piece : List ℕ) → piece ≡ head_text Two c → IsPartlyWritten old old piece (text_up_to c [])
+head_written old c piece is = record {
   taken = [];
   appended = nothing_taken old;
   whole = is ∙ sym (append-nil (head_text Two c));
@@ -119,17 +119,17 @@ text_goes_on c past (e ∷ later) =
 
 -- so a front of the text up to a line is one of the whole
 pub cut_so_far : (first now : Option (List ℕ)) (c : Setup) (past coming whole : List Entry) → past ++ coming ≡ whole
-    → IsCut first now (text_up_to c past) → IsCut first now (journal_text c whole)
+    → IsFrontWritten first now (text_up_to c past) → IsFrontWritten first now (journal_text c whole)
 cut_so_far first now c past coming whole split cut =
     let on = text_goes_on c past coming in
-    subst (λ (xs : List ℕ). IsCut first now xs) (sym on.1 ∙ ap (λ (es : List Entry). journal_text c es) split)
+    subst (λ (xs : List ℕ). IsFrontWritten first now xs) (sym on.1 ∙ ap (λ (es : List Entry). journal_text c es) split)
     (cut_longer first now (text_up_to c past) on.0 cut)
 
 -- and with the last line all of it is there
-pub all_poured : (old now : Option (List ℕ)) (c : Setup) (past coming whole : List Entry) (n : ℕ) (piece last text : List ℕ)
+pub all_written : (old now : Option (List ℕ)) (c : Setup) (past coming whole : List Entry) (n : ℕ) (piece last text : List ℕ)
     → past ++ coming ≡ whole → coming ≡ [] → n ≡ length past → journal_text c whole ≡ text → last ≡ piece ++ line (End n)
-    → IsPoured old now piece (text_up_to c past) → IsPoured old now last text
-all_poured old now c past coming whole n piece last text split none count is more p =
-    subst (λ (xs : List ℕ). IsPoured old now last xs)
+    → IsPartlyWritten old now piece (text_up_to c past) → IsPartlyWritten old now last text
+all_written old now c past coming whole n piece last text split none count is more p =
+    subst (λ (xs : List ℕ). IsPartlyWritten old now last xs)
     (ap (λ (k : ℕ). text_up_to c past ++ line (End k)) count ∙ text_over c whole past coming split none ∙ is)
-    (poured_more old now piece last (text_up_to c past) (line (End n)) more p)
+    (written_more old now piece last (text_up_to c past) (line (End n)) more p)
