@@ -19,8 +19,8 @@ pub mod Tables
 pub mod Writes
 -- replay
 pub mod Replays
--- Log and OpenLog: entries that are packed
-pub mod Packs
+-- Log and OpenLog: compact entries
+pub mod Compacts
 -- pack, unpack, and the laws on words
 pub mod Packings
 pub mod Words

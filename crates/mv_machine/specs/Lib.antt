@@ -14,7 +14,7 @@ pub mod Valid
 pub mod Replay
 pub mod Packing
 pub mod Parts
-pub mod Packed
+pub mod Compact
 pub mod Log
 pub mod Merge
 pub mod History

@@ -4,11 +4,11 @@ use Rattle.mv_machine.specs.declared.entry.Entry.{Entry}
 use Rattle.mv_machine.specs.declared.entry.Object.{Object}
 use Rattle.mv_machine.specs.declared.log.Log.TheInside.{Inside as LogInside}
 use Rattle.mv_machine.specs.declared.log.OpenLog.TheInside.{Inside as OpenInside}
-use Rattle.mv_machine.specs.Packed.{entry_of}
+use Rattle.mv_machine.specs.Compact.{entry_of}
 
 -- the entries of a log
 abbrev pub entries_of : LogInside → List Entry
-entries_of l = map (entry_of l.caller) l.packed.items
+entries_of l = map (entry_of l.caller) l.compact.items
 
 -- the object and the place of an entry
 abbrev pub subject_of : Entry → Object × ℕ
@@ -27,6 +27,6 @@ with_entry l e = record l { entries = l.entries ++ e ∷ []; room = l.room - 1 }
 abbrev pub open_log_of : OpenInside → OpenLogFace
 open_log_of l = record {
   caller = l.caller;
-  entries = map (entry_of l.caller) l.packed.items;
-  room = vec_capacity l.packed - length l.packed.items;
+  entries = map (entry_of l.caller) l.compact.items;
+  room = vec_capacity l.compact - length l.compact.items;
 }

@@ -4,13 +4,13 @@
 
 mod admission;
 mod checking;
+mod compact;
 mod config;
 mod entry;
 mod laws;
 mod limits;
 mod log;
 mod merging;
-mod packed;
 mod packing;
 mod reaching;
 mod replaying;

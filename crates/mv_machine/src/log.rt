@@ -3,8 +3,8 @@
 ghost use Rattle.std.specs.Prelude.{◌≡◌, ◌<◌, ◌≤◌, ◌+◌, ◌-◌, ◌^◌, ◌++◌, ◌∷◌, [], length, slice_get, option_map, IfOk, IfSome};
 ghost use Rattle.mv_machine.specs.Log.{subject_of, with_entry};
 
+use crate::compact::CompactEntry;
 use crate::entry::{Entry, Object, Op, Reply};
-use crate::packed::PackedEntry;
 use mv_io::NoMemory;
 use std::alloc::Global;
 use std::marker::Model;
@@ -13,7 +13,7 @@ use std::marker::Model;
 #[derive(Drop)]
 pub struct Log {
     caller: u32,
-    packed: Vec<PackedEntry>,
+    compact: Vec<CompactEntry>,
 }
 
 impl Model for Log {
@@ -32,7 +32,7 @@ impl Log {
     pub fn len(&self) -> usize
         ensures { result ≡ length self.now }
     {
-        self.packed.len()
+        self.compact.len()
     }
 
     /// The object and the place of the entry at this position, from 0, where there is one.
@@ -41,8 +41,8 @@ impl Log {
         ensures subject { result ≡ option_map subject_of (slice_get self.now at) }
         ensures next { IfSome result (λ _. at + 1 < 2 ^ 64) }
     {
-        let packed = self.packed.get(at)?;
-        Some((packed.object, packed.place))
+        let compact = self.compact.get(at)?;
+        Some((compact.object, compact.place))
     }
 
     /// The entry at this position, from 0, where there is one.
@@ -50,8 +50,8 @@ impl Log {
     pub fn get(&self, at: usize) -> Option<Entry>
         ensures { result ≡ slice_get self.now at }
     {
-        let packed = self.packed.get(at)?;
-        Some(packed.entry(self.caller))
+        let compact = self.compact.get(at)?;
+        Some(compact.entry(self.caller))
     }
 }
 
@@ -59,7 +59,7 @@ impl Log {
 #[derive(Drop)]
 pub struct OpenLog {
     caller: u32,
-    packed: Vec<PackedEntry>,
+    compact: Vec<CompactEntry>,
 }
 
 impl Model for OpenLog {
@@ -82,7 +82,7 @@ impl OpenLog {
     {
         Ok(OpenLog {
             caller,
-            packed: Vec::with_capacity(alloc, room)?,
+            compact: Vec::with_capacity(alloc, room)?,
         })
     }
 
@@ -93,23 +93,23 @@ impl OpenLog {
         ensures { self.new ≡ with_entry self.old
             record { caller = self.old.caller; object = object; place = place; op = op; reply = reply } }
     {
-        self.packed
-            .push_reserved(PackedEntry::of(object, place, op, reply));
+        self.compact
+            .push_reserved(CompactEntry::of(object, place, op, reply));
     }
 
     /// How many entries it has.
     pub fn len(&self) -> usize
         ensures { result ≡ length self.now.entries }
     {
-        self.packed.len()
+        self.compact.len()
     }
 
     /// The entry at this position, from 0, where there is one.
     pub fn get(&self, at: usize) -> Option<Entry>
         ensures { result ≡ slice_get self.now.entries at }
     {
-        let packed = self.packed.get(at)?;
-        Some(packed.entry(self.caller))
+        let compact = self.compact.get(at)?;
+        Some(compact.entry(self.caller))
     }
 
     /// The log, which gets no more entries.
@@ -118,7 +118,7 @@ impl OpenLog {
     {
         Log {
             caller: self.caller,
-            packed: self.packed,
+            compact: self.compact,
         }
     }
 }

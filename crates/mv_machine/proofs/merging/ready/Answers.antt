@@ -7,7 +7,7 @@ use Rattle.mv_machine.specs.Log.{subject_of}
 use Rattle.mv_machine.specs.State.{system_of}
 use Rattle.mv_machine.specs.System.{place_of}
 use Rattle.mv_machine.proofs.Lefts.{past_end, past_other, picks_here, at_end}
-use Rattle.mv_machine.proofs.Packs.{Had, had, had_none, one_entry}
+use Rattle.mv_machine.proofs.Compacts.{Had, had, had_none, one_entry}
 use Rattle.mv_machine.proofs.merging.ready.Goals as goal
 use Rattle.mv_machine.proofs.merging.ready.Goals.{in-Some+else-place, in_default}
 

@@ -2,7 +2,7 @@ use Rattle.std.proofs.Common.{◌≡◌, ℕ, ◌-◌, ◌++◌, ◌∷◌, [], 
 use Rattle.std.proofs.lemmas.List.{map-append}
 use Rattle.mv_machine.specs.declared.entry.Entry.{Entry}
 use Rattle.mv_machine.specs.Log.{OpenLogFace}
-use Rattle.mv_machine.specs.Packed.{entry_of}
+use Rattle.mv_machine.specs.Compact.{entry_of}
 use Rattle.mv_machine.proofs.log.OpenLog.push.Goals as goal
 
 abbrev face : ℕ → List Entry → ℕ → OpenLogFace
@@ -11,7 +11,7 @@ face caller entries room = record { caller = caller; entries = entries; room = r
 pub returns : goal.returns
 returns c =
     let k = c.self.inside.caller in
-    let old = c.self.inside.packed in
+    let old = c.self.inside.compact in
     let new = c.push_reserved.new.self in
     let e : Entry = record { caller = k; object = c.args.object; place = c.args.place; op = c.args.op; reply = c.args.reply } in
     let entries : map (entry_of k) new.items ≡ map (entry_of k) old.items ++ e ∷ [] =

@@ -1,4 +1,4 @@
--- What a packed entry stands for: its kinds say which operation and which reply, and its numbers are theirs. What a kind has not is
+-- What a compact entry stands for: its kinds say which operation and which reply, and its numbers are theirs. What a kind has not is
 -- not asked.
 use Rattle.std.specs.Prelude.{ℕ, true, false}
 use Rattle.mv_ecb.specs.declared.operation.EcbOp.TheVariants as ecb_op
@@ -13,6 +13,13 @@ use Rattle.mv_latch.specs.declared.operation.LatchOp.TheVariants as latch_op
 use Rattle.mv_latch.specs.declared.operation.LatchReply.TheVariants as latch_reply
 use Rattle.mv_latch.specs.declared.request.LatchForm.TheVariants.{Conditional, Waiting, Posted}
 use Rattle.mv_latch.specs.declared.request.Mode.{Mode}
+use Rattle.mv_machine.specs.declared.compact.CompactEntry.{CompactEntry}
+use Rattle.mv_machine.specs.declared.compact.OpKind.TheVariants as op
+use Rattle.mv_machine.specs.declared.compact.OpKind.{OpKind}
+use Rattle.mv_machine.specs.declared.compact.OpParts.{OpParts}
+use Rattle.mv_machine.specs.declared.compact.ReplyKind.TheVariants as reply
+use Rattle.mv_machine.specs.declared.compact.ReplyKind.{ReplyKind}
+use Rattle.mv_machine.specs.declared.compact.ReplyParts.{ReplyParts}
 use Rattle.mv_machine.specs.declared.entry.Entry.{Entry}
 use Rattle.mv_machine.specs.declared.entry.Op.{Op}
 use Rattle.mv_machine.specs.declared.entry.Op.TheVariants as op_on
@@ -20,13 +27,6 @@ use Rattle.mv_machine.specs.declared.entry.Reply.{Reply}
 use Rattle.mv_machine.specs.declared.entry.Reply.TheVariants as of
 use Rattle.mv_machine.specs.declared.entry.VolumeOp.TheVariants as volume_op
 use Rattle.mv_machine.specs.declared.entry.VolumeReply.TheVariants as volume_reply
-use Rattle.mv_machine.specs.declared.packed.OpKind.{OpKind}
-use Rattle.mv_machine.specs.declared.packed.OpKind.TheVariants as op
-use Rattle.mv_machine.specs.declared.packed.OpParts.{OpParts}
-use Rattle.mv_machine.specs.declared.packed.PackedEntry.{PackedEntry}
-use Rattle.mv_machine.specs.declared.packed.ReplyKind.{ReplyKind}
-use Rattle.mv_machine.specs.declared.packed.ReplyKind.TheVariants as reply
-use Rattle.mv_machine.specs.declared.packed.ReplyParts.{ReplyParts}
 
 -- the operation of a kind, with a mode, a requestor and two numbers
 abbrev pub op_by : OpKind → Mode → ℕ → ℕ → ℕ → Op
@@ -100,7 +100,7 @@ abbrev pub reply_of : ReplyParts → Reply
 reply_of p = reply_by p.kind p.phase p.first p.second
 
 -- the entry of a caller
-abbrev pub entry_of : ℕ → PackedEntry → Entry
+abbrev pub entry_of : ℕ → CompactEntry → Entry
 entry_of caller p = record {
   caller = caller;
   object = p.object;

@@ -1,8 +1,8 @@
-//! An entry in 40 bytes, by `specs/Packed.antt`: which operation and which reply it has, as kinds, and beside them the numbers that
+//! An entry in 40 bytes, by `specs/Compact.antt`: which operation and which reply it has, as kinds, and beside them the numbers that
 //! any of them have.
 
 ghost use Rattle.std.specs.Prelude.{◌≡◌, ℕ};
-ghost use Rattle.mv_machine.specs.Packed.{op_of, reply_of, state_of as state_by_phase, entry_of};
+ghost use Rattle.mv_machine.specs.Compact.{op_of, reply_of, state_of as state_by_phase, entry_of};
 
 use crate::entry::{Entry, Object, Op, Reply, VolumeOp, VolumeReply};
 use mv_ecb::{EcbOp, EcbReply};
@@ -91,7 +91,7 @@ pub(crate) struct ReplyParts {
 
 /// An entry without its caller. The order of its fields leaves no gap between them.
 #[derive(Clone, Copy)]
-pub(crate) struct PackedEntry {
+pub(crate) struct CompactEntry {
     pub requestor: u64,
     pub object: Object,
     pub place: u32,
@@ -120,7 +120,7 @@ fn op(kind: OpKind, first: u32, second: u32) -> OpParts
 }
 
 #[inline(always)]
-fn packed_ecb_op(ecb: EcbOp) -> OpParts
+fn compact_ecb_op(ecb: EcbOp) -> OpParts
     ensures { op_of result ≡ Op.Ecb ecb }
 {
     match ecb {
@@ -134,7 +134,7 @@ fn packed_ecb_op(ecb: EcbOp) -> OpParts
 }
 
 #[inline(always)]
-fn packed_element_op(element: ElementOp) -> OpParts
+fn compact_element_op(element: ElementOp) -> OpParts
     ensures { op_of result ≡ Op.Element element }
 {
     match element {
@@ -148,7 +148,7 @@ fn packed_element_op(element: ElementOp) -> OpParts
 }
 
 #[inline(always)]
-fn packed_latch_op(latch: LatchOp) -> OpParts
+fn compact_latch_op(latch: LatchOp) -> OpParts
     ensures { op_of result ≡ Op.Latch latch }
 {
     match latch {
@@ -193,15 +193,15 @@ fn packed_latch_op(latch: LatchOp) -> OpParts
 }
 
 #[inline(always)]
-fn packed_op(whole: Op) -> OpParts
+fn compact_op(whole: Op) -> OpParts
     ensures { op_of result ≡ whole }
 {
     match whole {
-        Op::Ecb(ecb) => packed_ecb_op(ecb),
-        Op::Element(element) => packed_element_op(element),
+        Op::Ecb(ecb) => compact_ecb_op(ecb),
+        Op::Element(element) => compact_element_op(element),
         Op::Volume(VolumeOp::Read) => op(OpKind::VolumeRead, 0, 0),
         Op::Volume(VolumeOp::Write(number)) => op(OpKind::VolumeWrite, number, 0),
-        Op::Latch(latch) => packed_latch_op(latch),
+        Op::Latch(latch) => compact_latch_op(latch),
     }
 }
 
@@ -289,7 +289,7 @@ fn reply(kind: ReplyKind, first: u32, second: u32) -> ReplyParts
 }
 
 #[inline(always)]
-fn packed_ecb_reply(ecb: EcbReply) -> ReplyParts
+fn compact_ecb_reply(ecb: EcbReply) -> ReplyParts
     ensures { reply_of result ≡ Reply.Ecb ecb }
 {
     match ecb {
@@ -306,8 +306,8 @@ fn packed_ecb_reply(ecb: EcbReply) -> ReplyParts
 }
 
 #[inline(always)]
-#[tactic(auto, using(crate::proofs::Packs::state_by_phase))]
-fn packed_element_reply(element: ElementReply) -> ReplyParts
+#[tactic(auto, using(crate::proofs::Compacts::state_by_phase))]
+fn compact_element_reply(element: ElementReply) -> ReplyParts
     ensures { reply_of result ≡ Reply.Element element }
 {
     match element {
@@ -332,7 +332,7 @@ fn packed_element_reply(element: ElementReply) -> ReplyParts
 }
 
 #[inline(always)]
-fn packed_latch_reply(latch: LatchReply) -> ReplyParts
+fn compact_latch_reply(latch: LatchReply) -> ReplyParts
     ensures { reply_of result ≡ Reply.Latch latch }
 {
     match latch {
@@ -347,15 +347,15 @@ fn packed_latch_reply(latch: LatchReply) -> ReplyParts
 }
 
 #[inline(always)]
-fn packed_reply(whole: Reply) -> ReplyParts
+fn compact_reply(whole: Reply) -> ReplyParts
     ensures { reply_of result ≡ whole }
 {
     match whole {
-        Reply::Ecb(ecb) => packed_ecb_reply(ecb),
-        Reply::Element(element) => packed_element_reply(element),
+        Reply::Ecb(ecb) => compact_ecb_reply(ecb),
+        Reply::Element(element) => compact_element_reply(element),
         Reply::Volume(VolumeReply::Value(number)) => reply(ReplyKind::VolumeValue, number, 0),
         Reply::Volume(VolumeReply::Stored) => reply(ReplyKind::VolumeStored, 0, 0),
-        Reply::Latch(latch) => packed_latch_reply(latch),
+        Reply::Latch(latch) => compact_latch_reply(latch),
     }
 }
 
@@ -428,16 +428,16 @@ fn state_in(phase: Phase, generation: u32, code: u32) -> ElementState
     }
 }
 
-impl PackedEntry {
-    /// An entry in its packed form.
+impl CompactEntry {
+    /// An entry in its compact form.
     #[inline(always)]
-    pub(crate) fn of(object: Object, place: u32, op: Op, reply: Reply) -> PackedEntry
+    pub(crate) fn of(object: Object, place: u32, op: Op, reply: Reply) -> CompactEntry
         ensures { (caller : ℕ) → entry_of caller result
             ≡ record { caller = caller; object = object; place = place; op = op; reply = reply } }
     {
-        let op = packed_op(op);
-        let reply = packed_reply(reply);
-        PackedEntry {
+        let op = compact_op(op);
+        let reply = compact_reply(reply);
+        CompactEntry {
             requestor: op.requestor,
             object,
             place,

@@ -1,4 +1,4 @@
--- Packed entries: the state of an element is the one of its phase, its generation and its code; and what a log tells of an entry.
+-- Compact entries: the state of an element is the one of its phase, its generation and its code; and what a log tells of an entry.
 use Rattle.std.proofs.Common.{◌≡◌, ℕ, List, Option, Some, None, option_map, slice_get, refl, sym, ap}
 use Rattle.std.proofs.lemmas.Bool.{eqb-true}
 use Rattle.mv_element.specs.Code.{IsKeptCode}
@@ -9,7 +9,7 @@ use Rattle.mv_element.proofs.States.{same_state}
 use Rattle.mv_machine.specs.declared.entry.Entry.{Entry}
 use Rattle.mv_machine.specs.declared.entry.Object.{Object}
 use Rattle.mv_machine.specs.Log.{subject_of}
-use Rattle.mv_machine.specs.Packed.{state_of}
+use Rattle.mv_machine.specs.Compact.{state_of}
 
 pub state_by_phase : (s : ElementState) → state_of s.phase s.generation s.code ≡ s
 state_by_phase s = go s.phase refl s.kept where
