@@ -21,7 +21,7 @@ pub mod LinesTaken
 pub mod TextsTaken
 -- entries that are numbered and written one by one, and the text of a history in pieces
 pub mod OnePass
-pub mod PartlyWritten
+pub mod WrittenSoFar
 -- legal lists are in range: the law `legal_lists_have_texts`, and that a history's text reads back
 pub mod LegalRanges
 -- the one pass of `read_head` and of the reader of entries

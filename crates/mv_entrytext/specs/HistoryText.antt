@@ -1,11 +1,10 @@
 -- The text of a history that is made as it is written, piece by piece.
-use Rattle.std.specs.Prelude.{◌≡◌, ℕ, ◌<◌, ◌≤◌, List, [], ◌++◌, length, take, vec_capacity}
+use Rattle.std.specs.Prelude.{◌≡◌, ℕ, ◌<◌, ◌≤◌, ◌^◌, List, [], ◌++◌, length, take, vec_capacity}
 use Rattle.std.specs.List.{flat_map}
 use Rattle.std.specs.declared.option.Option.{Option}
 use Rattle.mv_io.specs.Sink.{Appends}
 use Rattle.mv_machine.specs.declared.entry.Entry.{Entry}
 use Rattle.mv_machine.specs.Legal.{Legal}
-use Rattle.mv_machine.specs.Limits.{events_limit}
 use Rattle.mv_machine.specs.Setup.{Setup}
 use Rattle.mv_calls.specs.Counters.{HasCounted}
 use Rattle.mv_calls.specs.Numbers.{calls}
@@ -29,13 +28,13 @@ text_of_history x = journal_text x.history.config x.history.coming
 pub record IsUnwritten (x : Inside) : Type 0 where
   pub whole : x.history.past ≡ []
   pub legal : Legal x.history.config x.history.coming
-  pub few : length x.history.coming ≤ events_limit
+  pub few : length x.history.coming < 2 ^ 32
   pub counted : HasCounted x.history.config [] x.counters
   pub head : x.piece.items ≡ head_text Two x.history.config
   pub room : piece_size ≤ vec_capacity x.piece
 
--- what a sink took of a text since then, with the piece behind it, is the text
-pub record IsPartlyWritten (old new : Option (List ℕ)) (piece text : List ℕ) : Type 0 where
+-- what a sink has taken since it was as the first says, and the piece behind that, are the text
+pub record IsWrittenSoFar (old new : Option (List ℕ)) (piece text : List ℕ) : Type 0 where
   pub taken : List ℕ
   pub appended : Appends old new taken
   pub whole : taken ++ piece ≡ text

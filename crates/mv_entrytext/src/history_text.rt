@@ -1,6 +1,6 @@
 //! The journal of a run, made and written piece by piece: `specs/HistoryText.antt`.
 
-ghost use Rattle.std.specs.Prelude.{◌≡◌, ◌≤◌, ◌+◌, [], ℕ, List, length, All, IfOk, OnOk, OnErr, vec_len, vec_capacity};
+ghost use Rattle.std.specs.Prelude.{◌≡◌, ◌≤◌, ◌<◌, ◌+◌, ◌^◌, [], ℕ, List, length, All, IfOk, OnOk, OnErr, vec_len, vec_capacity};
 ghost use Rattle.std.specs.declared.option.Option.{Option as AnyOption};
 ghost use Rattle.mv_io.specs.Fault.{Rose};
 ghost use Rattle.mv_io.specs.Sink.{Appends};
@@ -8,7 +8,7 @@ ghost use Rattle.mv_machine.specs.Legal.{Legal};
 ghost use Rattle.mv_machine.specs.Limits.{events_limit};
 ghost use Rattle.mv_entrytext.specs.EntryText.{IsTyped};
 ghost use Rattle.mv_entrytext.specs.Fault.{HasJournal};
-ghost use Rattle.mv_entrytext.specs.HistoryText.{piece_size, IsPartlyWritten, IsFrontWritten};
+ghost use Rattle.mv_entrytext.specs.HistoryText.{piece_size, IsWrittenSoFar, IsFrontWritten};
 ghost use Rattle.mv_entrytext.specs.Journal.{journal_text};
 ghost use Rattle.mv_entrytext.specs.Widths.{line_width};
 
@@ -49,9 +49,9 @@ impl Model for HistoryText {
 
 // Writes the piece, and begins the next one in its place.
 fn write_piece<K: Sink>(journal: &mut K, piece: &mut Vec<u8>) -> Result<(), Failed>
-    ensures written { (first : AnyOption (List ℕ)) (text : List ℕ) → IsPartlyWritten first (K.taken journal.old) piece.old.items text
-        → OnOk result (IsPartlyWritten first (K.taken journal.new) piece.new.items text) }
-    ensures cut { (first : AnyOption (List ℕ)) (text : List ℕ) → IsPartlyWritten first (K.taken journal.old) piece.old.items text
+    ensures written { (first : AnyOption (List ℕ)) (text : List ℕ) → IsWrittenSoFar first (K.taken journal.old) piece.old.items text
+        → OnOk result (IsWrittenSoFar first (K.taken journal.new) piece.new.items text) }
+    ensures cut { (first : AnyOption (List ℕ)) (text : List ℕ) → IsWrittenSoFar first (K.taken journal.old) piece.old.items text
         → OnErr result (IsFrontWritten first (K.taken journal.new) text) }
     ensures empty { OnOk result (piece.new.items ≡ []) }
     ensures capacity { vec_capacity piece.new ≡ vec_capacity piece.old }
@@ -71,9 +71,9 @@ fn write_piece<K: Sink>(journal: &mut K, piece: &mut Vec<u8>) -> Result<(), Fail
 #[inline(always)]
 fn make_room<K: Sink>(journal: &mut K, piece: &mut Vec<u8>) -> Result<(), Failed>
     requires size { piece_size ≤ vec_capacity piece.old }
-    ensures written { (first : AnyOption (List ℕ)) (text : List ℕ) → IsPartlyWritten first (K.taken journal.old) piece.old.items text
-        → OnOk result (IsPartlyWritten first (K.taken journal.new) piece.new.items text) }
-    ensures cut { (first : AnyOption (List ℕ)) (text : List ℕ) → IsPartlyWritten first (K.taken journal.old) piece.old.items text
+    ensures written { (first : AnyOption (List ℕ)) (text : List ℕ) → IsWrittenSoFar first (K.taken journal.old) piece.old.items text
+        → OnOk result (IsWrittenSoFar first (K.taken journal.new) piece.new.items text) }
+    ensures cut { (first : AnyOption (List ℕ)) (text : List ℕ) → IsWrittenSoFar first (K.taken journal.old) piece.old.items text
         → OnErr result (IsFrontWritten first (K.taken journal.new) text) }
     ensures room { OnOk result (vec_len piece.new + line_width ≤ vec_capacity piece.new) }
     ensures capacity { vec_capacity piece.new ≡ vec_capacity piece.old }
@@ -99,11 +99,11 @@ impl HistoryText {
     pub fn open(alloc: Global, history: History) -> Result<HistoryText, NoMemory>
         requires whole { history.past ≡ [] }
         requires legal { Legal history.config history.coming }
-        requires few { length history.coming ≤ events_limit }
+        requires few { length history.coming < 2 ^ 32 }
         ensures text { IfOk result (λ text. text ≡ journal_text history.config history.coming) }
         ensures typed { OnOk result (All IsTyped history.coming) }
-        // So these entries have a text that reads back.
-        ensures readable { OnOk result (HasJournal history.config history.coming) }
+        // Where there are no more than a run may have, the text reads back.
+        ensures readable { length history.coming ≤ events_limit → OnOk result (HasJournal history.config history.coming) }
     {
         let mut piece = Vec::new(alloc);
         push_head(&mut piece, Version::Two, history.config().config())?;
@@ -122,6 +122,7 @@ impl HistoryText {
     /// # Errors
     ///
     /// `Failed` at the sink's first failure, which is not tried again.
+    // It is called and not inlined: within a whole run its loop would keep less in registers.
     #[inline(never)]
     pub fn write<K: Sink>(self, journal: &mut K) -> Result<(), Failed>
         ensures whole { OnOk result (Appends (K.taken journal.old) (K.taken journal.new) self) }

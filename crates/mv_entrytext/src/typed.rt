@@ -1,5 +1,5 @@
-//! What the types of an entry's numbers say: `specs/EntryText.antt`. Nothing here changes anything, or has a result; it only tells.
-//! `tell_history` is one pass over the logs, of which a compiler leaves nothing where it sees that.
+//! What the types of an entry's numbers say: `specs/EntryText.antt`. Nothing here changes anything or has a result; it only tells.
+//! `tell_history` is a pass over the logs, which a compiler may leave out.
 
 ghost use Rattle.std.specs.Prelude.{◌≤◌, All};
 ghost use Rattle.mv_entrytext.specs.EcbText.{IsEcbReplyTyped};

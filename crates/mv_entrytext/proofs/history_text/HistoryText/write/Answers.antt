@@ -5,10 +5,10 @@ use Rattle.mv_machine.specs.declared.entry.Entry.{Entry}
 use Rattle.mv_machine.specs.History.{IsGiven}
 use Rattle.mv_machine.specs.Setup.{Setup}
 use Rattle.mv_calls.specs.Counters.{HasCounted, IsCountable, IsCountedNext}
-use Rattle.mv_entrytext.specs.HistoryText.{IsPartlyWritten, IsFrontWritten, text_up_to}
+use Rattle.mv_entrytext.specs.HistoryText.{IsWrittenSoFar, IsFrontWritten, text_up_to}
 use Rattle.mv_entrytext.specs.Journal.{EntryOf, line}
 use Rattle.mv_entrytext.proofs.OnePass.{given_countable, shorter_so_far, split_there}
-use Rattle.mv_entrytext.proofs.PartlyWritten.{all_written, cut_so_far, head_written, if_refused, written_more, written_out, text_line_more}
+use Rattle.mv_entrytext.proofs.WrittenSoFar.{all_written, cut_so_far, head_waits, if_refused, written_more, written_out, text_line_more}
 use Rattle.mv_entrytext.proofs.history_text.HistoryText.write.Goals as goal
 
 pub loop-entry-init : goal.loop-entry-init
@@ -20,8 +20,8 @@ loop-entry-init g c =
       config = refl;
       whole = ap (λ (es : List Entry). es ++ x.history.coming) known.whole;
       counted = subst (λ (es : List Entry). HasCounted x.history.config es x.counters) (sym known.whole) known.counted;
-      written = subst (λ (es : List Entry). IsPartlyWritten old old x.piece.items (text_up_to x.history.config es)) (sym known.whole)
-          (head_written old x.history.config x.piece.items known.head);
+      written = subst (λ (es : List Entry). IsWrittenSoFar old old x.piece.items (text_up_to x.history.config es)) (sym known.whole)
+          (head_waits old x.history.config x.piece.items known.head);
       room = known.room;
       count = sym (ap (λ (es : List Entry). length es) known.whole);
       faults = omega arith;
@@ -79,7 +79,7 @@ loop-entry-preserved g c =
     let old = g.K.Sink.taken c.args.journal.now in
     let now = g.K.Sink.taken c.make_room.new.journal in
     let longer = c.put_entry_line.new.out.items in
-    let written : IsPartlyWritten old now longer (text_up_to start h.past ++ line (EntryOf (Some n) e)) =
+    let written : IsWrittenSoFar old now longer (text_up_to start h.past ++ line (EntryOf (Some n) e)) =
     written_more old now c.make_room.new.piece.items longer (text_up_to start h.past) (line (EntryOf (Some n) e)) c.put_entry_line.ensures.text
     (c.in_ok-make_room.ensures.written old (text_up_to start h.past) known.written) in
     record {
@@ -87,7 +87,7 @@ loop-entry-preserved g c =
       whole = ap (λ (es : List Entry). es ++ new.coming) given.past
           ∙ split_there all h.past h.coming new.coming e known.whole given.coming;
       counted = subst (λ (es : List Entry). HasCounted start es c.count-call.new.self) (sym given.past) counted.counted;
-      written = subst (λ (text : List ℕ). IsPartlyWritten old now longer text)
+      written = subst (λ (text : List ℕ). IsWrittenSoFar old now longer text)
           (sym (ap (λ (es : List Entry). text_up_to start es) given.past ∙ text_line_more start h.past e n counted.number)) written;
       room = omega (arith, known.room, c.in_ok-make_room.ensures.capacity, c.put_entry_line.ensures.capacity);
       count = omega (arith, known.count, ap (λ (es : List Entry). length es) given.past, length-append h.past (e ∷ []));

@@ -14,7 +14,7 @@ use Rattle.mv_machine.specs.System.{opening}
 use Rattle.mv_calls.specs.Numbers.{calls, unnumbered}
 use Rattle.mv_calls.proofs.call_numbers.Counted.{calls_more}
 use Rattle.mv_entrytext.specs.declared.version.Version.TheVariants.{Two}
-use Rattle.mv_entrytext.specs.HistoryText.{IsPartlyWritten, IsFrontWritten, text_up_to}
+use Rattle.mv_entrytext.specs.HistoryText.{IsWrittenSoFar, IsFrontWritten, text_up_to}
 use Rattle.mv_entrytext.specs.Journal.{Line, EntryOf, End, entry_lines, head_text, journal_text, line}
 use Rattle.mv_entrytext.proofs.OnePass.{call_line_more, text_over}
 
@@ -26,8 +26,8 @@ appends_both None mid new xs ys a b = tt
 appends_both (Some zs) mid new xs ys a b = (rw a at b) ∙ ap Some (append_assoc zs xs ys)
 
 -- the piece was written
-pub written_on : (first mid new : Option (List ℕ)) (piece text : List ℕ) → Appends mid new piece → IsPartlyWritten first mid piece text
-    → IsPartlyWritten first new [] text
+pub written_on : (first mid new : Option (List ℕ)) (piece text : List ℕ) → Appends mid new piece → IsWrittenSoFar first mid piece text
+    → IsWrittenSoFar first new [] text
 written_on first mid new piece text wrote p = record {
   taken = p.taken ++ piece;
   appended = appends_both first mid new p.taken piece p.appended wrote;
@@ -36,7 +36,7 @@ written_on first mid new piece text wrote p = record {
 
 -- a front of it was written
 pub cut_there : (first mid new : Option (List ℕ)) (piece text : List ℕ) (k : ℕ) → k < length piece → Appends mid new (take k piece)
-    → IsPartlyWritten first mid piece text → IsFrontWritten first new text
+    → IsWrittenSoFar first mid piece text → IsFrontWritten first new text
 cut_there first mid new piece text k few wrote p =
     let n : ℕ = length p.taken in
     let front : p.taken ++ take k piece ≡ take (n + k) text =
@@ -49,8 +49,8 @@ cut_there first mid new piece text k few wrote p =
     )
 
 -- more was put behind it
-pub written_more : (first now : Option (List ℕ)) (piece longer text more : List ℕ) → longer ≡ piece ++ more → IsPartlyWritten first now piece text
-    → IsPartlyWritten first now longer (text ++ more)
+pub written_more : (first now : Option (List ℕ)) (piece longer text more : List ℕ) → longer ≡ piece ++ more → IsWrittenSoFar first now piece text
+    → IsWrittenSoFar first now longer (text ++ more)
 written_more first now piece longer text more is p = record {
   taken = p.taken;
   appended = p.appended;
@@ -71,7 +71,7 @@ nothing_taken None = tt
 nothing_taken (Some xs) = ap Some (sym (append-nil xs))
 
 -- all was
-pub written_out : {T E : Type 0} (r : Result T E) (old new : Option (List ℕ)) (piece text : List ℕ) → OnOk r (IsPartlyWritten old new piece text)
+pub written_out : {T E : Type 0} (r : Result T E) (old new : Option (List ℕ)) (piece text : List ℕ) → OnOk r (IsWrittenSoFar old new piece text)
     → OnOk r (piece ≡ []) → OnOk r (Appends old new text)
 written_out (Err e) old new piece text p none = tt
 written_out (Ok x) old new piece text p none =
@@ -86,8 +86,8 @@ if_refused (Err e) q = q
 -- ---- the text of a history
 
 -- its head is the first piece
-pub head_written : (old : Option (List ℕ)) (c : Setup) (piece : List ℕ) → piece ≡ head_text Two c → IsPartlyWritten old old piece (text_up_to c [])
-head_written old c piece is = record {
+pub head_waits : (old : Option (List ℕ)) (c : Setup) (piece : List ℕ) → piece ≡ head_text Two c → IsWrittenSoFar old old piece (text_up_to c [])
+head_waits old c piece is = record {
   taken = [];
   appended = nothing_taken old;
   whole = is ∙ sym (append-nil (head_text Two c));
@@ -128,8 +128,8 @@ cut_so_far first now c past coming whole split cut =
 -- and with the last line all of it is there
 pub all_written : (old now : Option (List ℕ)) (c : Setup) (past coming whole : List Entry) (n : ℕ) (piece last text : List ℕ)
     → past ++ coming ≡ whole → coming ≡ [] → n ≡ length past → journal_text c whole ≡ text → last ≡ piece ++ line (End n)
-    → IsPartlyWritten old now piece (text_up_to c past) → IsPartlyWritten old now last text
+    → IsWrittenSoFar old now piece (text_up_to c past) → IsWrittenSoFar old now last text
 all_written old now c past coming whole n piece last text split none count is more p =
-    subst (λ (xs : List ℕ). IsPartlyWritten old now last xs)
+    subst (λ (xs : List ℕ). IsWrittenSoFar old now last xs)
     (ap (λ (k : ℕ). text_up_to c past ++ line (End k)) count ∙ text_over c whole past coming split none ∙ is)
     (written_more old now piece last (text_up_to c past) (line (End n)) more p)
