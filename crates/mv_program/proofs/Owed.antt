@@ -9,7 +9,7 @@ use Rattle.mv_replay.specs.declared.status.ReplayStatus.TheVariants as replay
 use Rattle.mv_replay.specs.Outcome as replays
 use Rattle.mv_replay.proofs.Endings as judged
 use Rattle.mv_program.specs.declared.command.Command.{Command}
-use Rattle.mv_program.specs.declared.command.Command.TheVariants.{Spool, Load, Replay, Convert, Polled}
+use Rattle.mv_program.specs.declared.command.Command.TheVariants.{Spool, Load, Journal, Polled}
 use Rattle.mv_program.specs.declared.command.Command.TheVariants as asked
 use Rattle.mv_program.specs.declared.status.Status.{Status}
 use Rattle.mv_program.specs.declared.status.Status.TheVariants.{Done, Words, Deck, TooLong, ReadFailed, ReportFailed}
@@ -118,16 +118,18 @@ as_replay P (Script f) h = absurd h
 as_replay P (Illegal line) h = (replay.Illegal line, h, refl)
 as_replay P (Text f) h = (replay.Text f, h, refl)
 
--- no journal asks for two endings, whichever command reads it
-one_judgement : (bytes : List ℕ) (s t : Status) → Asks Replay bytes s → Asks Replay bytes t → s ≡ t
+-- no journal asks for two endings
+one_judgement : (bytes : List ℕ) (s t : Status) → IsSomeAnd (replay_of s) (replays.Asks bytes)
+    → IsSomeAnd (replay_of t) (replays.Asks bytes) → s ≡ t
 one_judgement bytes s t a b =
     let p = as_replay (replays.Asks bytes) s a in
     let q = as_replay (replays.Asks bytes) t b in
     p.2 ∙ ap status_by (judged.one_ending bytes p.0 q.0 p.1 q.1) ∙ sym q.2
 
--- both commands on journals end as their input asks
-journal_ends : (bytes : List ℕ) (new : Option (List ℕ)) (s t : Status) → InputOf (Some Replay) s (Some bytes) new
-    → (s ≡ ReadFailed → ⊥) → (t ≡ Done → s ≡ ReportFailed → ⊥) → Asks Replay bytes t → EndsAs NoMemory s t
+-- a command on a journal ends as its input asks
+journal_ends : (bytes : List ℕ) (new : Option (List ℕ)) (s t : Status)
+    → IsSomeAnd (replay_of s) (λ r. replays.InputOf r (Some bytes) new) → (s ≡ ReadFailed → ⊥)
+    → (t ≡ Done → s ≡ ReportFailed → ⊥) → IsSomeAnd (replay_of t) (replays.Asks bytes) → EndsAs NoMemory s t
 journal_ends bytes new Done t i read report a = inl (one_judgement bytes Done t (i.0.short, i.1) a)
 journal_ends bytes new Words t i read report a = absurd i
 journal_ends bytes new (Deck f) t i read report a = absurd i
@@ -163,8 +165,7 @@ command_ends : (c : Command) (bytes : List ℕ) (new : Option (List ℕ)) (s t :
 command_ends (Spool n) bytes new s t i read report journal a = deck_ends n bytes new s t i read report (λ done. journal done refl) a
 command_ends (Load jobs n) bytes new s t i read report journal a = load_ends s t i.0 (λ e. report a e) (λ e. journal a refl e) a
 command_ends asked.Script bytes new s t i read report journal a = script_ends bytes new s t i read report (λ done. journal done refl) a
-command_ends Replay bytes new s t i read report journal a = journal_ends bytes new s t i read report a
-command_ends Convert bytes new s t i read report journal a = journal_ends bytes new s t i read report a
+command_ends (Journal k) bytes new s t i read report journal a = journal_ends bytes new s t i read report a
 command_ends (Polled n seed) bytes new s t i read report journal a = deck_ends n bytes new s t i read report (λ done. journal done refl) a
 
 -- The causes of failed streams, each by the status that it has.
@@ -192,10 +193,8 @@ owed (Some (Load jobs n)) s old new D R K input read report journal =
     λ sound. owed_of (Load jobs n) s (Some []) (Some []) ⊥ R K (input.0, refl) (load_never_reads s input.0) report journal (λ none. none)
 owed (Some asked.Script) s old new D R K input read report journal =
     λ sound. owed_of asked.Script s old new D R K input read report journal (sound refl)
-owed (Some Replay) s old new D R K input read report journal =
-    λ sound. owed_of Replay s old new D R K input read report journal (sound refl)
-owed (Some Convert) s old new D R K input read report journal =
-    λ sound. owed_of Convert s old new D R K input read report journal (sound refl)
+owed (Some (Journal k)) s old new D R K input read report journal =
+    λ sound. owed_of (Journal k) s old new D R K input read report journal (sound refl)
 owed (Some (Polled n seed)) s old new D R K input read report journal =
     λ sound. owed_of (Polled n seed) s old new D R K input read report journal (sound refl)
 

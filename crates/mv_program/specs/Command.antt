@@ -5,7 +5,8 @@ use Rattle.mv_deck.specs.Load.{most_jobs}
 use Rattle.mv_line.specs.Number.{number_of, within}
 use Rattle.mv_deck.specs.Weight.{most_initiators}
 use Rattle.mv_program.specs.declared.command.Command.{Command}
-use Rattle.mv_program.specs.declared.command.Command.TheVariants.{Spool, Load, Script, Replay, Convert, Polled}
+use Rattle.mv_program.specs.declared.command.Command.TheVariants.{Spool, Load, Script, Journal, Polled}
+use Rattle.mv_replay.specs.declared.command.JournalCommand.TheVariants.{Replay, Convert}
 
 -- the digit 0 in ASCII
 abbrev pub digit_0 : ℕ
@@ -46,8 +47,8 @@ polled_of (Some initiators) (Some seed) = Some (Polled initiators seed)
 abbrev pub command_of : List (List ℕ) → Option Command
 command_of (word ∷ []) =
     if bytes_eq word (codes "script") then Some Script
-    else if bytes_eq word (codes "replay") then Some Replay
-    else if bytes_eq word (codes "convert") then Some Convert
+    else if bytes_eq word (codes "replay") then Some (Journal Replay)
+    else if bytes_eq word (codes "convert") then Some (Journal Convert)
     else None
 command_of (word ∷ initiators ∷ []) =
     if bytes_eq word (codes "spool") then option_map Spool (initiators_of initiators) else None
@@ -70,6 +71,5 @@ abbrev pub IsRunnable : Command → Type 0
 IsRunnable (Spool n) = AreInitiators n
 IsRunnable (Load jobs n) = AreJobs jobs × AreInitiators n
 IsRunnable Script = Unit {0}
-IsRunnable Replay = Unit {0}
-IsRunnable Convert = Unit {0}
+IsRunnable (Journal command) = Unit {0}
 IsRunnable (Polled n seed) = AreInitiators n

@@ -11,7 +11,7 @@ use Rattle.mv_report.specs.Summary.{load_summary}
 use Rattle.mv_script.specs.Fault as scripts
 use Rattle.mv_script.specs.Script.{script_of}
 use Rattle.mv_program.specs.declared.command.Command.{Command}
-use Rattle.mv_program.specs.declared.command.Command.TheVariants.{Spool, Load, Replay, Convert, Polled}
+use Rattle.mv_program.specs.declared.command.Command.TheVariants.{Spool, Load, Journal, Polled}
 use Rattle.mv_program.specs.declared.command.Command.TheVariants as asked
 use Rattle.mv_program.specs.declared.status.Status.{Status}
 use Rattle.mv_program.specs.declared.status.Status.TheVariants.{Done, Words, Deck, TooLong, ReadFailed, ReportFailed}
@@ -44,8 +44,7 @@ abbrev pub Asks : Command → List ℕ → Status → Type 0
 Asks (Spool n) input status = TextAsks (IsFound n) input status
 Asks (Load jobs n) input status = status ≡ Done
 Asks asked.Script input status = TextAsks IsScriptFound input status
-Asks Replay input status = IsSomeAnd (replay_of status) (λ s. replay.Asks input s)
-Asks Convert input status = IsSomeAnd (replay_of status) (λ s. replay.Asks input s)
+Asks (Journal command) input status = IsSomeAnd (replay_of status) (λ s. replay.Asks input s)
 Asks (Polled n seed) input status = TextAsks (IsFound n) input status
 
 -- ---- the texts that a command tells of an input, where all goes well: its report and its journal
@@ -69,19 +68,12 @@ pub record TellsReport (Reports : List ℕ → List ℕ → Type 0) (input repor
   pub reported : Reports input report
   pub none : journal ≡ []
 
--- what a command that judges a journal reports
-abbrev pub reports_of : Command → List ℕ → List ℕ → Type 0
-reports_of Replay = replay.IsReplayReport
-reports_of Convert = replay.IsConversion
-reports_of _ = λ input report. ⊥
-
 -- the texts that each command tells
 abbrev pub TellsTexts : Command → (input report journal : List ℕ) → Type 0
 TellsTexts (Spool n) input report journal = TellsRun n input report journal
 TellsTexts (Load jobs n) input report journal = TellsLoad jobs n report journal
 TellsTexts asked.Script input report journal = TellsScript input report journal
-TellsTexts Replay input report journal = TellsReport replay.IsReplayReport input report journal
-TellsTexts Convert input report journal = TellsReport replay.IsConversion input report journal
+TellsTexts (Journal command) input report journal = TellsReport (replay.reports_of command) input report journal
 TellsTexts (Polled n seed) input report journal = TellsRun n input report journal
 
 -- whether it has a journal at all
@@ -89,8 +81,7 @@ abbrev pub has_journal : Command → Bool
 has_journal (Spool n) = true
 has_journal (Load jobs n) = true
 has_journal asked.Script = true
-has_journal Replay = false
-has_journal Convert = false
+has_journal (Journal command) = false
 has_journal (Polled n seed) = true
 
 -- whether it reads its input
@@ -98,8 +89,7 @@ abbrev pub reads_input : Command → Bool
 reads_input (Spool n) = true
 reads_input (Load jobs n) = false
 reads_input asked.Script = true
-reads_input Replay = true
-reads_input Convert = true
+reads_input (Journal command) = true
 reads_input (Polled n seed) = true
 
 -- the input of which it tells: of none, where it reads none
@@ -148,8 +138,7 @@ IsRefused (Spool n) input status = IsRefusedDeck n input status
 IsRefused (Polled n seed) input status = IsRefusedDeck n input status
 IsRefused asked.Script input status = IsRefusedScript input status
 IsRefused (Load jobs n) input status = status ≡ NoMemory
-IsRefused Replay input status = ⊥
-IsRefused Convert input status = ⊥
+IsRefused (Journal command) input status = ⊥
 
 -- that of a deck, with its faults
 abbrev pub DeckOf : ℕ → Status → Option (List ℕ) → Option (List ℕ) → Type 0
@@ -174,8 +163,7 @@ abbrev pub InputOf : Option Command → Status → Option (List ℕ) → Option 
 InputOf (Some (Spool n)) status old new = DeckOf n status old new
 InputOf (Some (Load jobs n)) status old new = EndsLoad status × (new ≡ old)
 InputOf (Some asked.Script) status old new = ScriptOf status old new
-InputOf (Some Replay) status old new = IsSomeAnd (replay_of status) (λ s. replay.InputOf s old new)
-InputOf (Some Convert) status old new = IsSomeAnd (replay_of status) (λ s. replay.InputOf s old new)
+InputOf (Some (Journal command)) status old new = IsSomeAnd (replay_of status) (λ s. replay.InputOf s old new)
 InputOf (Some (Polled n seed)) status old new = DeckOf n status old new
 InputOf None status old new = new ≡ old
 

@@ -5,10 +5,11 @@ ghost use Rattle.std.specs.String.{string_bytes};
 ghost use Rattle.mv_program.specs.Command.{command_of as command_by_words, initiators_of as initiators_by_word, jobs_of};
 ghost use Rattle.mv_program.specs.Command.{load_of as load_by_numbers, polled_of as polled_by_numbers, seed_of};
 ghost use Rattle.mv_program.specs.Command.{IsRunnable, AreInitiators};
-ghost use Rattle.mv_program.specs.Program.{has_journal, reads_input};
+ghost use Rattle.mv_program.specs.Program.{reads_input};
 
 use mv_deck::{MOST_INITIATORS, MOST_JOBS};
 use mv_line::number_within;
+use mv_replay::JournalCommand;
 
 /// What the program is to do.
 #[derive(Clone, Copy, Debug, PartialEq, Eq)]
@@ -19,37 +20,21 @@ pub enum Command {
     Load(u32, u32),
     /// Run the script of the input.
     Script,
-    /// Judge the journal of the input.
-    Replay,
-    /// Judge the journal of the input, and write it in version 2.
-    Convert,
+    /// Judge the journal of the input, as this says.
+    Journal(JournalCommand),
     /// Run the deck of the input with this many initiators, 1 to 8, on one thread, in the round order of this seed, 0 to 9999.
     Polled(u32, u32),
 }
 
 impl Command {
-    /// Whether it runs something, and has a journal to write.
-    pub(crate) fn has_journal(self) -> bool
-        ensures { result ≡ has_journal self }
-    {
-        match self {
-            Command::Replay | Command::Convert => false,
-            Command::Spool(_) | Command::Load(_, _) | Command::Script | Command::Polled(_, _) =>
-                true,
-        }
-    }
-
     /// Whether it reads its input.
     pub(crate) fn reads_input(self) -> bool
         ensures { result ≡ reads_input self }
     {
         match self {
             Command::Load(_, _) => false,
-            Command::Spool(_)
-            | Command::Script
-            | Command::Replay
-            | Command::Convert
-            | Command::Polled(_, _) => true,
+            Command::Spool(_) | Command::Script | Command::Journal(_) | Command::Polled(_, _) =>
+                true,
         }
     }
 }
@@ -97,8 +82,8 @@ pub(crate) fn command_of(words: &[String]) -> Option<Command>
 {
     match words {
         [word] if word.as_str() == "script" => Some(Command::Script),
-        [word] if word.as_str() == "replay" => Some(Command::Replay),
-        [word] if word.as_str() == "convert" => Some(Command::Convert),
+        [word] if word.as_str() == "replay" => Some(Command::Journal(JournalCommand::Replay)),
+        [word] if word.as_str() == "convert" => Some(Command::Journal(JournalCommand::Convert)),
         [word, initiators] if word.as_str() == "spool" => {
             Some(Command::Spool(initiators_of(initiators.as_bytes())?))
         }

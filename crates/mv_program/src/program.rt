@@ -7,9 +7,9 @@ ghost use Rattle.mv_ending.specs.Ending.{EndsAs};
 ghost use Rattle.mv_ending.specs.Note.{NotesAfter};
 ghost use Rattle.mv_ending.specs.Written.{IfUnwritten};
 ghost use Rattle.mv_program.specs.Command.{command_of as command_by_words};
-ghost use Rattle.mv_program.specs.Program.{Asks, InputOf, Told, extent_of, has_journal, input_told, reads_input, reports_of};
+ghost use Rattle.mv_program.specs.Program.{Asks, InputOf, Told, extent_of, has_journal, input_told, reads_input};
 ghost use Rattle.mv_program.specs.Status.{note_of as note_by_status, replay_of};
-ghost use Rattle.mv_replay.specs.Outcome.{ReportAfter};
+ghost use Rattle.mv_replay.specs.Outcome.{ReportAfter, reports_of};
 ghost use Rattle.mv_replay.specs.Status.{note_of as replay_note};
 
 use crate::command::{Command, command_of};
@@ -17,24 +17,23 @@ use crate::running::run;
 use crate::status::{Status, note_of, status_of};
 use mv_ending::tell;
 use mv_io::{Sink, Source};
-use mv_replay::{convert_command, replay_command};
+use mv_replay::{JournalCommand, judge_journal};
 use mv_task::Gate;
 use std::alloc::Global;
 use std::sync::Wait;
 use std::thread::Threads;
 
-// Judges the journal of the input, as a command does that has none of its own, and tells how it ended.
+// Judges the journal of the input, and tells how it ended.
 fn judge<D: Source, R: Sink, N: Sink>(
     alloc: Global,
-    command: Command,
+    command: JournalCommand,
     input: &mut D,
     report: &mut R,
     notes: &mut N,
 ) -> Status
-    requires judges { has_journal command ≡ false }
     ensures words { result ≢ Status.Words }
     ensures journal { result ≢ Status.JournalFailed }
-    ensures input { InputOf (Some command) result (D.left input.old) (D.left input.new) }
+    ensures input { InputOf (Some (Command.Journal command)) result (D.left input.old) (D.left input.new) }
     ensures report { IsSomeAnd (replay_of result) (λ s.
         ReportAfter (reports_of command) s (D.left input.old) (R.taken report.old) (R.taken report.new)) }
     ensures notes { IsSomeAnd (replay_of result) (λ s.
@@ -46,26 +45,20 @@ fn judge<D: Source, R: Sink, N: Sink>(
     ensures counts { (D.faults input.old ≤ D.faults input.new) × (R.faults report.old ≤ R.faults report.new)
         × (N.faults notes.old ≤ N.faults notes.new) }
 {
-    match command {
-        Command::Replay => status_of(replay_command(alloc, input, report, notes)),
-        Command::Convert => status_of(convert_command(alloc, input, report, notes)),
-        // These run something.
-        Command::Spool(_) | Command::Polled(_, _) | Command::Load(_, _) | Command::Script => {
-            unreachable!()
-        }
-    }
+    status_of(judge_journal(alloc, command, input, report, notes))
 }
 
 /// Runs a command: reads the input, and writes the report, and after it the journal where the command has one. All
 /// memory is taken before. Last it tells on the notes how it ended, where it did not end well.
 ///
 /// The commands are `spool I` for I from 1 to 8, `load N I` for N from 1 to 2000, `polled I S` for S from 0 to 9999, `script`, `replay`
-/// and `convert`. The words are those behind the program's name. Of the input no more than the command's limit and one byte is taken; `load` takes nothing of it.
-/// Nothing is read and no memory is taken where the words are no command. `spool` runs the deck of the input, and `load` a deck
-/// of N jobs, by I initiators beside a reader, a scheduler and a writer, each on a thread of its own, which have all ended before
-/// anything is written; they pass the gate at each point of each job. `polled` runs the deck of the input as `spool` does, with all its
-/// tasks on this thread, polled in the round order of the seed S; it passes no gate. `script` runs the script of the input, each of its tasks on a
-/// thread of its own, and its report is the answers of their calls. The other commands start no thread.
+/// and `convert`. The words are those behind the program's name. Of the input no more than the command's limit and one byte is taken;
+/// `load` takes nothing of it. Nothing is read and no memory is taken where the words are no command. `spool` runs the deck of the
+/// input, and `load` a deck of N jobs, by I initiators beside a reader, a scheduler and a writer, each on a thread of its own, which
+/// have all ended before anything is written; they pass the gate at each point of each job. `polled` runs the deck of the input as
+/// `spool` does, with all its tasks on this thread, polled in the round order of the seed S; it passes no gate. `script` runs the
+/// script of the input, each of its tasks on a thread of its own, and its report is the answers of their calls. The other commands
+/// start no thread.
 ///
 /// # Errors
 ///
@@ -124,10 +117,8 @@ pub fn run_program<X: Threads + Wait + Sync, D: Source, R: Sink, K: Sink, N: Sin
 {
     let status = match command_of(words) {
         None => Status::Words,
-        Some(command) if command.has_journal() => {
-            run(rt, alloc, command, input, report, journal, gate)
-        }
-        Some(command) => return judge(alloc, command, input, report, notes),
+        Some(Command::Journal(command)) => return judge(alloc, command, input, report, notes),
+        Some(command) => run(rt, alloc, command, input, report, journal, gate),
     };
     tell(notes, note_of(status));
     status

@@ -5,7 +5,8 @@ ghost use Rattle.std.specs.Prelude.{[], ◌≡◌, ◌≢◌, ◌≤◌, length,
 ghost use Rattle.mv_io.specs.Fault.{Rose};
 ghost use Rattle.mv_ending.specs.Written.{IfUnwritten};
 ghost use Rattle.mv_program.specs.Command.{IsRunnable};
-ghost use Rattle.mv_program.specs.Program.{Asks, InputOf, IsRefused, IsUnread, TellsTexts, Told, Writes, extent_of, has_journal, reads_input};
+ghost use Rattle.mv_program.specs.Program.{Asks, InputOf, IsRefused, IsUnread, TellsTexts, Told, Writes};
+ghost use Rattle.mv_program.specs.Program.{extent_of, has_journal, reads_input};
 ghost use Rattle.mv_program.specs.Texts.{deck_limit};
 
 use crate::command::Command;
@@ -61,14 +62,13 @@ fn texts_told<X: Threads + Wait + Sync, G: Gate + Sync>(
         }
         Command::Load(jobs, initiators) => texts_of_load(rt, alloc, jobs, initiators, gate)?,
         Command::Script => texts_of_script(rt, alloc, text)?,
-        // These run nothing.
-        Command::Replay | Command::Convert => unreachable!(),
+        // This runs nothing.
+        Command::Journal(_) => unreachable!(),
     };
     Ok(texts)
 }
 
 // Writes the report, and then the journal. It takes no memory.
-#[tactic(auto, using(crate::proofs::Told::cut_is_front))]
 fn write_texts<R: Sink, K: Sink>(report: &mut R, journal: &mut K, texts: Texts) -> Status
     ensures written { Writes result (R.taken report.old) (R.taken report.new) (K.taken journal.old) (K.taken journal.new)
         texts.report.items texts.journal }

@@ -19,6 +19,8 @@ use Rattle.mv_entrytext.specs.Lines.{with_call}
 use Rattle.mv_entrytext.specs.Writer.{IsWrittenTo}
 use Rattle.mv_entrytext.proofs.OnePass.{call_line_more}
 use Rattle.mv_replay.specs.Course.{is_copied, made_of, IsCopied, IsRightTo, IsWrongAt, IsCourse, IsMade, IsWhole}
+use Rattle.mv_replay.specs.declared.command.JournalCommand.{JournalCommand}
+use Rattle.mv_replay.specs.declared.command.JournalCommand.TheVariants.{Convert}
 use Rattle.mv_replay.specs.declared.judging.Judged.{Judged}
 use Rattle.mv_replay.specs.declared.status.ReplayStatus.{ReplayStatus}
 use Rattle.mv_replay.specs.Judgement.{calls_in, IsFirstWrong, IsLegalJournal, IsIllegalAt, IsRefused}
@@ -199,18 +201,18 @@ whole_is_legal v copied bytes c es count made w = record {
 }
 
 made_so : (v : Version) (bytes : List ℕ) (c : Setup) (es : List Entry) (made : Option (List ℕ)) → bytes ≡ text_of v c es (calls_in v c es)
-    → IsMade (is_copied true v) c es made → made_of bytes made ≡ journal_text c es
+    → IsMade (is_copied Convert v) c es made → made_of bytes made ≡ journal_text c es
 made_so One bytes c es (Some text) is m = m
 made_so One bytes c es None is m = absurd m
 made_so Two bytes c es (Some text) is m = absurd m
 made_so Two bytes c es None is m = is
 
 -- and its conversion is what was made of it
-pub whole_is_converted : (v : Version) (converts : Bool) (bytes : List ℕ) (c : Setup) (es : List Entry) (count : ℕ)
-    (made : Option (List ℕ)) → IsWhole v (is_copied converts v) bytes c es count made → converts ≡ true
+pub whole_is_converted : (v : Version) (command : JournalCommand) (bytes : List ℕ) (c : Setup) (es : List Entry) (count : ℕ)
+    (made : Option (List ℕ)) → IsWhole v (is_copied command v) bytes c es count made → command ≡ Convert
     → made_of bytes made ≡ converted bytes
-whole_is_converted v converts bytes c es count made w asked =
-    made_so v bytes c es made w.text (subst (λ (b : Bool). IsMade (is_copied b v) c es made) asked w.made)
+whole_is_converted v command bytes c es count made w asked =
+    made_so v bytes c es made w.text (subst (λ (k : JournalCommand). IsMade (is_copied k v) c es made) asked w.made)
     ∙ sym (is_converted v bytes c es w.journal w.text)
 
 -- ---- as the judgement ends
@@ -223,13 +225,14 @@ ended_legal v copied bytes c es (Ok j) m = whole_is_legal v copied bytes c es j.
 ended_legal v copied bytes c es (Err s) m = tt
 
 -- with its conversion
-pub ended_converted : (v : Version) (converts : Bool) (bytes : List ℕ) (c : Setup) (es : List Entry) (r : Result Judged ReplayStatus)
-    → converts ≡ true
-    → MatchResult r (λ j. IsWhole v (is_copied converts v) bytes c es j.count (option_map (λ t. t.items) j.second)) (λ s. IsRefused bytes s)
+pub ended_converted : (v : Version) (command : JournalCommand) (bytes : List ℕ) (c : Setup) (es : List Entry)
+    (r : Result Judged ReplayStatus) → command ≡ Convert
+    → MatchResult r (λ j. IsWhole v (is_copied command v) bytes c es j.count (option_map (λ t. t.items) j.second))
+    (λ s. IsRefused bytes s)
     → IfOk r (λ j. made_of bytes (option_map (λ t. t.items) j.second) ≡ converted bytes)
-ended_converted v converts bytes c es (Ok j) asked m =
-    whole_is_converted v converts bytes c es j.count (option_map (λ t. t.items) j.second) m asked
-ended_converted v converts bytes c es (Err s) asked m = tt
+ended_converted v command bytes c es (Ok j) asked m =
+    whole_is_converted v command bytes c es j.count (option_map (λ t. t.items) j.second) m asked
+ended_converted v command bytes c es (Err s) asked m = tt
 
 -- or on any other text
 pub ended_refused : (v : Version) (copied : Bool) (bytes : List ℕ) (c : Setup) (es : List Entry) (r : Result Judged ReplayStatus)

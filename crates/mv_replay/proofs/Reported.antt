@@ -1,18 +1,21 @@
 -- What a command has written is its report on the input, as far as it came.
-use Rattle.std.proofs.Common.{◌≡◌, ℕ, ◌<◌, ◌≤◌, List, [], length, take, Option, Some, None, subst}
+use Rattle.std.proofs.Common.{◌≡◌, ℕ, ◌≤◌, List, [], length, Option, Some, None, refl, subst}
 use Rattle.std.specs.Prelude.{IfSome}
-use Rattle.mv_io.specs.Sink.{Appends}
-use Rattle.mv_ending.specs.Written.{AppendsFront, Nothing, PartOfReport}
+use Rattle.mv_ending.specs.Written.{Nothing, PartOfReport}
+use Rattle.mv_replay.specs.declared.command.JournalCommand.{JournalCommand}
+use Rattle.mv_replay.specs.declared.command.JournalCommand.TheVariants.{Replay, Convert}
+use Rattle.mv_replay.specs.declared.reading.LegalText.{LegalText}
 use Rattle.mv_replay.specs.declared.status.ReplayStatus.{ReplayStatus}
 use Rattle.mv_replay.specs.declared.status.ReplayStatus.TheVariants.{Done, ReadFailed, ReportFailed}
 use Rattle.mv_replay.specs.Judgement.{journal_limit, IsLegalJournal}
-use Rattle.mv_replay.specs.Outcome.{InputOf, ReportAfter, Writes, extent_of}
+use Rattle.mv_replay.specs.Course.{conversion_of, report_text}
+use Rattle.mv_replay.specs.Outcome.{converted, InputOf, ReportAfter, Writes, extent_of, reports_of}
 
--- a front of these bytes, and not all
-pub front_appended : (old new : Option (List ℕ)) (n : ℕ) (report : List ℕ) → n < length report → Appends old new (take n report)
-    → AppendsFront old new report
-front_appended None new n report short wrote = tt
-front_appended (Some xs) new n report short wrote = (n, short, wrote)
+-- what a command writes of a legal text is its report on it
+pub is_report : (command : JournalCommand) (l : LegalText) → IsLegalJournal l.text.items l.judged.count
+    → (command ≡ Convert → conversion_of l ≡ converted l.text.items) → reports_of command l.text.items (report_text command l)
+is_report Replay l legal same = record { count = l.judged.count; legal = legal; reported = refl }
+is_report Convert l legal same = record { count = l.judged.count; legal = legal; reported = same refl }
 
 -- what was written of the report on a text, which is the input where that is told
 pub reported : (Reports : List ℕ → List ℕ → Type 0) (s : ReplayStatus) (input old new : Option (List ℕ)) (text report : List ℕ)

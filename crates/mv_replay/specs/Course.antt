@@ -1,5 +1,5 @@
--- How far a text has been judged, and what is made of it on the way.
-use Rattle.std.specs.Prelude.{◌≡◌, ℕ, ◌+◌, Bool, true, false, List, length, Option, Some, None}
+-- How far a text has been judged, what is made of it on the way, and what is written of it then.
+use Rattle.std.specs.Prelude.{◌≡◌, ℕ, ◌+◌, Bool, true, false, List, length, Option, Some, None, option_map}
 use Rattle.mv_machine.specs.declared.entry.Entry.{Entry}
 use Rattle.mv_machine.specs.Legal.{Legal}
 use Rattle.mv_machine.specs.Setup.{Setup}
@@ -12,12 +12,17 @@ use Rattle.mv_entrytext.specs.declared.writing.JournalWriter.{JournalWriter}
 use Rattle.mv_entrytext.specs.Fault.{HasJournal}
 use Rattle.mv_entrytext.specs.Journal.{first_line, entry_lines, journal_text, text_of}
 use Rattle.mv_entrytext.specs.Writer.{IsWrittenTo}
+use Rattle.mv_replay.specs.declared.command.JournalCommand.{JournalCommand}
+use Rattle.mv_replay.specs.declared.command.JournalCommand.TheVariants.{Replay, Convert}
+use Rattle.mv_replay.specs.declared.reading.LegalText.{LegalText}
 use Rattle.mv_replay.specs.Judgement.{calls_in, AreRight, IsFirstWrong}
+use Rattle.mv_replay.specs.Outcome.{legal_text}
 
--- whether a text is copied in version 2, where conversions are asked for or not: one that is in version 2 is its own conversion
-abbrev pub is_copied : (converts : Bool) → Version → Bool
-is_copied converts One = converts
-is_copied converts Two = false
+-- whether a text is copied in version 2, as a conversion asks: one that is in version 2 is its own conversion
+abbrev pub is_copied : JournalCommand → Version → Bool
+is_copied Replay v = false
+is_copied Convert One = true
+is_copied Convert Two = false
 
 -- the conversion: the copy, or else the text itself
 abbrev pub made_of : (text : List ℕ) → (copy : Option (List ℕ)) → List ℕ
@@ -66,3 +71,14 @@ pub record IsWhole (v : Version) (copied : Bool) (bytes : List ℕ) (c : Setup) 
   pub legal : Legal c es
   pub number : count ≡ length es
   pub made : IsMade copied c es copy
+
+-- ---- what is written of it
+
+-- the conversion of a legal text, where one was asked for
+abbrev pub conversion_of : LegalText → List ℕ
+conversion_of l = made_of l.text.items (option_map (λ t. t.items) l.judged.second)
+
+-- what a command reports on it
+abbrev pub report_text : JournalCommand → LegalText → List ℕ
+report_text Replay l = legal_text l.judged.count
+report_text Convert l = conversion_of l

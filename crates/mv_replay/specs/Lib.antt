@@ -1,4 +1,4 @@
 pub mod Judgement
+pub mod Outcome
 pub mod Course
 pub mod Status
-pub mod Outcome

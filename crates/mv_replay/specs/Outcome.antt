@@ -1,11 +1,13 @@
 -- What a replay and a conversion write, and what their streams hold after each way that they can end.
 use Rattle.std.specs.Prelude.{◌≡◌, ℕ, ◌<◌, ◌≤◌, List, ◌++◌, length, codes, decimal, Option, Some, IfSome}
-use Rattle.mv_io.specs.Sink.{Appends}
+use Rattle.mv_io.specs.Sink.{Appends, AppendsFront}
 use Rattle.mv_ending.specs.Ending.{EndsAs}
 use Rattle.mv_ending.specs.Input.{IsWhole, IsTooLong, IsCut, IsAllOrNothing}
-use Rattle.mv_ending.specs.Written.{AppendsFront, Extent, Nothing, PartOfReport, Everything}
+use Rattle.mv_ending.specs.Written.{Extent, Nothing, PartOfReport, Everything}
 use Rattle.mv_entrytext.specs.Journal.{journal_text}
 use Rattle.mv_entrytext.specs.Fault.{journal_of, text_fault}
+use Rattle.mv_replay.specs.declared.command.JournalCommand.{JournalCommand}
+use Rattle.mv_replay.specs.declared.command.JournalCommand.TheVariants.{Replay, Convert}
 use Rattle.mv_replay.specs.declared.status.ReplayStatus.{ReplayStatus}
 use Rattle.mv_replay.specs.declared.status.ReplayStatus.TheVariants.{Done, TooLong, ReadFailed, ReportFailed, NoMemory, Illegal, Text}
 use Rattle.mv_replay.specs.Judgement.{journal_limit, IsLegalJournal, IsIllegalAt}
@@ -31,6 +33,11 @@ pub record IsConversion (input report : List ℕ) : Type 0 where
   pub count : ℕ
   pub legal : IsLegalJournal input count
   pub reported : report ≡ converted input
+
+-- what each command reports
+abbrev pub reports_of : JournalCommand → List ℕ → List ℕ → Type 0
+reports_of Replay = IsReplayReport
+reports_of Convert = IsConversion
 
 -- ---- the ending that is asked for
 

@@ -1,6 +1,6 @@
 //! The judgement of a text, line by line. Its clauses cite specs/Judgement and specs/Course.
 
-ghost use Rattle.std.specs.Prelude.{◌≡◌, ◌≤◌, ◌<◌, ◌+◌, ◌-◌, ◌^◌, ◌∷◌, ◌++◌, [], true, ℕ, Bool, List, Some, length};
+ghost use Rattle.std.specs.Prelude.{◌≡◌, ◌≤◌, ◌<◌, ◌+◌, ◌-◌, ◌^◌, ◌∷◌, ◌++◌, [], ℕ, Bool, List, Some, length};
 ghost use Rattle.std.specs.Prelude.{IfOk, IfErr, OnOk, IsTrue, ◌↔◌, MatchResult, option_map};
 ghost use Rattle.mv_machine.specs.declared.entry.Entry.{Entry as AnyEntry};
 ghost use Rattle.mv_machine.specs.Limits.{highest_place};
@@ -14,6 +14,7 @@ ghost use Rattle.mv_replay.specs.Course.{is_copied, made_of, IsCopied, IsCourse,
 ghost use Rattle.mv_replay.specs.Judgement.{journal_limit, IsLegalJournal, IsRefused};
 ghost use Rattle.mv_replay.specs.Outcome.{converted};
 
+use crate::command::JournalCommand;
 use crate::status::ReplayStatus;
 use mv_calls::Judge;
 use mv_entrytext::{JournalWriter, OpenJournal, TextRefusal, Version, open_journal};
@@ -41,13 +42,13 @@ struct Course {
     copy: Option<JournalWriter>,
 }
 
-// Whether a conversion is not the text itself.
-fn copies(converts: bool, version: Version) -> bool
-    ensures { result ≡ is_copied converts version }
+// Whether a conversion is asked for that is not the text itself.
+fn copies(command: JournalCommand, version: Version) -> bool
+    ensures { result ≡ is_copied command version }
 {
-    match version {
-        Version::One => converts,
-        Version::Two => false,
+    match (command, version) {
+        (JournalCommand::Convert, Version::One) => true,
+        (JournalCommand::Convert, Version::Two) | (JournalCommand::Replay, _) => false,
     }
 }
 
@@ -152,12 +153,16 @@ impl Course {
     }
 }
 
-/// What is kept of a text where it is legal, with its conversion if that is asked for, or how the replay of any other text ends. A
+/// What is kept of a text where it is legal, with its conversion if that is asked for, or how a command on any other text ends. A
 /// fault of the text goes before an entry that is wrong, wherever it stands.
-pub(crate) fn judge(alloc: Global, bytes: &[u8], converts: bool) -> Result<Judged, ReplayStatus>
+pub(crate) fn judge(
+    alloc: Global,
+    command: JournalCommand,
+    bytes: &[u8],
+) -> Result<Judged, ReplayStatus>
     requires { length bytes.now ≤ journal_limit }
     ensures legal { IfOk result (λ j. IsLegalJournal bytes.now j.count) }
-    ensures converted { converts ≡ true
+    ensures converted { command ≡ JournalCommand.Convert
         → IfOk result (λ j. made_of bytes.now (option_map (λ t. t.items) j.second) ≡ converted bytes.now) }
     ensures refused { IfErr result (λ status. IsRefused bytes.now status) }
 {
@@ -170,7 +175,7 @@ pub(crate) fn judge(alloc: Global, bytes: &[u8], converts: bool) -> Result<Judge
         Err(TextRefusal::Fault(fault)) => return Err(ReplayStatus::Text(fault)),
         Err(TextRefusal::NoMemory) => return Err(ReplayStatus::NoMemory),
     };
-    let Ok(mut course) = Course::open(alloc, copies(converts, version), config) else {
+    let Ok(mut course) = Course::open(alloc, copies(command, version), config) else {
         return Err(ReplayStatus::NoMemory);
     };
     'entries: loop {

@@ -1,13 +1,14 @@
-//! What both commands begin with: the input is read whole, and then judged. Its clauses cite specs/Judgement,
+//! What a command begins with: the input is read whole, and then judged. Its clauses cite specs/Judgement,
 //! specs/Course and specs/Outcome.
 
-ghost use Rattle.std.specs.Prelude.{◌≡◌, ◌≤◌, true, Err, IfOk, IfErr, IfSome, option_map};
+ghost use Rattle.std.specs.Prelude.{◌≡◌, ◌≤◌, Err, IfOk, IfErr, IfSome};
 ghost use Rattle.mv_io.specs.Fault.{Rose};
 ghost use Rattle.mv_ending.specs.Written.{Nothing};
-ghost use Rattle.mv_replay.specs.Course.{made_of};
+ghost use Rattle.mv_replay.specs.Course.{conversion_of};
 ghost use Rattle.mv_replay.specs.Judgement.{IsLegalJournal};
 ghost use Rattle.mv_replay.specs.Outcome.{converted, InputOf, extent_of};
 
+use crate::command::JournalCommand;
 use crate::judging::{Judged, judge};
 use crate::status::ReplayStatus;
 use mv_io::{ReadRefusal, Source, read_limited};
@@ -26,7 +27,7 @@ pub(crate) struct LegalText {
 impl LegalText {
     /// Its conversion, where one was asked for.
     pub(crate) fn conversion(self) -> Vec<u8>
-        ensures { result.items ≡ made_of self.text.items (option_map (λ t. t.items) self.judged.second) }
+        ensures { result.items ≡ conversion_of self }
     {
         let LegalText { text, judged } = self;
         match judged.second {
@@ -40,12 +41,11 @@ impl LegalText {
 /// it has reported.
 pub(crate) fn read_legal<D: Source>(
     alloc: Global,
+    command: JournalCommand,
     input: &mut D,
-    converts: bool,
 ) -> Result<LegalText, ReplayStatus>
     ensures legal { IfOk result (λ l. IsLegalJournal l.text.items l.judged.count) }
-    ensures converted { converts ≡ true
-        → IfOk result (λ l. made_of l.text.items (option_map (λ t. t.items) l.judged.second) ≡ converted l.text.items) }
+    ensures converted { command ≡ JournalCommand.Convert → IfOk result (λ l. conversion_of l ≡ converted l.text.items) }
     ensures text { IfOk result (λ l. IfSome (D.left input.old) (λ bytes. l.text.items ≡ bytes)) }
     ensures whole { IfOk result (λ _. InputOf ReplayStatus.Done (D.left input.old) (D.left input.new)) }
     ensures input { IfErr result (λ status. InputOf status (D.left input.old) (D.left input.new)) }
@@ -59,7 +59,7 @@ pub(crate) fn read_legal<D: Source>(
         Err(ReadRefusal::TooLong) => return Err(ReplayStatus::TooLong),
         Err(ReadRefusal::NoMemory) => return Err(ReplayStatus::NoMemory),
     };
-    match judge(alloc, &text, converts) {
+    match judge(alloc, command, &text) {
         Ok(judged) => Ok(LegalText { text, judged }),
         Err(status) => Err(status),
     }

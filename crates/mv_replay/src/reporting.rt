@@ -1,14 +1,30 @@
-//! What both commands end with on a legal journal: a text is written to the report. Its clauses cite specs/Outcome.
+//! What a command ends with on a legal journal: its report is written. Its clauses cite specs/Course and specs/Outcome.
 
 ghost use Rattle.std.specs.Prelude.{◌≡◌, ◌≤◌};
 ghost use Rattle.mv_io.specs.Fault.{Rose};
-ghost use Rattle.mv_replay.specs.Outcome.{Writes};
+ghost use Rattle.mv_replay.specs.Course.{report_text};
+ghost use Rattle.mv_replay.specs.Outcome.{legal_text, Writes};
 
+use crate::command::JournalCommand;
+use crate::reading::LegalText;
 use crate::status::ReplayStatus;
+use mv_ending::Line;
 use mv_io::{Sink, write_all};
 
-/// Writes a report: how the command ends then.
-pub(crate) fn write_out<R: Sink>(report: &mut R, text: &[u8]) -> ReplayStatus
+// The line that tells how many events a legal journal has.
+#[tactic(auto, unfolding(crate::specs::Outcome::legal_text))]
+fn legal_line(count: u32) -> Line
+    ensures { result ≡ legal_text count }
+{
+    let mut line = Line::new();
+    line.push_text(b"LEGAL ");
+    line.push_number(count);
+    line.push_text(b" EVENTS\n");
+    line
+}
+
+// Writes a text as the report: how the command ends then.
+fn write_out<R: Sink>(report: &mut R, text: &[u8]) -> ReplayStatus
     ensures written { Writes result (R.taken report.old) (R.taken report.new) text.now }
     ensures report_failed { result ≡ ReplayStatus.ReportFailed → Rose (R.faults report.old) (R.faults report.new) }
     ensures count { R.faults report.old ≤ R.faults report.new }
@@ -16,5 +32,21 @@ pub(crate) fn write_out<R: Sink>(report: &mut R, text: &[u8]) -> ReplayStatus
     match write_all(report, text) {
         Ok(()) => ReplayStatus::Done,
         Err(_) => ReplayStatus::ReportFailed,
+    }
+}
+
+/// Writes what the command reports on a legal journal: how it ends then.
+pub(crate) fn write_report<R: Sink>(
+    command: JournalCommand,
+    legal: LegalText,
+    report: &mut R,
+) -> ReplayStatus
+    ensures written { Writes result (R.taken report.old) (R.taken report.new) (report_text command legal) }
+    ensures report_failed { result ≡ ReplayStatus.ReportFailed → Rose (R.faults report.old) (R.faults report.new) }
+    ensures count { R.faults report.old ≤ R.faults report.new }
+{
+    match command {
+        JournalCommand::Replay => write_out(report, legal_line(legal.judged.count).as_bytes()),
+        JournalCommand::Convert => write_out(report, &legal.conversion()),
     }
 }

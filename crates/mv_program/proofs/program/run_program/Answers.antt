@@ -1,8 +1,10 @@
 -- What a command told and owes, a run by its words did and does.
 use Rattle.std.proofs.Common.{Some, None, refl, sym, ap, ◌∙◌}
 use Rattle.mv_io.specs.Fault.{Rose}
+use Rattle.mv_replay.specs.Outcome.{reports_of}
+use Rattle.mv_program.specs.declared.command.Command.TheVariants.{Journal}
 use Rattle.mv_program.proofs.Owed.{owed_for}
-use Rattle.mv_program.proofs.Told.{told_for, judge_is_told}
+use Rattle.mv_program.proofs.Told.{told_for, report_is_told}
 use Rattle.mv_program.proofs.program.run_program.Goals as goal
 use Rattle.mv_program.proofs.program.run_program.Goals.{in-None, in-Some}
 
@@ -47,21 +49,23 @@ returns-clause-owed g c =
           (rw (sym w.status-is) at (rw (sym w.journal-is) at run.ensures.journal_failed))
     ]
 
-pub returns-in-Some-2-clause-told : goal.returns-in-Some-2-clause-told
-returns-in-Some-2-clause-told g c =
-    told_for _ (Some c.in-Some.command) c.judge.result (g.D.Source.left c.args.input.now)
-    (g.R.Sink.taken c.args.report.now) (g.R.Sink.taken c.judge.new.report)
-    (g.K.Sink.taken c.args.journal.now) (g.K.Sink.taken c.args.journal.now)
-    (sym c.command_of.ensures.command ∙ c.in-Some.is)
-    (judge_is_told c.in-Some.command c.judge.result (g.D.Source.left c.args.input.now)
-    (g.R.Sink.taken c.args.report.now) (g.R.Sink.taken c.judge.new.report)
-    (g.K.Sink.taken c.args.journal.now) (g.K.Sink.taken c.args.journal.now) (search) c.judge.ensures.report refl)
+pub returns-in-Some-Journal-clause-told : goal.returns-in-Some-Journal-clause-told
+returns-in-Some-Journal-clause-told g c =
+    let input = g.D.Source.left c.args.input.now in
+    let report0 = g.R.Sink.taken c.args.report.now in
+    let report1 = g.R.Sink.taken c.judge.new.report in
+    let journal = g.K.Sink.taken c.args.journal.now in
+    told_for _ (Some (Journal c.in-Some-Journal.command)) c.judge.result input report0 report1 journal journal
+    (sym c.command_of.ensures.command ∙ c.in-Some-Journal.is ∙ ap Some c.in-Some-Journal.field-0-is)
+    (report_is_told (reports_of c.in-Some-Journal.command) c.judge.result input report0 report1 journal journal
+    c.judge.ensures.report refl)
 
-pub returns-in-Some-2-clause-owed : goal.returns-in-Some-2-clause-owed
-returns-in-Some-2-clause-owed g c =
-    owed_for _ (Some c.in-Some.command) c.judge.result (g.D.Source.left c.args.input.now) (g.D.Source.left c.judge.new.input)
-    (Rose (g.D.Source.faults c.args.input.now) (g.D.Source.faults c.judge.new.input))
-    (Rose (g.R.Sink.faults c.args.report.now) (g.R.Sink.faults c.judge.new.report))
+pub returns-in-Some-Journal-clause-owed : goal.returns-in-Some-Journal-clause-owed
+returns-in-Some-Journal-clause-owed g c =
+    let made = c.judge.new in
+    owed_for _ (Some (Journal c.in-Some-Journal.command)) c.judge.result (g.D.Source.left c.args.input.now) (g.D.Source.left made.input)
+    (Rose (g.D.Source.faults c.args.input.now) (g.D.Source.faults made.input))
+    (Rose (g.R.Sink.faults c.args.report.now) (g.R.Sink.faults made.report))
     (Rose (g.K.Sink.faults c.args.journal.now) (g.K.Sink.faults c.args.journal.now))
-    (sym c.command_of.ensures.command ∙ c.in-Some.is)
+    (sym c.command_of.ensures.command ∙ c.in-Some-Journal.is ∙ ap Some c.in-Some-Journal.field-0-is)
     c.judge.ensures.input c.judge.ensures.read_failed c.judge.ensures.report_failed (λ e. absurd (c.judge.ensures.journal e))

@@ -26,13 +26,13 @@ entries-preserved c =
     subst (λ (o : Option (Option ℕ × Entry)). IsNextOf w.0 bytes config w.1 w.2 o c.next.new.self) c.in-Ok-Some.field-0-is
     (c.in-Ok-Some.ensures.read w.0 bytes config w.1 w.2 w.3) in
     let course =
-    c.in-Ok-take.ensures.course w.0 (is_copied c.args.converts w.0) w.1 w.2 w.4 w.3.calls next.read.calls
+    c.in-Ok-take.ensures.course w.0 (is_copied c.args.command w.0) w.1 w.2 w.4 w.3.calls next.read.calls
     (c.line-line.ensures w.0 bytes config w.1 w.2 w.3) in (
       w.0,
       es,
       ns,
       subst (λ (s : Setup). IsReadTo w.0 bytes s es ns c.next.new.self) (sym c.take.ensures.config) next.read,
-      subst (λ (s : Setup). IsCourse w.0 (is_copied c.args.converts w.0) s es ns new.wrong new.judge new.copy) (sym c.take.ensures.config)
+      subst (λ (s : Setup). IsCourse w.0 (is_copied c.args.command w.0) s es ns new.wrong new.judge new.copy) (sym c.take.ensures.config)
           course,
     )
 
@@ -41,7 +41,7 @@ returns-in-Ok-None-clause-legal c =
     let bytes = c.args.bytes.now in
     let config = c.entries.course.config in
     let w = c.entries.invariant in
-    let copied = is_copied c.args.converts w.0 in
+    let copied = is_copied c.args.command w.0 in
     let whole =
     subst (λ (o : Option (Option ℕ × Entry)). IsNextOf w.0 bytes config w.1 w.2 o c.next.new.self) c.in-Ok-None.field-0-is
     (c.in-Ok-None.ensures.read w.0 bytes config w.1 w.2 w.3) in
@@ -56,8 +56,8 @@ returns-in-Ok-None-clause-converted c = λ asked.
     let whole =
     subst (λ (o : Option (Option ℕ × Entry)). IsNextOf w.0 bytes config w.1 w.2 o c.next.new.self) c.in-Ok-None.field-0-is
     (c.in-Ok-None.ensures.read w.0 bytes config w.1 w.2 w.3) in
-    ended_converted w.0 c.args.converts bytes config w.1 c.end.result asked
-    (c.end.ensures w.0 (is_copied c.args.converts w.0) bytes config w.1 w.2 w.4 whole.journal whole.text
+    ended_converted w.0 c.args.command bytes config w.1 c.end.result asked
+    (c.end.ensures w.0 (is_copied c.args.command w.0) bytes config w.1 w.2 w.4 whole.journal whole.text
     (c.count.ensures w.0 bytes config w.1 w.2 whole.read))
 
 pub returns-in-Ok-None-clause-refused : goal.returns-in-Ok-None-clause-refused
@@ -65,7 +65,7 @@ returns-in-Ok-None-clause-refused c =
     let bytes = c.args.bytes.now in
     let config = c.entries.course.config in
     let w = c.entries.invariant in
-    let copied = is_copied c.args.converts w.0 in
+    let copied = is_copied c.args.command w.0 in
     let whole =
     subst (λ (o : Option (Option ℕ × Entry)). IsNextOf w.0 bytes config w.1 w.2 o c.next.new.self) c.in-Ok-None.field-0-is
     (c.in-Ok-None.ensures.read w.0 bytes config w.1 w.2 w.3) in

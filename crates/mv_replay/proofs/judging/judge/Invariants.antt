@@ -9,7 +9,7 @@ use Rattle.mv_replay.proofs.judging.judge.Given as goal
 abbrev pub invariant-entries : goal.invariant-entries
 invariant-entries l =
     (v : Version) × (es : List Entry) × (ns : List ℕ) × IsReadTo v l.bytes l.course.config es ns l.reader
-    × IsCourse v (is_copied l.converts v) l.course.config es ns l.course.wrong l.course.judge l.course.copy
+    × IsCourse v (is_copied l.fn.command v) l.course.config es ns l.course.wrong l.course.judge l.course.copy
 
 abbrev pub decreases-entries : goal.decreases-entries
 decreases-entries l = left_in l.reader

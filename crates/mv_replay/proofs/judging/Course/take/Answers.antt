@@ -31,8 +31,9 @@ returns-else-is_told-clause-course c = λ v copied es ns h before now at.
     let old = c.args.self.now in
     let config = c.args.self.now.config in
     let right = right_so v copied config es ns old.wrong old.judge old.copy c.in_default.is h in
-    wrong_by_number v copied config es ns c.args.told c.args.entry.now c.in-Some-next.number c.args.line old.judge c.next.new.self old.copy right
-    before now at (c.in-Some-next.ensures es right.judged) (λ same. false≢true (sym c.if-is_told.false ∙ c.is_told.ensures.1 same))
+    wrong_by_number v copied config es ns c.args.told c.args.entry.now c.in-Some-next.number c.args.line old.judge c.next.new.self
+    old.copy right before now at (c.in-Some-next.ensures es right.judged)
+    (λ same. false≢true (sym c.if-is_told.false ∙ c.is_told.ensures.1 same))
 
 pub returns-in-None-clause-course : goal.returns-in-None-clause-course
 returns-in-None-clause-course c = λ v copied es ns h before now at.
