@@ -1,6 +1,5 @@
 -- The calls on pause elements.
-use Rattle.std.specs.Prelude.{ℕ, ◌*◌, ◌==◌, Bool, true, false, not, ◌&&◌, List, find, Option, Some, None, Result, Ok, Err}
-use Rattle.std.specs.List.{range_with_len}
+use Rattle.std.specs.Prelude.{ℕ, ◌==◌, Bool, true, false, not, ◌&&◌, find, Option, Some, None, Result, Ok, Err}
 use Rattle.mv_element.specs.declared.element.ElementState.{ElementState}
 use Rattle.mv_element.specs.declared.element.Token.{Token}
 use Rattle.mv_element.specs.declared.operation.ElementOp.TheVariants as element_op
@@ -11,7 +10,7 @@ use Rattle.mv_machine.specs.declared.entry.Op.TheVariants as op_on
 use Rattle.mv_machine.specs.declared.entry.Reply.{Reply}
 use Rattle.mv_machine.specs.declared.entry.Reply.TheVariants as reply_of
 use Rattle.mv_machine.specs.Check.{or_else}
-use Rattle.mv_machine.specs.Setup.{Setup, element_owner}
+use Rattle.mv_machine.specs.Setup.{Setup, element_owner, own_elements}
 use Rattle.mv_calls.specs.Keeping.{Kept}
 use Rattle.mv_calls.specs.Posts.{tried}
 use Rattle.mv_calls.specs.Program.{Program, Do, Done, Early, Wrong, Call, and_then, on_element, unless_refused}
@@ -33,11 +32,7 @@ pub data Reached : Type 0 where
 abbrev pub token_of : ℕ → ℕ → Token
 token_of element generation = record { element = element; generation = generation }
 
--- a caller's own elements
-abbrev pub own_elements : Setup → ℕ → List ℕ
-own_elements c k = range_with_len (k * c.elements_per_caller) c.elements_per_caller
-
--- the lowest of them that is not in use
+-- the caller's lowest element that is not in use
 abbrev pub lowest_free : Setup → Kept → Option ℕ
 lowest_free c kept = find (λ n. not (kept.in_use n)) (own_elements c kept.caller)
 

@@ -12,8 +12,9 @@ pub mod Budgets
 -- Config::check, ValidConfig::of: exits, their chains and their reaches
 pub mod Reaches
 pub mod Chains
--- ValidConfig::targets
+-- ValidConfig::targets, ValidConfig::own_elements
 pub mod Targets
+pub mod OwnElements
 -- State::opening, State::step
 pub mod Tables
 pub mod Writes

@@ -1,6 +1,7 @@
 -- What a configuration says.
 use Rattle.std.specs.Prelude.{ℕ, zero, suc, ◌==◌, ◌-◌, ◌*◌, ◌/◌, ◌<◌, nat_lt, Bool, false, ◌&&◌, List, [], length, Option, Some, None}
 use Rattle.std.specs.Prelude.{slice_get, slice_index}
+use Rattle.std.specs.List.{range_with_len}
 use Rattle.mv_machine.specs.declared.entry.Object.{Object}
 use Rattle.mv_machine.specs.declared.entry.Object.TheVariants.{Ecb, Element, Volume, Latches}
 
@@ -32,6 +33,10 @@ element_count c = c.callers * c.elements_per_caller
 -- whose an element is
 abbrev pub element_owner : Setup → ℕ → ℕ
 element_owner c element = element / c.elements_per_caller
+
+-- a caller's own elements, which follow one another
+abbrev pub own_elements : Setup → ℕ → List ℕ
+own_elements c k = range_with_len (k * c.elements_per_caller) c.elements_per_caller
 
 -- whether a configuration has an object
 abbrev pub IsObjectOf : Setup → Object → Type 0

@@ -1,7 +1,7 @@
 //! A configuration that was checked, with what is computed from it once, by specs/Valid.antt, specs/Reach.antt and
 //! specs/Setup.antt.
 
-ghost use Rattle.std.specs.Prelude.{◌≡◌, ◌<◌, ◌≤◌, ◌*◌, ◌==◌, nat_lt, length, IfOk, IsTrue};
+ghost use Rattle.std.specs.Prelude.{◌≡◌, ◌<◌, ◌≤◌, ◌+◌, ◌*◌, ◌==◌, ℕ, nat_lt, length, IfOk, IsTrue};
 ghost use Rattle.mv_latch.specs.LatchSet.{opened};
 ghost use Rattle.mv_machine.specs.Limits.{exits_limit};
 ghost use Rattle.mv_machine.specs.Reach.{reach, release_cost};
@@ -13,6 +13,7 @@ use mv_io::NoMemory;
 use mv_latch::LatchSet;
 use std::alloc::Global;
 use std::marker::Model;
+use std::ops::Range;
 
 /// A configuration that was checked, by `Config::check`. It does not change.
 #[derive(Drop)]
@@ -124,6 +125,7 @@ impl ValidConfig {
     pub fn ecb_owner(&self, ecb: u32) -> u32
         requires exists { ecb < length self.now.owners }
         ensures owner { result ≡ owner_of self.now ecb }
+        ensures caller { result < self.now.callers }
     {
         self.config.owners[ecb as usize]
     }
@@ -143,12 +145,19 @@ impl ValidConfig {
         element / self.config.elements_per_caller
     }
 
-    /// The first of a caller's elements. Its others follow it.
-    pub fn first_element(&self, caller: u32) -> u32
+    /// The elements of a caller, by their numbers: those that it may open, pause and close.
+    #[tactic(auto, using(crate::proofs::OwnElements::is_own))]
+    pub fn own_elements(&self, caller: u32) -> Range<u32>
         requires caller { caller < self.now.callers }
-        ensures first { result ≡ caller * self.now.elements_per_caller }
+        ensures elements { result ≡ record {
+          start = caller * self.now.elements_per_caller;
+          end = caller * self.now.elements_per_caller + self.now.elements_per_caller;
+        } }
+        ensures own { (n : ℕ) → result.start ≤ n → n < result.end → (n < element_count self.now) × (element_owner self.now n ≡ caller) }
     {
-        caller * self.config.elements_per_caller
+        let count = self.config.elements_per_caller;
+        let first = caller * count;
+        first..first + count
     }
 
     /// Whether an element is this caller's.

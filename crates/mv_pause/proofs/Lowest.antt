@@ -1,47 +1,12 @@
 -- The lowest own element that is not in use.
-use Rattle.std.proofs.Common.{◌≡◌, ℕ, zero, suc, ◌+◌, ◌-◌, ◌*◌, ◌<◌, ◌≤◌, Bool, true, false, not, cond, List, ◌∷◌, Some, None}
-use Rattle.std.proofs.Common.{find, refl, sym, ap, ◌∙◌, subst, arith}
+use Rattle.std.proofs.Common.{◌≡◌, ℕ, zero, suc, ◌+◌, ◌*◌, Bool, true, false, not, cond, List, Some, find, refl, sym, ap, ◌∙◌, subst}
 use Rattle.std.specs.List.{range_with_len}
-use Rattle.std.proofs.Math.Nat.{mul-le-mul_right}
 use Rattle.mv_machine.specs.declared.entry.Entry.{Entry}
 use Rattle.mv_machine.specs.Setup.{Setup}
 use Rattle.mv_calls.specs.Keeping.{kept_of, nothing_kept}
 use Rattle.mv_calls.specs.Pauses.{lowest_free}
 use Rattle.mv_calls.proofs.Making.{kept_caller}
 use Rattle.std.proofs.lemmas.Bool.{not-true}
-
--- an element of caller k, by its place among the caller's
-pub own_place : (k m e i : ℕ) → k < m → i < e → k * e + i < m * e
-own_place k m e i lt few = let le : suc k * e ≤ m * e = mul-le-mul_right e lt in omega arith
-
--- an element and those behind it
-pub range_at : (a n i : ℕ) → i < n → range_with_len (a + i) (n - i) ≡ (a + i) ∷ range_with_len (a + (i + 1)) (n - (i + 1))
-range_at a n i lt =
-    let more : n - i ≡ suc (n - (i + 1)) = omega arith in
-    let next : (a + i) + 1 ≡ a + (i + 1) = omega arith in
-    ap (λ m. range_with_len (a + i) m) more ∙ ap (λ b. (a + i) ∷ range_with_len b (n - (i + 1))) next
-
-module _ (test : ℕ → Bool) where
-  -- one that fails is passed over
-  pub find_next : (a n i : ℕ) → i < n → test (a + i) ≡ false
-      → find test (range_with_len (a + i) (n - i)) ≡ find test (range_with_len (a + (i + 1)) (n - (i + 1)))
-  find_next a n i lt fails = ap (λ xs. find test xs) (range_at a n i lt)
-      ∙ ap (λ b. cond b (Some (a + i)) (find test (range_with_len (a + (i + 1)) (n - (i + 1))))) fails
-
-  -- one that holds is found
-  pub find_here : (a n i : ℕ) → i < n → test (a + i) ≡ true → find test (range_with_len (a + i) (n - i)) ≡ Some (a + i)
-  find_here a n i lt holds = ap (λ xs. find test xs) (range_at a n i lt)
-      ∙ ap (λ b. cond b (Some (a + i)) (find test (range_with_len (a + (i + 1)) (n - (i + 1))))) holds
-
-  -- behind the last there is none
-  pub find_none : (a n i : ℕ) → n ≤ i → find test (range_with_len (a + i) (n - i)) ≡ None
-  find_none a n i le = let none : n - i ≡ 0 = omega arith in ap (λ m. find test (range_with_len (a + i) m)) none
-
-  pub find_first : (a n : ℕ) → find test (range_with_len a n) ≡ find test (range_with_len (a + 0) (n - 0))
-  find_first a n =
-      let same : a + 0 ≡ a = omega arith in
-      let all : n - 0 ≡ n = omega arith in
-      ap (λ b. find test (range_with_len b n)) (sym same) ∙ ap (λ m. find test (range_with_len (a + 0) m)) (sym all)
 
 -- what was looked through is the caller's own elements
 pub lowest_by : (s : Setup) (k : ℕ) (log : List Entry) (j e : ℕ) → j ≡ k → e ≡ s.elements_per_caller

@@ -1,7 +1,8 @@
 //! The beginning of an element's use. Clauses cite the programs' `Pauses.antt`, and `specs/Answers.antt`.
 
-ghost use Rattle.std.specs.Prelude.{◌≡◌, ◌<◌, ◌≤◌, Some, None, IfOk, IfSome, MatchResult};
-ghost use Rattle.mv_machine.specs.Setup.{element_count, element_owner};
+ghost use Rattle.std.specs.Prelude.{◌≡◌, ◌<◌, ◌≤◌, ◌-◌, ◌∷◌, [], ℕ, not, find, Some, None, IfOk, IfSome, MatchResult};
+ghost use Rattle.std.specs.List.{range_with_len};
+ghost use Rattle.mv_machine.specs.Setup.{Setup, element_count, element_owner};
 ghost use Rattle.mv_machine.specs.Limits.{highest_generation};
 ghost use Rattle.mv_board.specs.Faces.{IsOf};
 ghost use Rattle.mv_calls.specs.Keeping.{kept_of};
@@ -15,9 +16,11 @@ use mv_element::{ElementOp, Token};
 use mv_machine::{Object, Op};
 use mv_wait::{Station, Task};
 use std::sync::Wait;
+use thiserror::Error;
 
 /// All elements of the task are in use.
-#[derive(Clone, Copy, Debug, PartialEq, Eq)]
+#[derive(Clone, Copy, Debug, PartialEq, Eq, Error)]
+#[error("all elements of the task are in use")]
 pub struct NoElement;
 
 /// Takes the task's lowest element that is not in use, and answers the token of its next pause (IEAVAPE): give it to whoever is to
@@ -60,12 +63,15 @@ fn lowest(station: &Station, task: &Task) -> Option<u32>
     ensures lowest { result ≡ lowest_free station.now.config (kept_of task.now.number task.now.log) }
     ensures own { IfSome result (λ n. (n < element_count station.now.config) × (element_owner station.now.config n ≡ task.now.number)) }
 {
-    let count = station.config().config().elements_per_caller;
-    let first = task.number() * count;
-    for i in 0..count {
-        if !task.in_use(first + i) {
-            return Some(first + i);
-        }
-    }
-    None
+    let own = station.config().own_elements(task.number());
+    lowest_between(task, own.start, own.end)
+}
+
+// The lowest of these elements that is not in use, all of the task's own.
+fn lowest_between(task: &Task, first: u32, end: u32) -> Option<u32>
+    requires own { (n : ℕ) → first ≤ n → n < end → (s : Setup) × (task.now.about ≡ s ∷ []) × (element_owner s n ≡ task.now.number) }
+    ensures lowest { result ≡ find (λ n. not ((kept_of task.now.number task.now.log).in_use n)) (range_with_len first (end - first)) }
+    ensures between { IfSome result (λ n. (first ≤ n) × (n < end)) }
+{
+    (first..end).find(|element| !task.in_use(*element))
 }

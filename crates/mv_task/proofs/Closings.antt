@@ -1,8 +1,9 @@
 -- The closes of a task's own elements, one after the other.
-use Rattle.std.proofs.Common.{◌≡◌, ◌≢◌, ℕ, ◌+◌, ◌-◌, ◌*◌, ◌<◌, ◌≤◌, Bool, true, false, List, [], ◌∷◌, length, filter}
+use Rattle.std.proofs.Common.{◌≡◌, ◌≢◌, ℕ, suc, ◌+◌, ◌-◌, ◌*◌, ◌<◌, ◌≤◌, Bool, true, false, List, [], ◌∷◌, length, filter}
 use Rattle.std.proofs.Common.{cond, not}
 use Rattle.std.proofs.Common.{refl, sym, ap, ◌∙◌, subst, arith}
 use Rattle.std.specs.List.{range_with_len}
+use Rattle.std.specs.declared.ops.Range.{Range}
 use Rattle.std.proofs.lemmas.Bool.{eq-eqb, ne_eqb}
 use Rattle.std.proofs.lemmas.List.FromFn.{length-range_with_len}
 use Rattle.mv_latch.proofs.Splits.{length_filter}
@@ -20,12 +21,11 @@ use Rattle.mv_calls.specs.LatchCalls.{Counts}
 use Rattle.mv_calls.specs.Pauses.{is_others_token}
 use Rattle.mv_calls.specs.Program.{Program, Do, Wrong, on_element}
 use Rattle.mv_calls.proofs.Making.{kept_caller}
-use Rattle.mv_pause.proofs.Lowest.{range_at}
-use Rattle.mv_wait.specs.Run.{Runs}
+use Rattle.mv_wait.specs.Run.{Runs, keeps}
 use Rattle.mv_wait.proofs.Runs.{entry_of, runs_none, runs_then, runs_within}
 use Rattle.mv_wait.proofs.Steps.{element_runs}
 use Rattle.mv_wait.proofs.Waits.{kept_one}
-use Rattle.mv_task.specs.Ending.{keeps, ClosesOne, ClosesAll, KeepsOthers}
+use Rattle.mv_task.specs.Ending.{ClosesOne, ClosesAll, KeepsOthers}
 
 -- ---- one element
 
@@ -72,99 +72,98 @@ one_counts : (n : ℕ) (ns : List ℕ) (b d : Bool) → d ≡ b → length (cond
 one_counts n ns true d is = ap (λ (x : Bool). length (cond x (n ∷ []) []) + length ns) is ∙ omega arith
 one_counts n ns false d is = ap (λ (x : Bool). length (cond x (n ∷ []) []) + length ns) is ∙ omega arith
 
--- the elements from this one on that were in use at first
-abbrev pub used_from : CallerFace → ℕ → ℕ → List ℕ
-used_from t a n = filter (keeps t).in_use (range_with_len a n)
+-- the elements from one up to another that were in use at first
+abbrev pub used_between : CallerFace → ℕ → ℕ → List ℕ
+used_between t a b = filter (keeps t).in_use (range_with_len a (b - a))
 
--- So many of a task's elements were gone through: of those behind them all is kept as at first, and the closes so far are no more
--- than are needed with those that come.
-pub record Closing (a n i : ℕ) (t u : CallerFace) : Type 0 where
+-- A task's elements were gone through, from the first up to one: of those from that one on all is kept as at first, and the closes so
+-- far are no more than are needed with those that come.
+pub record Closing (first a b : ℕ) (t u : CallerFace) : Type 0 where
   pub made : ℕ
-  pub few : made + length (used_from t (a + i) (n - i)) ≤ length (used_from t a n)
+  pub few : made + length (used_between t a b) ≤ length (used_between t first b)
   pub runs : (p : Program Counts)
-      → Runs made (close_all (keeps t) (used_from t a n) p) (close_all (keeps t) (used_from t (a + i) (n - i)) p) t u
-  pub used : (m : ℕ) → a + i ≤ m → (keeps u).in_use m ≡ (keeps t).in_use m
-  pub generation : (m : ℕ) → a + i ≤ m → (keeps u).generation m ≡ (keeps t).generation m
+      → Runs made (close_all (keeps t) (used_between t first b) p) (close_all (keeps t) (used_between t a b) p) t u
+  pub used : (m : ℕ) → a ≤ m → (keeps u).in_use m ≡ (keeps t).in_use m
+  pub generation : (m : ℕ) → a ≤ m → (keeps u).generation m ≡ (keeps t).generation m
 
-pub none_closed : (a n : ℕ) (t : CallerFace) → Closing a n 0 t t
-none_closed a n t =
-    let from : a + 0 ≡ a = omega arith in
-    let all : n - 0 ≡ n = omega arith in
-    let same : used_from t (a + 0) (n - 0) ≡ used_from t a n = (λ i. used_from t (from i) (all i)) in record {
-      made = 0;
-      few = (let size = ap (λ (xs : List ℕ). length xs) same in omega arith);
-      runs = λ p. subst (λ (xs : List ℕ). Runs 0 (close_all (keeps t) (used_from t a n) p) (close_all (keeps t) xs p) t t) (sym same)
-          (runs_none (close_all (keeps t) (used_from t a n) p) t);
-      used = λ m le. refl;
-      generation = λ m le. refl;
-    }
+pub none_closed : (a b : ℕ) (t : CallerFace) → Closing a a b t t
+none_closed a b t = record {
+  made = 0;
+  few = omega arith;
+  runs = λ p. runs_none (close_all (keeps t) (used_between t a b) p) t;
+  used = λ m le. refl;
+  generation = λ m le. refl;
+}
 
 -- those in use from one on, by whether it is
-used_at : (t : CallerFace) (a n i : ℕ) → i < n
-    → used_from t (a + i) (n - i)
-    ≡ cond ((keeps t).in_use (a + i)) ((a + i) ∷ used_from t (a + (i + 1)) (n - (i + 1))) (used_from t (a + (i + 1)) (n - (i + 1)))
-used_at t a n i lt = ap (λ xs. filter (keeps t).in_use xs) (range_at a n i lt)
+used_at : (t : CallerFace) (a b : ℕ) → a < b
+    → used_between t a b ≡ cond ((keeps t).in_use a) (a ∷ used_between t (a + 1) b) (used_between t (a + 1) b)
+used_at t a b lt = let more : b - a ≡ suc (b - (a + 1)) = omega arith in ap (λ n. filter (keeps t).in_use (range_with_len a n)) more
 
 -- a task's own elements that were in use at first
-pub own_are : (c : Setup) (a n : ℕ) (t : CallerFace) → a ≡ t.number * c.elements_per_caller → n ≡ c.elements_per_caller
-    → used_from t a n ≡ used_elements c (keeps t)
-own_are c a n t first count =
-    let caller = kept_caller (nothing_kept t.number) t.log in
-    (λ j. used_from t (first j) (count j)) ∙ ap (λ k. used_from t (k * c.elements_per_caller) c.elements_per_caller) (sym caller)
+pub own_are : (c : Setup) (own : Range ℕ) (k : ℕ) (t : CallerFace) → k ≡ t.number
+    → own ≡ record { start = k * c.elements_per_caller; end = k * c.elements_per_caller + c.elements_per_caller }
+    → used_between t own.start own.end ≡ used_elements c (keeps t)
+own_are c own k t number is =
+    let e = c.elements_per_caller in
+    let all : (k * e + e) - k * e ≡ e = omega arith in
+    let caller = number ∙ sym (kept_caller (nothing_kept t.number) t.log) in
+    ap (λ (r : Range ℕ). used_between t r.start r.end) is
+    ∙ ap (λ n. filter (keeps t).in_use (range_with_len (k * e) n)) all
+    ∙ ap (λ m. filter (keeps t).in_use (range_with_len (m * e) e)) caller
 
 -- an element that is in use finds an event left
-pub close_fits : (a n i : ℕ) (t u : CallerFace) → i < n → Closing a n i t u → length (used_from t a n) ≤ t.left
-    → (keeps u).in_use (a + i) ≡ true → 0 < u.left
-close_fits a n i t u lt so_far enough is =
+pub close_fits : (first a b : ℕ) (t u : CallerFace) → a < b → Closing first a b t u → length (used_between t first b) ≤ t.left
+    → (keeps u).in_use a ≡ true → 0 < u.left
+close_fits first a b t u lt so_far enough is =
     let any = so_far.runs Wrong in
     let less = any.went.left in
     let few = any.few in
     let all = so_far.few in
-    let here : used_from t (a + i) (n - i) ≡ (a + i) ∷ used_from t (a + (i + 1)) (n - (i + 1)) =
-    used_at t a n i lt
-    ∙ ap (λ (b : Bool). cond b ((a + i) ∷ used_from t (a + (i + 1)) (n - (i + 1))) (used_from t (a + (i + 1)) (n - (i + 1))))
-    (sym (so_far.used (a + i) (omega arith)) ∙ is) in
+    let rest = used_between t (a + 1) b in
+    let here : used_between t a b ≡ a ∷ rest =
+    used_at t a b lt ∙ ap (λ (d : Bool). cond d (a ∷ rest) rest) (sym (so_far.used a (omega arith)) ∙ is) in
     let size = ap (λ (xs : List ℕ). length xs) here in
     omega arith
 
 -- one more was gone through
-pub one_closed : (a n i : ℕ) (t u v : CallerFace) → i < n → Closing a n i t u → ClosesOne (a + i) u v → KeepsOthers (a + i) u v
-    → Closing a n (i + 1) t v
-one_closed a n i t u v lt so_far one others =
-    let here = a + i in
-    let rest = used_from t (a + (i + 1)) (n - (i + 1)) in
-    let b = (keeps t).in_use here in
-    let d = (keeps u).in_use here in
-    let same : d ≡ b = so_far.used here (omega arith) in
-    let most = length (cond d (here ∷ []) []) in
-    let count = one_counts here rest b d same in
-    let size = ap (λ (xs : List ℕ). length xs) (used_at t a n i lt) in
+pub one_closed : (first a b : ℕ) (t u v : CallerFace) → a < b → Closing first a b t u → ClosesOne a u v → KeepsOthers a u v
+    → Closing first (a + 1) b t v
+one_closed first a b t u v lt so_far one others =
+    let all = used_between t first b in
+    let rest = used_between t (a + 1) b in
+    let then = (keeps t).in_use a in
+    let now = (keeps u).in_use a in
+    let same : now ≡ then = so_far.used a (omega arith) in
+    let most = length (cond now (a ∷ []) []) in
+    let count = one_counts a rest then now same in
+    let size = ap (λ (xs : List ℕ). length xs) (used_at t a b lt) in
     let few = so_far.few in record {
       made = so_far.made + most;
       few = omega (arith, count, size, few);
       runs = λ p.
           let last = close_all (keeps t) rest p in
-          runs_then so_far.made most (close_all (keeps t) (used_from t a n) p) (close_all (keeps t) (used_from t here (n - i)) p) last t u v
-          (so_far.runs p)
+          runs_then so_far.made most (close_all (keeps t) all p) (close_all (keeps t) (used_between t a b) p) last t u v (so_far.runs p)
           (subst (λ q. Runs most q last u v)
-          (one_more (keeps t) (keeps u) here rest p b d same (so_far.generation here (omega arith))
-          ∙ ap (λ xs. close_all (keeps t) xs p) (sym (used_at t a n i lt)))
+          (one_more (keeps t) (keeps u) a rest p then now same (so_far.generation a (omega arith))
+          ∙ ap (λ xs. close_all (keeps t) xs p) (sym (used_at t a b lt)))
           (one last));
-      used = λ m le. let other : m ≢ here = (λ e. absurd (omega arith)) in
-          others.used m (ne_eqb m here other) ∙ so_far.used m (omega arith);
-      generation = λ m le. let other : m ≢ here = (λ e. absurd (omega arith)) in
-          others.generation m (ne_eqb m here other) ∙ so_far.generation m (omega arith);
+      used = λ m le. let other : m ≢ a = (λ e. absurd (omega arith)) in
+          others.used m (ne_eqb m a other) ∙ so_far.used m (omega arith);
+      generation = λ m le. let other : m ≢ a = (λ e. absurd (omega arith)) in
+          others.generation m (ne_eqb m a other) ∙ so_far.generation m (omega arith);
     }
 
 -- all were, and they are the task's own
-pub all_closed : (c : Setup) (a n i : ℕ) (t u : CallerFace) → n ≤ i → a ≡ t.number * c.elements_per_caller → n ≡ c.elements_per_caller
-    → Closing a n i t u → ClosesAll c t u
-all_closed c a n i t u over first count so_far = λ p.
-    let none : n - i ≡ 0 = omega arith in
+pub all_closed : (c : Setup) (first a b : ℕ) (t u : CallerFace) → b ≤ a → used_between t first b ≡ used_elements c (keeps t)
+    → Closing first a b t u → ClosesAll c t u
+all_closed c first a b t u over own so_far = λ p.
+    let none : b - a ≡ 0 = omega arith in
     let few = so_far.few in
-    subst (λ (xs : List ℕ). Runs (length xs) (close_all (keeps t) xs p) p t u) (own_are c a n t first count)
-    (runs_within so_far.made (length (used_from t a n)) (close_all (keeps t) (used_from t a n) p) p t u (omega arith)
-    (subst (λ m. Runs so_far.made (close_all (keeps t) (used_from t a n) p) (close_all (keeps t) (used_from t (a + i) m) p) t u) none
+    let all = used_between t first b in
+    subst (λ (xs : List ℕ). Runs (length xs) (close_all (keeps t) xs p) p t u) own
+    (runs_within so_far.made (length all) (close_all (keeps t) all p) p t u (omega arith)
+    (subst (λ m. Runs so_far.made (close_all (keeps t) all p) (close_all (keeps t) (filter (keeps t).in_use (range_with_len a m)) p) t u) none
     (so_far.runs p)))
 
 -- ---- no more elements are in use than the task has

@@ -16,10 +16,10 @@ use Rattle.mv_calls.specs.Posts.{Posting, post, wake_posted, wakes_posted}
 use Rattle.mv_calls.specs.Program.{Program, Do, Done, Wrong, and_then, on_latch}
 use Rattle.mv_calls.specs.Rest.{IsAtRest}
 use Rattle.mv_calls.specs.Services.{mother_events}
-use Rattle.mv_wait.specs.Run.{Runs, IsServed}
+use Rattle.mv_wait.specs.Run.{Runs, IsServed, keeps}
 use Rattle.mv_wait.proofs.Compose.{runs_and_then, post_within_call}
 use Rattle.mv_wait.proofs.Runs.{runs_none, runs_then, runs_within, serves, served_runs}
-use Rattle.mv_task.specs.Ending.{keeps, ClosesAll}
+use Rattle.mv_task.specs.Ending.{ClosesAll}
 
 -- ---- what is kept makes no difference
 

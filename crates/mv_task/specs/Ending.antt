@@ -3,14 +3,9 @@ use Rattle.std.specs.Prelude.{◌≡◌, ℕ, ◌==◌, false, List, [], ◌∷�
 use Rattle.mv_machine.specs.Setup.{Setup}
 use Rattle.mv_board.specs.Faces.{CallerFace}
 use Rattle.mv_calls.specs.Endings.{close_all, used_elements}
-use Rattle.mv_calls.specs.Keeping.{Kept, kept_of}
 use Rattle.mv_calls.specs.LatchCalls.{Counts}
 use Rattle.mv_calls.specs.Program.{Program}
-use Rattle.mv_wait.specs.Run.{Runs}
-
--- what a task keeps of its log
-abbrev pub keeps : CallerFace → Kept
-keeps t = kept_of t.number t.log
+use Rattle.mv_wait.specs.Run.{Runs, keeps}
 
 -- the elements of a list that are in use were closed in order, whatever program follows. The kept generations are those of then
 abbrev pub Closes : List ℕ → CallerFace → CallerFace → Type 0

@@ -80,10 +80,8 @@ fn give_back_all<R: Wait>(station: &Station, rt: &R, task: &mut Task)
     ensures closed { ClosesAll station.now.config task.old task.new }
     ensures rest { IsAtRest task.new.log }
 {
-    let count = station.config().config().elements_per_caller;
-    let first = task.number() * count;
-    for i in 0..count {
-        give_back(station, rt, task, first + i);
+    for element in station.config().own_elements(task.number()) {
+        give_back(station, rt, task, element);
     }
 }
 

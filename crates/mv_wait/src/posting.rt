@@ -101,20 +101,10 @@ impl Station {
         let came = posted(reply);
         let answer = came.answer();
         if answer == PostAnswer::Woke {
-            self.wake_owner(ecb);
+            self.wake(self.config().ecb_owner(ecb));
         }
         note(pending, self.board.config().targets(came.exit()));
         answer
-    }
-
-    // Wakes the task that waits for a block, if it waits.
-    fn wake_owner(&self, ecb: u32)
-        requires { ecb < length self.now.config.owners }
-    {
-        let owner = self.board.config().ecb_owner(ecb);
-        if let Some(unparker) = self.unparkers.get(owner as usize) {
-            unparker.unpark();
-        }
     }
 }
 

@@ -262,6 +262,7 @@ fn task_of(
     ensures { IfOk result (λ t. t ≡ caller) }
 {
     let given = config.config();
+    let own = config.own_elements(caller.number());
     let left = caller.left() as usize;
     let none = OwnElement {
         in_use: false,
@@ -269,7 +270,7 @@ fn task_of(
     };
     let keep = Keep {
         caller: caller.number(),
-        first: caller.number() * given.elements_per_caller,
+        first: own.start,
         extended: vec![in alloc; false; given.owners.len()]?,
         elements: vec![in alloc; none; given.elements_per_caller as usize]?,
         requests: Slab::with_capacity(alloc, left)?,

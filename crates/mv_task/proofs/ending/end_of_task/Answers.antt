@@ -2,9 +2,8 @@ use Rattle.std.proofs.Common.{◌≡◌, ◌+◌, ◌≤◌, Option, ℕ, length
 use Rattle.mv_machine.specs.Reach.{reach, release_cost}
 use Rattle.mv_calls.specs.Endings.{end_of_task, used_elements}
 use Rattle.mv_calls.specs.Services.{mother_events}
-use Rattle.mv_wait.specs.Run.{IsServed}
+use Rattle.mv_wait.specs.Run.{IsServed, keeps}
 use Rattle.mv_latchset.specs.Answers.{counts_of}
-use Rattle.mv_task.specs.Ending.{keeps}
 use Rattle.mv_task.proofs.Ends.{mother_served, orphan_served, left_behind, still_of}
 use Rattle.mv_task.proofs.ending.end_of_task.Goals as goal
 

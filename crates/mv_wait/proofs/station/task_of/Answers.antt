@@ -1,6 +1,7 @@
-use Rattle.std.proofs.Common.{◌≡◌, ◌*◌, ◌<◌, ◌≤◌, Bool, false, List, [], length, slice_get, slice_index_or, Some, refl}
+use Rattle.std.proofs.Common.{◌≡◌, ◌*◌, ◌<◌, ◌≤◌, ℕ, Bool, false, List, [], length, slice_get, slice_index_or, Some, refl}
 use Rattle.std.proofs.Common.{sym, ap, ◌∙◌, subst, arith}
 use Rattle.std.specs.List.{AllByRecursion}
+use Rattle.std.specs.declared.ops.Range.{Range}
 use Rattle.std.proofs.lemmas.Bool.{false≢true}
 use Rattle.std.proofs.lemmas.List.{length-replicate}
 use Rattle.mv_machine.specs.Kept.{standing}
@@ -18,8 +19,8 @@ use Rattle.mv_wait.proofs.station.task_of.Goals as goal
 pub invariant_of-result : goal.invariant_of-result
 invariant_of-result c =
     let k : Keep = record {
-      caller = c.number.result;
-      first = c.number-2.result * c.config-given.result.now.elements_per_caller;
+      caller = c.number-2.result;
+      first = c.own_elements-own.result.start;
       extended = c.in_ok-vec.field-0;
       elements = c.in_ok-vec-2.field-0;
       requests = c.in_ok-with_capacity.field-0;
@@ -42,7 +43,8 @@ invariant_of-result c =
       caller = subst (λ m. m < c.args.config.now.callers) c.number.ensures.number exists.0;
       blocks = omega (arith, c.config-given.result.now.owners.ok.0);
       elements = ap length elements ∙ (length-replicate _ _ ∙ ap (λ (s : Setup). s.elements_per_caller) given);
-      first = (λ i. c.number-2.ensures.number i * (given i).elements_per_caller);
+      first = ap (λ (r : Range ℕ). r.start) c.own_elements-own.ensures.elements
+          ∙ ap (λ m. m * c.args.config.now.elements_per_caller) c.number.ensures.number;
       low = λ n own. subst (λ (log : List Entry). (kept_of c.args.caller.number log).generation n ≤ highest_generation)
           (sym c.requires.new) (omega arith);
       exits = λ n held. absurd (false≢true
@@ -56,7 +58,7 @@ invariant_of-result c =
           requests = subst (AreHeld []) (sym empty) (λ test. refl);
         });
         stands = subst (λ (log : List Entry). (kept_of c.args.caller.number log).requests ≡ standing log) (sym c.requires.new) refl;
-        caller = c.number.ensures.number;
+        caller = c.number-2.ensures.number;
         fits = subst (AllByRecursion (Fits c.args.caller k)) (sym c.requires.about) (one, tt);
         few = rw empty (omega arith);
         room = rw empty (omega arith);

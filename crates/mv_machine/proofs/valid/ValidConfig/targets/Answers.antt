@@ -13,7 +13,8 @@ returns-in-Some c =
     c.in-Some.ensures.lookup.1 in
     record {
       targets = c.deref-in-Some.ensures.value
-          ∙ sym (targets_found c.self.inside.config c.args.self.now c.args.exit c.in-Some.found.now c.self.view_is c.if-exit-eq0.false read);
+          ∙ sym (targets_found c.self.inside.config c.args.self.now c.args.exit c.in-Some.found.now c.self.view_is
+          c.if-exit-eq0.false read);
     }
 
 pub returns-in-None : goal.returns-in-None

@@ -63,7 +63,7 @@ note-requires g c =
     leads blocks cost (let kept = c.requires.recorded.few in omega arith) c.requires.room in
     let size = length-reverse c.args.pending.now.items in
     let targets : c.targets.result.now ≡ posted_next d p =
-    c.targets.ensures.targets ∙ ((λ i. targets_of (c.config.ensures i) (c.exit.ensures i)) ∙ sym (next_is d p)) in
+    c.targets.ensures.targets ∙ ((λ i. targets_of (c.config-2.ensures i) (c.exit.ensures i)) ∙ sym (next_is d p)) in
     let count = ap length targets in omega arith
 
 pub returns-clause-posted : goal.returns-clause-posted
@@ -81,7 +81,7 @@ returns-clause-posted g c =
     let there : c.args.ecb < length d.owners = subst (λ (s : Setup). c.args.ecb < length s.owners) (sym same) c.requires.block in
     let leads = came_leads d t u c.args.ecb c.args.code p valid there h c.event-reply.ensures.possible in
     let targets : c.targets.result.now ≡ posted_next d p =
-    c.targets.ensures.targets ∙ ((λ i. targets_of (c.config.ensures i) (c.exit.ensures i)) ∙ sym (next_is d p)) in
+    c.targets.ensures.targets ∙ ((λ i. targets_of (c.config-2.ensures i) (c.exit.ensures i)) ∙ sym (next_is d p)) in
     subst (λ (s : Setup). PostedOne s c.args.code c.args.ecb t c.args.pending.now.items c.answer-answer.result u
     c.note.new.pending.items) same (record {
       posted = p;
