@@ -1,11 +1,10 @@
 -- The line of each note, and what the notes hold when it was told.
 use Rattle.std.specs.Prelude.{◌≡◌, ℕ, ◌⊎◌, List, ◌++◌, codes, decimal, Option, Some, None}
 use Rattle.mv_io.specs.Fault.{Rose}
-use Rattle.mv_io.specs.Sink.{Appends}
+use Rattle.mv_io.specs.Sink.{Appends, AppendsFront}
 use Rattle.mv_ending.specs.declared.note.Note.{Note}
 use Rattle.mv_ending.specs.declared.note.Note.TheVariants.{Usage, DeckFault, InputTooLong, ReadFailed, ReportFailed}
 use Rattle.mv_ending.specs.declared.note.Note.TheVariants.{JournalFailed, NoMemory, Illegal, JournalFault, ScriptFault}
-use Rattle.mv_ending.specs.Written.{AppendsFront}
 
 -- which line of the input is at fault, and how, behind a word that says what the input is
 unfoldable pub fault_text : List ℕ → ℕ → ℕ → List ℕ

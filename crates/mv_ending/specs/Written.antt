@@ -1,10 +1,6 @@
 -- How much of a run's texts was written: its report, and after that its journal.
-use Rattle.std.specs.Prelude.{◌≡◌, ℕ, ◌<◌, List, ◌++◌, length, take, Option, Some, IfSome}
-use Rattle.mv_io.specs.Sink.{Appends}
-
--- the told bytes grow by a front of these, and not by all
-abbrev pub AppendsFront : Option (List ℕ) → Option (List ℕ) → List ℕ → Type 0
-AppendsFront old new text = IfSome old (λ xs. (n : ℕ) × (n < length text) × (new ≡ Some (xs ++ take n text)))
+use Rattle.std.specs.Prelude.{◌≡◌, ℕ, List, Option, IfSome}
+use Rattle.mv_io.specs.Sink.{Appends, AppendsFront}
 
 -- how far the writing came
 pub data Extent : Type 0 where

@@ -1,10 +1,9 @@
-//! What is told on the notes: `specs/Note.antt`, and what stands there then, `specs/Written.antt`.
+//! What is told on the notes. Clauses cite `specs/Note.antt`.
 
 ghost use Rattle.std.specs.Prelude.{◌≡◌, ◌≤◌, ◌⊎◌, length, None};
 ghost use Rattle.mv_io.specs.Fault.{Rose};
-ghost use Rattle.mv_io.specs.Sink.{Appends};
+ghost use Rattle.mv_io.specs.Sink.{Appends, AppendsFront};
 ghost use Rattle.mv_ending.specs.Note.{fault_text, note_text, NotesAfter};
-ghost use Rattle.mv_ending.specs.Written.{AppendsFront};
 
 use crate::line::Line;
 use mv_io::{Sink, write_all};

@@ -1,5 +1,5 @@
 -- A text that is written to a sink piece by piece.
-use Rattle.std.proofs.Common.{◌≡◌, ℕ, ◌+◌, ◌<◌, List, [], ◌∷◌, ◌++◌, length, take, Some, None, subst, refl, sym, ap, ◌∙◌, arith}
+use Rattle.std.proofs.Common.{◌≡◌, ℕ, ◌+◌, List, [], ◌∷◌, ◌++◌, length, take, Some, None, subst, refl, sym, ap, ◌∙◌, arith}
 use Rattle.std.proofs.Common.{append-nil, append_assoc, take-add, take_at, drop_at}
 use Rattle.std.proofs.lemmas.Grind.{flat_map-append}
 use Rattle.std.proofs.lemmas.List.{length-append, take-append-le}
@@ -7,14 +7,14 @@ use Rattle.std.specs.declared.option.Option.{Option}
 use Rattle.std.specs.Prelude.{OnOk, OnErr}
 use Rattle.std.proofs.Common.{Result, Ok, Err}
 use Rattle.std.specs.List.{flat_map}
-use Rattle.mv_io.specs.Sink.{Appends}
+use Rattle.mv_io.specs.Sink.{Appends, AppendsFront}
 use Rattle.mv_machine.specs.declared.entry.Entry.{Entry}
 use Rattle.mv_machine.specs.Setup.{Setup}
 use Rattle.mv_machine.specs.System.{opening}
 use Rattle.mv_calls.specs.Numbers.{calls, unnumbered}
 use Rattle.mv_calls.proofs.call_numbers.Counted.{calls_more}
 use Rattle.mv_entrytext.specs.declared.version.Version.TheVariants.{Two}
-use Rattle.mv_entrytext.specs.HistoryText.{IsWrittenSoFar, IsFrontWritten, text_up_to}
+use Rattle.mv_entrytext.specs.HistoryText.{IsWrittenSoFar, text_up_to}
 use Rattle.mv_entrytext.specs.Journal.{Line, EntryOf, End, entry_lines, head_text, journal_text, line}
 use Rattle.mv_entrytext.proofs.OnePass.{call_line_more, text_over}
 
@@ -35,21 +35,25 @@ written_on first mid new piece text wrote p = record {
 }
 
 -- a front of it was written
-pub cut_there : (first mid new : Option (List ℕ)) (piece text : List ℕ) (k : ℕ) → k < length piece → Appends mid new (take k piece)
-    → IsWrittenSoFar first mid piece text → IsFrontWritten first new text
-cut_there first mid new piece text k few wrote p =
+pub cut_there : (first mid new : Option (List ℕ)) (piece text : List ℕ) → AppendsFront mid new piece → IsWrittenSoFar first mid piece text
+    → AppendsFront first new text
+cut_there None mid new piece text wrote p = tt
+cut_there (Some xs) mid new piece text wrote p =
+    let cut = subst (λ (o : Option (List ℕ)). AppendsFront o new piece) p.appended wrote in
     let n : ℕ = length p.taken in
+    let k : ℕ = cut.0 in
     let front : p.taken ++ take k piece ≡ take (n + k) text =
-    ap (λ (xs : List ℕ). xs ++ take k piece) (sym (take_at p.taken piece n refl))
-    ∙ ap (λ (xs : List ℕ). take n (p.taken ++ piece) ++ take k xs) (sym (drop_at p.taken piece n refl))
-    ∙ sym (take-add n k (p.taken ++ piece)) ∙ ap (λ (xs : List ℕ). take (n + k) xs) p.whole in (
+    ap (λ (ys : List ℕ). ys ++ take k piece) (sym (take_at p.taken piece n refl))
+    ∙ ap (λ (ys : List ℕ). take n (p.taken ++ piece) ++ take k ys) (sym (drop_at p.taken piece n refl))
+    ∙ sym (take-add n k (p.taken ++ piece)) ∙ ap (λ (ys : List ℕ). take (n + k) ys) p.whole in (
       n + k,
-      omega (arith, few, ap (λ (xs : List ℕ). length xs) p.whole, length-append p.taken piece),
-      subst (λ (xs : List ℕ). Appends first new xs) front (appends_both first mid new p.taken (take k piece) p.appended wrote),
+      omega (arith, cut.1, ap (λ (ys : List ℕ). length ys) p.whole, length-append p.taken piece),
+      cut.2 ∙ ap Some (append_assoc xs p.taken (take k piece)) ∙ ap (λ (ys : List ℕ). Some (xs ++ ys)) front,
     )
 
 -- more was put behind it
-pub written_more : (first now : Option (List ℕ)) (piece longer text more : List ℕ) → longer ≡ piece ++ more → IsWrittenSoFar first now piece text
+pub written_more : (first now : Option (List ℕ)) (piece longer text more : List ℕ) → longer ≡ piece ++ more
+    → IsWrittenSoFar first now piece text
     → IsWrittenSoFar first now longer (text ++ more)
 written_more first now piece longer text more is p = record {
   taken = p.taken;
@@ -58,11 +62,12 @@ written_more first now piece longer text more is p = record {
 }
 
 -- a front of a text is one of a longer text
-pub cut_longer : (first now : Option (List ℕ)) (text rest : List ℕ) → IsFrontWritten first now text → IsFrontWritten first now (text ++ rest)
-cut_longer first now text rest cut = (
+pub cut_longer : (first now : Option (List ℕ)) (text rest : List ℕ) → AppendsFront first now text → AppendsFront first now (text ++ rest)
+cut_longer None now text rest cut = tt
+cut_longer (Some xs) now text rest cut = (
   cut.0,
   omega (arith, cut.1, length-append text rest),
-  subst (λ (xs : List ℕ). Appends first now xs) (sym (take-append-le cut.0 text rest (omega (arith, cut.1)))) cut.2,
+  cut.2 ∙ ap (λ (ys : List ℕ). Some (xs ++ ys)) (sym (take-append-le cut.0 text rest (omega (arith, cut.1)))),
 )
 
 -- nothing was written yet
@@ -71,7 +76,8 @@ nothing_taken None = tt
 nothing_taken (Some xs) = ap Some (sym (append-nil xs))
 
 -- all was
-pub written_out : {T E : Type 0} (r : Result T E) (old new : Option (List ℕ)) (piece text : List ℕ) → OnOk r (IsWrittenSoFar old new piece text)
+pub written_out : {T E : Type 0} (r : Result T E) (old new : Option (List ℕ)) (piece text : List ℕ)
+    → OnOk r (IsWrittenSoFar old new piece text)
     → OnOk r (piece ≡ []) → OnOk r (Appends old new text)
 written_out (Err e) old new piece text p none = tt
 written_out (Ok x) old new piece text p none =
@@ -86,7 +92,8 @@ if_refused (Err e) q = q
 -- ---- the text of a history
 
 -- its head is the first piece
-pub head_waits : (old : Option (List ℕ)) (c : Setup) (piece : List ℕ) → piece ≡ head_text Two c → IsWrittenSoFar old old piece (text_up_to c [])
+pub head_waits : (old : Option (List ℕ)) (c : Setup) (piece : List ℕ) → piece ≡ head_text Two c
+    → IsWrittenSoFar old old piece (text_up_to c [])
 head_waits old c piece is = record {
   taken = [];
   appended = nothing_taken old;
@@ -119,10 +126,10 @@ text_goes_on c past (e ∷ later) =
 
 -- so a front of the text up to a line is one of the whole
 pub cut_so_far : (first now : Option (List ℕ)) (c : Setup) (past coming whole : List Entry) → past ++ coming ≡ whole
-    → IsFrontWritten first now (text_up_to c past) → IsFrontWritten first now (journal_text c whole)
+    → AppendsFront first now (text_up_to c past) → AppendsFront first now (journal_text c whole)
 cut_so_far first now c past coming whole split cut =
     let on = text_goes_on c past coming in
-    subst (λ (xs : List ℕ). IsFrontWritten first now xs) (sym on.1 ∙ ap (λ (es : List Entry). journal_text c es) split)
+    subst (λ (xs : List ℕ). AppendsFront first now xs) (sym on.1 ∙ ap (λ (es : List Entry). journal_text c es) split)
     (cut_longer first now (text_up_to c past) on.0 cut)
 
 -- and with the last line all of it is there

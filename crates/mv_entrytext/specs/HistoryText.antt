@@ -1,5 +1,5 @@
 -- The text of a history that is made as it is written, piece by piece.
-use Rattle.std.specs.Prelude.{◌≡◌, ℕ, ◌<◌, ◌≤◌, ◌^◌, List, [], ◌++◌, length, take, vec_capacity}
+use Rattle.std.specs.Prelude.{◌≡◌, ℕ, ◌<◌, ◌≤◌, ◌^◌, List, [], ◌++◌, length, vec_capacity}
 use Rattle.std.specs.List.{flat_map}
 use Rattle.std.specs.declared.option.Option.{Option}
 use Rattle.mv_io.specs.Sink.{Appends}
@@ -38,7 +38,3 @@ pub record IsWrittenSoFar (old new : Option (List ℕ)) (piece text : List ℕ) 
   pub taken : List ℕ
   pub appended : Appends old new taken
   pub whole : taken ++ piece ≡ text
-
--- a sink took a front of a text, and not all
-abbrev pub IsFrontWritten : (old new : Option (List ℕ)) → (text : List ℕ) → Type 0
-IsFrontWritten old new text = (n : ℕ) × (n < length text) × Appends old new (take n text)

@@ -3,12 +3,12 @@
 ghost use Rattle.std.specs.Prelude.{◌≡◌, ◌≤◌, ◌<◌, ◌+◌, ◌^◌, [], ℕ, List, length, All, IfOk, OnOk, OnErr, vec_len, vec_capacity};
 ghost use Rattle.std.specs.declared.option.Option.{Option as AnyOption};
 ghost use Rattle.mv_io.specs.Fault.{Rose};
-ghost use Rattle.mv_io.specs.Sink.{Appends};
+ghost use Rattle.mv_io.specs.Sink.{Appends, AppendsFront};
 ghost use Rattle.mv_machine.specs.Legal.{Legal};
 ghost use Rattle.mv_machine.specs.Limits.{events_limit};
 ghost use Rattle.mv_entrytext.specs.EntryText.{IsTyped};
 ghost use Rattle.mv_entrytext.specs.Fault.{HasJournal};
-ghost use Rattle.mv_entrytext.specs.HistoryText.{piece_size, IsWrittenSoFar, IsFrontWritten};
+ghost use Rattle.mv_entrytext.specs.HistoryText.{piece_size, IsWrittenSoFar};
 ghost use Rattle.mv_entrytext.specs.Journal.{journal_text};
 ghost use Rattle.mv_entrytext.specs.Widths.{line_width};
 
@@ -52,7 +52,7 @@ fn write_piece<K: Sink>(journal: &mut K, piece: &mut Vec<u8>) -> Result<(), Fail
     ensures written { (first : AnyOption (List ℕ)) (text : List ℕ) → IsWrittenSoFar first (K.taken journal.old) piece.old.items text
         → OnOk result (IsWrittenSoFar first (K.taken journal.new) piece.new.items text) }
     ensures cut { (first : AnyOption (List ℕ)) (text : List ℕ) → IsWrittenSoFar first (K.taken journal.old) piece.old.items text
-        → OnErr result (IsFrontWritten first (K.taken journal.new) text) }
+        → OnErr result (AppendsFront first (K.taken journal.new) text) }
     ensures empty { OnOk result (piece.new.items ≡ []) }
     ensures capacity { vec_capacity piece.new ≡ vec_capacity piece.old }
     ensures failed { OnErr result (Rose (K.faults journal.old) (K.faults journal.new)) }
@@ -74,7 +74,7 @@ fn make_room<K: Sink>(journal: &mut K, piece: &mut Vec<u8>) -> Result<(), Failed
     ensures written { (first : AnyOption (List ℕ)) (text : List ℕ) → IsWrittenSoFar first (K.taken journal.old) piece.old.items text
         → OnOk result (IsWrittenSoFar first (K.taken journal.new) piece.new.items text) }
     ensures cut { (first : AnyOption (List ℕ)) (text : List ℕ) → IsWrittenSoFar first (K.taken journal.old) piece.old.items text
-        → OnErr result (IsFrontWritten first (K.taken journal.new) text) }
+        → OnErr result (AppendsFront first (K.taken journal.new) text) }
     ensures room { OnOk result (vec_len piece.new + line_width ≤ vec_capacity piece.new) }
     ensures capacity { vec_capacity piece.new ≡ vec_capacity piece.old }
     ensures failed { OnErr result (Rose (K.faults journal.old) (K.faults journal.new)) }
@@ -126,7 +126,7 @@ impl HistoryText {
     #[inline(never)]
     pub fn write<K: Sink>(self, journal: &mut K) -> Result<(), Failed>
         ensures whole { OnOk result (Appends (K.taken journal.old) (K.taken journal.new) self) }
-        ensures cut { OnErr result (IsFrontWritten (K.taken journal.old) (K.taken journal.new) self) }
+        ensures cut { OnErr result (AppendsFront (K.taken journal.old) (K.taken journal.new) self) }
         ensures failed { OnErr result (Rose (K.faults journal.old) (K.faults journal.new)) }
         ensures count { K.faults journal.old ≤ K.faults journal.new }
     {

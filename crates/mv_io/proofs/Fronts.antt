@@ -6,7 +6,7 @@ use Rattle.std.proofs.lemmas.Slice.{take-put_mid}
 use borrow.Rule.Slice.PartMut.{put_mid}
 use Rattle.std.specs.declared.option.Option.{Option}
 use Rattle.mv_io.specs.declared.failed.Failed.{Failed}
-use Rattle.mv_io.specs.Source.{LosesFront, GivesFront, Reads}
+use Rattle.mv_io.specs.Source.{GivesFront, Reads}
 use Rattle.mv_io.specs.Sink.{Appends, Writes}
 
 -- ---- one read
@@ -58,21 +58,6 @@ GivesFront-end None mid buf i k j given rest sum = tt
 GivesFront-end (Some xs) mid buf i k j given rest sum =
     let last = rw given.left at rest in
     omega (arith, given.within, length-drop i xs)
-
--- i bytes were given, and k more were lost
-pub LosesFront-more : (old mid new : Option (List ℕ)) (buf : List ℕ) (i n room : ℕ)
-    → IfSome old (λ xs. GivesFront xs mid buf i) → IfSome mid (λ ys. (k : ℕ) × (k < n) × LosesFront ys new k) → i + n ≤ room
-    → IfSome old (λ xs. (k : ℕ) × (k < room) × LosesFront xs new k)
-LosesFront-more None mid new buf i n room given lost within = tt
-LosesFront-more (Some xs) mid new buf i n room given lost within =
-    let more = rw given.left at lost in (
-      i + more.0,
-      omega (arith, more.1),
-      record {
-        within = omega (arith, given.within, more.2.within, length-drop i xs);
-        left = more.2.left ∙ ap Some (drop-drop more.0 i xs);
-      },
-    )
 
 -- the buffer is lengthened
 pub GivesFront-longer : (old mid : Option (List ℕ)) (buf longer rest : List ℕ) (i : ℕ)

@@ -1,7 +1,7 @@
 //! The reading of a whole input. Its clauses cite specs/Source for what a source loses and gives, and specs/Fault for its cause.
 
 ghost use Rattle.std.specs.Prelude.{◌≡◌, ◌⊎◌, ◌+◌, ◌<◌, ◌≤◌, ℕ, [], length, drop, vec_len, vec_capacity, Some};
-ghost use Rattle.std.specs.Prelude.{IfSome, IfOk, IfErr, OnOk, OnErr, IsErrOf};
+ghost use Rattle.std.specs.Prelude.{IfSome, IfOk, OnErr, IsErrOf};
 ghost use Rattle.mv_io.specs.Fault.{Rose};
 ghost use Rattle.mv_io.specs.Source.{LosesFront, GivesFront};
 ghost use Rattle.mv_io.specs.declared.reading.ReadRefusal.TheVariants.{NoMemory as no_memory, Failed as failed};

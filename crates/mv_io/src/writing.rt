@@ -2,12 +2,14 @@
 
 ghost use Rattle.std.specs.Prelude.{◌<◌, ◌≤◌, length, take, IfErr, OnErr, OnOk};
 ghost use Rattle.mv_io.specs.Fault.{Rose};
-ghost use Rattle.mv_io.specs.Sink.{Appends};
+ghost use Rattle.mv_io.specs.Sink.{Appends, AppendsFront};
 
 use crate::Sink;
+use thiserror::Error;
 
 /// A sink failed before it had all bytes.
-#[derive(Clone, Copy, Debug, PartialEq, Eq)]
+#[derive(Clone, Copy, Debug, PartialEq, Eq, Error)]
+#[error("the stream failed behind {taken} bytes")]
 pub struct Partial {
     /// How many bytes of the text it took, from its front.
     pub taken: usize,
@@ -30,6 +32,7 @@ pub fn write_all<K: Sink>(sink: &mut K, bytes: &[u8]) -> Result<(), Partial>
 
     ensures partial { IfErr result (λ partial. Appends (K.taken sink.old) (K.taken sink.new) (take partial.taken bytes.now)) }
     ensures short { IfErr result (λ partial. partial.taken < length bytes.now) }
+    ensures front { OnErr result (AppendsFront (K.taken sink.old) (K.taken sink.new) bytes.now) }
     ensures failed { OnErr result (Rose (K.faults sink.old) (K.faults sink.new)) }
 
     ensures count { K.faults sink.old ≤ K.faults sink.new }

@@ -1,6 +1,6 @@
 -- What was written stands behind what was taken.
-use Rattle.std.proofs.Common.{List, ℕ, length, take, subst, sym, ap, arith}
-use Rattle.mv_io.specs.Sink.{Appends}
+use Rattle.std.proofs.Common.{List, ℕ, subst, sym}
+use Rattle.mv_io.specs.Sink.{Appends, AppendsFront}
 use Rattle.mv_entrytext.specs.HistoryText.{IsWrittenSoFar}
 use Rattle.mv_entrytext.proofs.WrittenSoFar.{written_on, cut_there}
 use Rattle.mv_entrytext.proofs.history_text.write_piece.Goals as goal
@@ -17,7 +17,5 @@ pub returns-in-Err-clause-cut : goal.returns-in-Err-clause-cut
 returns-in-Err-clause-cut g c = λ first text p.
     let mid = g.K.Sink.taken c.args.journal.now in
     let new = g.K.Sink.taken c.write_all.new.sink in
-    let k : ℕ = c.in-Err.field-0.taken in
-    cut_there first mid new c.args.piece.now.items text k
-    (omega (arith, c.in-Err.ensures.short, ap (λ (xs : List ℕ). length xs) c.deref.ensures.value))
-    (subst (λ (xs : List ℕ). Appends mid new (take k xs)) c.deref.ensures.value c.in-Err.ensures.partial) p
+    cut_there first mid new c.args.piece.now.items text
+    (subst (λ (xs : List ℕ). AppendsFront mid new xs) c.deref.ensures.value c.in-Err.ensures.front) p

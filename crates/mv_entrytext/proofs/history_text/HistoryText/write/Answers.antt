@@ -1,11 +1,12 @@
 -- Each entry that is given is numbered, and its line is put behind the others.
 use Rattle.std.proofs.Common.{ℕ, List, [], ◌∷◌, ◌++◌, length, Some, subst, refl, sym, ap, ◌∙◌, arith}
 use Rattle.std.proofs.lemmas.List.{length-append}
+use Rattle.mv_io.specs.Sink.{AppendsFront}
 use Rattle.mv_machine.specs.declared.entry.Entry.{Entry}
 use Rattle.mv_machine.specs.History.{IsGiven}
 use Rattle.mv_machine.specs.Setup.{Setup}
 use Rattle.mv_calls.specs.Counters.{HasCounted, IsCountable, IsCountedNext}
-use Rattle.mv_entrytext.specs.HistoryText.{IsWrittenSoFar, IsFrontWritten, text_up_to}
+use Rattle.mv_entrytext.specs.HistoryText.{IsWrittenSoFar, text_up_to}
 use Rattle.mv_entrytext.specs.Journal.{EntryOf, line}
 use Rattle.mv_entrytext.proofs.OnePass.{given_countable, shorter_so_far, split_there}
 use Rattle.mv_entrytext.proofs.WrittenSoFar.{all_written, cut_so_far, head_waits, if_refused, written_more, written_out, text_line_more}
@@ -35,7 +36,7 @@ returns-in_err-make_room-clause-cut g c =
     let old = g.K.Sink.taken c.args.journal.now in
     let now = g.K.Sink.taken c.make_room.new.journal in
     if_refused c.from_residual.result
-    (subst (λ (text : List ℕ). IsFrontWritten old now text) c.self.view_is
+    (subst (λ (text : List ℕ). AppendsFront old now text) c.self.view_is
     (cut_so_far old now x.history.config h.past h.coming x.history.coming known.whole
     (c.in_err-make_room.ensures.cut old (text_up_to x.history.config h.past) known.written)))
 
@@ -80,7 +81,8 @@ loop-entry-preserved g c =
     let now = g.K.Sink.taken c.make_room.new.journal in
     let longer = c.put_entry_line.new.out.items in
     let written : IsWrittenSoFar old now longer (text_up_to start h.past ++ line (EntryOf (Some n) e)) =
-    written_more old now c.make_room.new.piece.items longer (text_up_to start h.past) (line (EntryOf (Some n) e)) c.put_entry_line.ensures.text
+    written_more old now c.make_room.new.piece.items longer (text_up_to start h.past) (line (EntryOf (Some n) e))
+    c.put_entry_line.ensures.text
     (c.in_ok-make_room.ensures.written old (text_up_to start h.past) known.written) in
     record {
       config = given.config ∙ known.config;
@@ -102,7 +104,7 @@ returns-in_err-make_room-2-clause-cut g c =
     let old = g.K.Sink.taken c.args.journal.now in
     let now = g.K.Sink.taken c.make_room-2.new.journal in
     if_refused c.from_residual-in_err-make_room-2.result
-    (subst (λ (text : List ℕ). IsFrontWritten old now text) c.self.view_is
+    (subst (λ (text : List ℕ). AppendsFront old now text) c.self.view_is
     (cut_so_far old now x.history.config h.past h.coming x.history.coming known.whole
     (c.in_err-make_room-2.ensures.cut old (text_up_to x.history.config h.past) known.written)))
 
