@@ -8,6 +8,3 @@ mod word;
 pub use laws::complete_keeps_its_code;
 pub use operation::{CODE_LIMIT, EcbOp, EcbReply};
 pub use word::{EcbWord, ecb_apply};
-
-#[cfg(test)]
-mod tests;

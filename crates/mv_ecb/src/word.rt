@@ -1,6 +1,6 @@
 //! The fullword of an event control block (`specs/Word.antt`), and the operations on it (`specs/Table.antt`).
 
-ghost use Rattle.std.specs.Prelude.{◌≡◌, ◌<◌, ◌^◌, ◌↔◌, IsSome, IfSome};
+ghost use Rattle.std.specs.Prelude.{◌≡◌, ◌<◌, ◌↔◌, IsSome, IfSome};
 ghost use Rattle.mv_ecb.specs.Word.{IsEcbWord, Zero, is_complete as is_complete_state, word_of, state_of};
 ghost use Rattle.mv_ecb.specs.Table.{IsEcbOp, code_limit, ecb_step, wait_step, standing_reply};
 

@@ -28,6 +28,14 @@ paused g = record { generation = g; phase = Paused; code = 0; kept = refl }
 abbrev pub released : ℕ → ℕ → ElementState
 released g d = record { generation = g; phase = Released; code = d; kept = refl }
 
+-- the state in a phase, of a generation, with the code of a phase that keeps one
+abbrev pub in_phase : Phase → ℕ → ℕ → ElementState
+in_phase Free g d = free g
+in_phase Reset g d = reset g
+in_phase Prereleased g d = prereleased g d
+in_phase Paused g d = paused g
+in_phase Released g d = released g d
+
 -- whether a pause was released and not resumed yet
 abbrev pub is_released : Phase → Bool
 is_released Released = true

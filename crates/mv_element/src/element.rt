@@ -43,7 +43,7 @@ pub struct ElementState {
 }
 
 impl ElementState {
-    ghost use Rattle.mv_element.specs.Element.{free, reset, prereleased, paused, released};
+    ghost use Rattle.mv_element.specs.Element.{free, reset, prereleased, paused, released, in_phase};
 
     /// Not allocated, so many pauses being over.
     pub fn free(generation: u32) -> ElementState
@@ -97,6 +97,21 @@ impl ElementState {
             generation,
             phase: Phase::Released,
             code,
+        }
+    }
+
+    /// The state in a phase. A code that the phase does not keep is not asked.
+    // It is inlined: so a log's entries are read back.
+    #[inline(always)]
+    pub fn in_phase(phase: Phase, generation: u32, code: u32) -> ElementState
+        ensures { result ≡ in_phase phase generation code }
+    {
+        match phase {
+            Phase::Free => ElementState::free(generation),
+            Phase::Reset => ElementState::reset(generation),
+            Phase::Prereleased => ElementState::prereleased(generation, code),
+            Phase::Paused => ElementState::paused(generation),
+            Phase::Released => ElementState::released(generation, code),
         }
     }
 }

@@ -10,6 +10,3 @@ pub use element::{ElementState, GENERATION_LIMIT, Phase, Token};
 pub use laws::generation_rises_as_it_ends;
 pub use operation::{ElementOp, ElementReply, RELEASE_LIMIT};
 pub use table::element_apply;
-
-#[cfg(test)]
-mod tests;

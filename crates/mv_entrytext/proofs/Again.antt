@@ -1,5 +1,5 @@
 -- Each operation and reply that is written is read again.
-use Rattle.std.proofs.Common.{◌≡◌, ℕ, ◌≤◌, Bool, true, false, List, ◌∷◌, ◌++◌, Some, decimal, refl, sym, ap, arith}
+use Rattle.std.proofs.Common.{◌≡◌, ℕ, ◌≤◌, Bool, true, false, List, ◌∷◌, ◌++◌, Some, decimal, refl, ap, arith}
 use Rattle.std.proofs.lemmas.Bool.{eqb-true}
 use Rattle.mv_ecb.specs.declared.operation.EcbOp.{EcbOp}
 use Rattle.mv_ecb.specs.declared.operation.EcbOp.TheVariants as ecb_op_of
@@ -13,7 +13,7 @@ use Rattle.mv_element.specs.declared.operation.ElementOp.{ElementOp}
 use Rattle.mv_element.specs.declared.operation.ElementOp.TheVariants as element_op_of
 use Rattle.mv_element.specs.declared.operation.ElementReply.{ElementReply}
 use Rattle.mv_element.specs.declared.operation.ElementReply.TheVariants as element_reply_of
-use Rattle.mv_element.proofs.States.{same_state}
+use Rattle.mv_element.proofs.States.{state_by_phase}
 use Rattle.mv_latch.specs.declared.request.Mode.{Mode}
 use Rattle.mv_latch.specs.declared.request.Mode.TheVariants.{Shared, Exclusive}
 use Rattle.mv_latch.specs.declared.request.LatchForm.{LatchForm}
@@ -33,7 +33,7 @@ use Rattle.mv_entrytext.specs.Ranges.{highest_u32, highest_u64, highest_ecb_code
 use Rattle.mv_entrytext.specs.EcbText.{ecb_op_text, ecb_reply_text, IsEcbOpInRange, IsEcbReplyInRange, IsEcbReplyTyped, ecb_op, ecb_reply}
 use Rattle.mv_entrytext.specs.ElementText.{phase_text, element_op_text, element_reply_text, IsElementOpInRange, IsElementOpTyped}
 use Rattle.mv_entrytext.specs.ElementText.{IsElementReplyInRange, release_code, reached_generation, phase, highest_kept, kept_code}
-use Rattle.mv_entrytext.specs.ElementText.{state_in, element_state, element_op, telling_reply, element_reply}
+use Rattle.mv_entrytext.specs.ElementText.{element_state, element_op, telling_reply, element_reply}
 use Rattle.mv_entrytext.specs.VolumeText.{volume_op_text, volume_reply_text, IsVolumeOpTyped, IsVolumeReplyTyped, volume_op, volume_reply}
 use Rattle.mv_entrytext.specs.LatchText.{mode_text, form_text, condition_text, latch_op_text, latch_reply_text, IsFormTyped}
 use Rattle.mv_entrytext.specs.LatchText.{IsLatchOpTyped, IsLatchReplyTyped, mode_read, form_read, condition, two_u32, obtain_rest, obtain}
@@ -118,14 +118,6 @@ highest_kept-le Prereleased = omega arith
 highest_kept-le Paused = omega arith
 highest_kept-le Released = omega arith
 
--- a state is that of its phase, generation and code
-state_back : (s : ElementState) (p : Phase) → s.phase ≡ p → state_in p s.generation s.code ≡ s
-state_back s Free e = same_state (state_in Free s.generation s.code) s refl (sym e) (sym (no_code s Free e refl))
-state_back s Reset e = same_state (state_in Reset s.generation s.code) s refl (sym e) (sym (no_code s Reset e refl))
-state_back s Prereleased e = same_state (state_in Prereleased s.generation s.code) s refl (sym e) refl
-state_back s Paused e = same_state (state_in Paused s.generation s.code) s refl (sym e) (sym (no_code s Paused e refl))
-state_back s Released e = same_state (state_in Released s.generation s.code) s refl (sym e) refl
-
 abbrev pub state_text : ElementState → List ℕ
 state_text s = decimal s.generation <+> phase_text s.phase <+> decimal s.code
 
@@ -141,7 +133,7 @@ state_again s rest g c e =
     parted_again (reached_generation true) (λ _. parted_by phase (kept_code true)) s.generation (s.phase, s.code) (decimal s.generation)
     (phase_text s.phase <+> decimal s.code) rest
     (generation_again s.generation (32 ∷ ((phase_text s.phase <+> decimal s.code) ++ rest)) g refl) tail in
-    rw all (ap (λ (x : ElementState). Some (x, rest)) (state_back s s.phase refl))
+    rw all (ap (λ (x : ElementState). Some (x, rest)) (state_by_phase s))
 
 pub element_reply_again : (r : ElementReply) (rest : List ℕ) → IsElementReplyInRange r → Ends rest
     → element_reply true (element_reply_text r ++ rest) ≡ Some (r, rest)

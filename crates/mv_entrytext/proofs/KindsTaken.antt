@@ -15,13 +15,14 @@ use Rattle.mv_latch.specs.declared.operation.LatchOp.TheVariants as latch_op_of
 use Rattle.mv_latch.specs.declared.operation.LatchReply.TheVariants as latch_reply_of
 use Rattle.mv_machine.specs.declared.entry.VolumeOp.TheVariants.{Read, Write}
 use Rattle.mv_machine.specs.declared.entry.VolumeReply.TheVariants.{Value, Stored}
+use Rattle.mv_element.specs.Element.{in_phase}
 use Rattle.mv_entrytext.specs.Words.{◌<+>◌}
 use Rattle.mv_entrytext.specs.Reading.{behind, number, any_u32, any_u64, parted, parted_by, parted_at}
 use Rattle.mv_entrytext.specs.Ranges.{highest_u32, highest_u64, highest_ecb_code, highest_release_code}
 use Rattle.mv_entrytext.specs.EcbText.{ecb_op_text, ecb_reply_text, IsEcbOpInRange, IsEcbReplyInRange, IsEcbReplyTyped, ecb_op, ecb_reply}
 use Rattle.mv_entrytext.specs.ElementText.{phase_text, element_op_text, element_reply_text, IsElementOpInRange, IsElementOpTyped}
 use Rattle.mv_entrytext.specs.ElementText.{IsElementReplyInRange, release_code, reached_generation, phase, highest_kept, kept_code}
-use Rattle.mv_entrytext.specs.ElementText.{state_in, element_state, element_op, telling_reply, element_reply}
+use Rattle.mv_entrytext.specs.ElementText.{element_state, element_op, telling_reply, element_reply}
 use Rattle.mv_entrytext.specs.VolumeText.{volume_op_text, volume_reply_text, IsVolumeOpTyped, IsVolumeReplyTyped, volume_op, volume_reply}
 use Rattle.mv_entrytext.specs.LatchText.{mode_text, form_text, condition_text, latch_op_text, latch_reply_text, IsFormTyped}
 use Rattle.mv_entrytext.specs.LatchText.{IsLatchOpTyped, IsLatchReplyTyped, mode_read, form_read, condition, two_u32, obtain_rest, obtain}
@@ -115,7 +116,7 @@ parts_text x = decimal x.0 <+> phase_text x.1.0 <+> decimal x.1.1
 abbrev AreParts : ℕ × (Phase × ℕ) → Type 0
 AreParts x = (x.0 ≤ highest_generation) × (Unit {0} × (x.1.1 ≤ highest_kept x.1.0))
 
-parts_are : (g : ℕ) (p : Phase) (d : ℕ) → d ≤ highest_kept p → decimal g <+> phase_text p <+> decimal d ≡ state_text (state_in p g d)
+parts_are : (g : ℕ) (p : Phase) (d : ℕ) → d ≤ highest_kept p → decimal g <+> phase_text p <+> decimal d ≡ state_text (in_phase p g d)
 parts_are g Free d le = let z : d ≡ 0 = omega arith in ap (λ (n : ℕ). decimal g <+> phase_text Free <+> decimal n) z
 parts_are g Reset d le = let z : d ≡ 0 = omega arith in ap (λ (n : ℕ). decimal g <+> phase_text Reset <+> decimal n) z
 parts_are g Prereleased d le = refl
@@ -125,7 +126,7 @@ parts_are g Released d le = refl
 abbrev pub IsStateFine : ElementState → Type 0
 IsStateFine s = (s.generation ≤ highest_generation) × (s.code ≤ highest_release_code)
 
-state_fine : (g : ℕ) (p : Phase) (d : ℕ) → g ≤ highest_generation → d ≤ highest_kept p → IsStateFine (state_in p g d)
+state_fine : (g : ℕ) (p : Phase) (d : ℕ) → g ≤ highest_generation → d ≤ highest_kept p → IsStateFine (in_phase p g d)
 state_fine g Free d lg ld = (lg, omega arith)
 state_fine g Reset d lg ld = (lg, omega arith)
 state_fine g Prereleased d lg ld = (lg, ld)
@@ -135,7 +136,7 @@ state_fine g Released d lg ld = (lg, ld)
 takes_state : Takes state_text (λ s. IsStateFine s) (element_state true)
 unfolding element_state
 takes_state =
-    takes_made state_text (λ s. IsStateFine s) (λ x. state_in x.1.0 x.0 x.1.1) parts_text (λ x. AreParts x)
+    takes_made state_text (λ s. IsStateFine s) (λ x. in_phase x.1.0 x.0 x.1.1) parts_text (λ x. AreParts x)
     (parted (reached_generation true) (parted_by phase (kept_code true)))
     (λ x h. parts_are x.0 x.1.0 x.1.1 h.1.1) (λ x h. state_fine x.0 x.1.0 x.1.1 h.0 h.1.1)
     (takes_parted (reached_generation true) (λ _. parted_by phase (kept_code true)) decimal (λ q. phase_text q.0 <+> decimal q.1)

@@ -1,7 +1,7 @@
 -- Operations on pause elements and their replies: their words, their ranges, and how they are read.
 use Rattle.std.specs.Prelude.{ℕ, ◌≤◌, Bool, List, codes, decimal, if◌then◌else◌}
 use Rattle.mv_element.specs.Code.{keeps_code}
-use Rattle.mv_element.specs.Element.{free, reset, prereleased, paused, released}
+use Rattle.mv_element.specs.Element.{in_phase}
 use Rattle.mv_element.specs.declared.element.ElementState.{ElementState}
 use Rattle.mv_element.specs.declared.element.Phase.{Phase}
 use Rattle.mv_element.specs.declared.element.Phase.TheVariants.{Free, Reset, Prereleased, Paused, Released}
@@ -100,18 +100,10 @@ highest_kept phase = if keeps_code phase then highest_release_code else 0
 abbrev pub kept_code : Bool → Phase → Reader ℕ
 kept_code strict phase = number strict 0 (highest_kept phase)
 
--- the state of this phase
-abbrev pub state_in : Phase → ℕ → ℕ → ElementState
-state_in Free generation code = free generation
-state_in Reset generation code = reset generation
-state_in Prereleased generation code = prereleased generation code
-state_in Paused generation code = paused generation
-state_in Released generation code = released generation code
-
 -- a generation, a phase and a code
 unfoldable pub element_state : Bool → Reader ElementState
 element_state strict =
-    made (λ x. state_in x.1.0 x.0 x.1.1) (parted (reached_generation strict) (parted_by phase (kept_code strict)))
+    made (λ x. in_phase x.1.0 x.0 x.1.1) (parted (reached_generation strict) (parted_by phase (kept_code strict)))
 
 -- an operation, read
 unfoldable pub element_op : Bool → Reader ElementOp

@@ -1,7 +1,7 @@
 //! Operations on pause elements and their replies, as text: `specs/ElementText.antt`.
 
 ghost use Rattle.std.specs.Prelude.{◌≡◌, ◌≤◌, ◌+◌, ◌++◌, vec_len, vec_capacity};
-ghost use Rattle.mv_entrytext.specs.ElementText.{phase_text, element_op_text, element_reply_text, phase, highest_kept, state_in};
+ghost use Rattle.mv_entrytext.specs.ElementText.{phase_text, element_op_text, element_reply_text, phase, highest_kept};
 ghost use Rattle.mv_entrytext.specs.ElementText.{element_state, element_op, telling_reply, element_reply};
 ghost use Rattle.mv_entrytext.specs.Reading.{seen};
 ghost use Rattle.mv_entrytext.specs.Widths.{op_width, phase_width, reply_width};
@@ -148,18 +148,6 @@ fn highest_kept(phase: Phase) -> u32
     }
 }
 
-fn state_in(phase: Phase, generation: u32, code: u32) -> ElementState
-    ensures { result ≡ state_in phase generation code }
-{
-    match phase {
-        Phase::Free => ElementState::free(generation),
-        Phase::Reset => ElementState::reset(generation),
-        Phase::Prereleased => ElementState::prereleased(generation, code),
-        Phase::Paused => ElementState::paused(generation),
-        Phase::Released => ElementState::released(generation, code),
-    }
-}
-
 #[tactic(auto, unfolding(crate::specs::ElementText::element_state, crate::specs::Reading::parted_at))]
 fn read_state(strict: bool, text: &[u8]) -> Option<(ElementState, &[u8])>
     ensures { seen result ≡ element_state strict text.now }
@@ -167,7 +155,7 @@ fn read_state(strict: bool, text: &[u8]) -> Option<(ElementState, &[u8])>
     let (generation, rest) = number_u32(strict, 0, HIGHEST_GENERATION, text)?;
     let (phase, rest) = read_phase(after(rest, b" ")?)?;
     let (code, rest) = number_u32(strict, 0, highest_kept(phase), after(rest, b" ")?)?;
-    Some((state_in(phase, generation, code), rest))
+    Some((ElementState::in_phase(phase, generation, code), rest))
 }
 
 // A reply that tells something.

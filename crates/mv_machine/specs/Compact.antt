@@ -3,12 +3,10 @@
 use Rattle.std.specs.Prelude.{ℕ, true, false}
 use Rattle.mv_ecb.specs.declared.operation.EcbOp.TheVariants as ecb_op
 use Rattle.mv_ecb.specs.declared.operation.EcbReply.TheVariants as ecb_reply
-use Rattle.mv_element.specs.declared.element.ElementState.{ElementState}
 use Rattle.mv_element.specs.declared.element.Phase.{Phase}
-use Rattle.mv_element.specs.declared.element.Phase.TheVariants.{Free, Reset, Prereleased, Paused, Released}
 use Rattle.mv_element.specs.declared.operation.ElementOp.TheVariants as element_op
 use Rattle.mv_element.specs.declared.operation.ElementReply.TheVariants as element_reply
-use Rattle.mv_element.specs.Element.{free, reset, prereleased, paused, released}
+use Rattle.mv_element.specs.Element.{in_phase}
 use Rattle.mv_latch.specs.declared.operation.LatchOp.TheVariants as latch_op
 use Rattle.mv_latch.specs.declared.operation.LatchReply.TheVariants as latch_reply
 use Rattle.mv_latch.specs.declared.request.LatchForm.TheVariants.{Conditional, Waiting, Posted}
@@ -55,14 +53,6 @@ op_by op.LatchPurge mode r a b = op_on.Latch (latch_op.Purge r)
 abbrev pub op_of : OpParts → Op
 op_of p = op_by p.kind p.mode p.requestor p.first p.second
 
--- the state of an element in a phase, of a generation, with the code of a phase that keeps one
-abbrev pub state_of : Phase → ℕ → ℕ → ElementState
-state_of Free g d = free g
-state_of Reset g d = reset g
-state_of Prereleased g d = prereleased g d
-state_of Paused g d = paused g
-state_of Released g d = released g d
-
 -- the reply of a kind, with a phase and two numbers
 abbrev pub reply_by : ReplyKind → Phase → ℕ → ℕ → Reply
 reply_by reply.EcbArmed phase a b = of.Ecb ecb_reply.Armed
@@ -85,7 +75,7 @@ reply_by reply.ElementEarly phase a b = of.Element element_reply.Early
 reply_by reply.ElementWoke phase a b = of.Element element_reply.Woke
 reply_by reply.ElementAlready phase a b = of.Element element_reply.Already
 reply_by reply.ElementClosed phase a b = of.Element element_reply.Closed
-reply_by reply.ElementState phase a b = of.Element (element_reply.State (state_of phase a b))
+reply_by reply.ElementState phase a b = of.Element (element_reply.State (in_phase phase a b))
 reply_by reply.VolumeValue phase a b = of.Volume (volume_reply.Value a)
 reply_by reply.VolumeStored phase a b = of.Volume volume_reply.Stored
 reply_by reply.LatchGranted phase a b = of.Latch (latch_reply.Granted a)

@@ -2,7 +2,7 @@
 //! any of them have.
 
 ghost use Rattle.std.specs.Prelude.{◌≡◌, ℕ};
-ghost use Rattle.mv_machine.specs.Compact.{op_of, reply_of, state_of as state_by_phase, entry_of};
+ghost use Rattle.mv_machine.specs.Compact.{op_of, reply_of, entry_of};
 
 use crate::entry::{Entry, Object, Op, Reply, VolumeOp, VolumeReply};
 use mv_ecb::{EcbOp, EcbReply};
@@ -306,7 +306,7 @@ fn compact_ecb_reply(ecb: EcbReply) -> ReplyParts
 }
 
 #[inline(always)]
-#[tactic(auto, using(crate::proofs::Compacts::state_by_phase))]
+#[tactic(auto, using(mv_element::proofs::States::state_by_phase))]
 fn compact_element_reply(element: ElementReply) -> ReplyParts
     ensures { reply_of result ≡ Reply.Element element }
 {
@@ -395,7 +395,7 @@ impl ReplyParts {
             ReplyKind::ElementWoke => Reply::Element(ElementReply::Woke),
             ReplyKind::ElementAlready => Reply::Element(ElementReply::Already),
             ReplyKind::ElementClosed => Reply::Element(ElementReply::Closed),
-            ReplyKind::ElementState => Reply::Element(ElementReply::State(state_in(
+            ReplyKind::ElementState => Reply::Element(ElementReply::State(ElementState::in_phase(
                 phase, first, second,
             ))),
             ReplyKind::VolumeValue => Reply::Volume(VolumeReply::Value(first)),
@@ -411,20 +411,6 @@ impl ReplyParts {
                 granted: second,
             }),
         }
-    }
-}
-
-// The state of an element in this phase. A code that the phase does not keep is not asked.
-#[inline(always)]
-fn state_in(phase: Phase, generation: u32, code: u32) -> ElementState
-    ensures { result ≡ state_by_phase phase generation code }
-{
-    match phase {
-        Phase::Free => ElementState::free(generation),
-        Phase::Reset => ElementState::reset(generation),
-        Phase::Prereleased => ElementState::prereleased(generation, code),
-        Phase::Paused => ElementState::paused(generation),
-        Phase::Released => ElementState::released(generation, code),
     }
 }
 
