@@ -11,6 +11,7 @@ use Rattle.mv_deck.specs.declared.form.Version.{Version}
 use Rattle.mv_deck.specs.declared.names.Names.{Names}
 use Rattle.mv_deck.specs.declared.reading.Reading.{Reading}
 use Rattle.mv_line.specs.declared.fault.LineRefusal.{LineRefusal}
+use Rattle.mv_line.specs.Fault.{TellsLowest}
 use Rattle.mv_line.specs.Line.{shown, is_ignored, is_foreign, is_too_long}
 use Rattle.mv_deck.specs.Line.{is_comment}
 use Rattle.mv_deck.specs.Operand.{is_name}
@@ -18,9 +19,9 @@ use Rattle.mv_deck.specs.Statement.{Statement, JobOf, AfterPart, form_of, statem
 use Rattle.mv_deck.specs.Form.{part_data, bytes_behind}
 use Rattle.mv_deck.specs.Deck.{JobData, place_of}
 use Rattle.mv_deck.specs.Fault.{has_bad_name, has_bad_number, awaits_no_job, accepts_no_code, is_crowded, has_double, kinds_of}
-use Rattle.mv_deck.specs.Fault.{kinds_of_statement}
+use Rattle.mv_deck.specs.Fault.{kind_number, kinds_of_statement}
 use Rattle.mv_deck.specs.Names.{place_in}
-use Rattle.mv_deck.specs.Reading.{IsBehind, TellsLowest}
+use Rattle.mv_deck.specs.Reading.{IsBehind}
 use Rattle.mv_deck.proofs.Mapped.{any-map}
 
 -- tests that agree on each element agree on a list
@@ -101,7 +102,7 @@ is_shown n v earlier line text s same a b c d e =
 -- what became of a line or a statement of which these are the kinds and the statements
 abbrev pub Taken : {A : Type 0} → ℕ → Version → List Statement → List ℕ → List Statement → Reading → Result A (LineRefusal Kind) → Type 0
 Taken n v earlier kinds statements next result = MatchResult result (λ _. (kinds ≡ []) × IsBehind n v (earlier ++ statements) next)
-    (λ e. TellsLowest e kinds)
+    (λ e. TellsLowest kind_number e kinds)
 
 -- what becomes of a statement becomes of its line
 pub taken : {A : Type 0} (n : ℕ) (v : Version) (earlier : List Statement) (line : List ℕ) (s : Statement) (next : Reading)

@@ -9,18 +9,19 @@ use Rattle.mv_deck.specs.Statement.{Statement, Null, DeckOf, JobOf, PrintOf, Use
 use Rattle.mv_deck.specs.Deck.{JobData, step_of, with_step, jobs_behind, last_steps}
 use Rattle.mv_deck.specs.Held.{is_out_of_order, lacks_latch, is_end}
 use Rattle.mv_deck.specs.Weight.{weight, heaviest}
-use Rattle.mv_deck.specs.Fault.{is_null, is_job, is_deck, kinds_behind, when}
+use Rattle.mv_deck.specs.Fault.{is_null, is_job, is_deck, kind_number, kinds_behind}
+use Rattle.mv_line.specs.Fault.{when}
 
 -- the kinds of fault of a step behind these jobs
 abbrev pub kinds_of_step : ℕ → Bool → List JobData → Step → List ℕ
 kinds_of_step n misplaced jobs step =
     let ended = list_any is_end (last_steps jobs) && true in
     let asked = not misplaced && not ended in
-    when (is_out_of_order (last_steps jobs) step && asked) LatchOrder
-    ++ (when (lacks_latch (last_steps jobs) step && asked) LatchNotHeld
-    ++ (when misplaced Misplaced
-    ++ (when (ended && not misplaced) BehindEnd
-    ++ (when (nat_lt heaviest (weight (with_step jobs step) n) && asked) TooHeavy ++ []))))
+    when kind_number (is_out_of_order (last_steps jobs) step && asked) LatchOrder
+    ++ (when kind_number (lacks_latch (last_steps jobs) step && asked) LatchNotHeld
+    ++ (when kind_number misplaced Misplaced
+    ++ (when kind_number (ended && not misplaced) BehindEnd
+    ++ (when kind_number (nat_lt heaviest (weight (with_step jobs step) n) && asked) TooHeavy ++ []))))
 
 -- where a step may not stand
 abbrev pub is_outside : List Statement → Bool

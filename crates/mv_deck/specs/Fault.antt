@@ -1,6 +1,6 @@
 -- The faults of a text: one test for each kind of fault that a line can have, and which fault is the first.
 use Rattle.std.specs.Prelude.{ℕ, Bool, true, false, ◌&&◌, ◌||◌, not, nat_lt, List, [], ◌∷◌, ◌++◌, length, Option, Some}
-use Rattle.std.specs.Prelude.{None, is_none, is_some, option_to_list, codes, if◌then◌else◌}
+use Rattle.std.specs.Prelude.{None, is_none, is_some, option_to_list, codes}
 use Rattle.std.specs.List.{list_any}
 use Rattle.std.specs.Str.{bytes_eq}
 use Rattle.mv_deck.specs.declared.deck.Step.{Step}
@@ -11,7 +11,7 @@ use Rattle.mv_deck.specs.declared.fault.Kind.TheVariants.{LateDeck}
 use Rattle.mv_deck.specs.declared.form.Version.{Version}
 use Rattle.mv_line.specs.Line.{lines_of, is_foreign, is_too_long}
 use Rattle.mv_line.specs.declared.fault.TextFault.{TextFault}
-use Rattle.mv_line.specs.Fault.{LineRules, HasFaultAt, faults_by_line, first_of_list}
+use Rattle.mv_line.specs.Fault.{LineRules, HasFaultAt, faults_by_line, first_of_list, when}
 pub use Rattle.mv_line.specs.Fault.{TellsFirst}
 use Rattle.mv_deck.specs.Line.{is_passed}
 use Rattle.mv_deck.specs.Operand.{is_name, code_of, most_after}
@@ -150,27 +150,23 @@ is_too_heavy initiators jobs s = nat_lt heaviest (weight (jobs_behind jobs s) in
 
 -- ---- all faults, and the first
 
--- the number of a kind, where its test holds
-abbrev pub when : Bool → Kind → List ℕ
-when holds kind = if holds then kind_number kind ∷ [] else []
-
 -- The kinds of fault of a statement behind the earlier ones, which leave these jobs, rising. A misplaced statement and one
 -- behind the end of its job are not asked all.
 abbrev pub kinds_behind : ℕ → List Statement → List JobData → Statement → List ℕ
 kinds_behind initiators earlier jobs s =
     let placed = not (is_misplaced earlier s) in
     let asked = placed && not (is_behind_end jobs s) in
-    when (has_bad_name s) BadName
-    ++ (when (repeats_name jobs s && placed) RepeatedName
-    ++ (when (awaits_no_job jobs s && placed) UnknownAfter
-    ++ (when (is_crowded s && placed) CrowdedAfter
-    ++ (when (has_bad_number s) BadNumber
-    ++ (when (uses_out_of_order jobs s && asked) LatchOrder
-    ++ (when (needs_latch jobs s && asked) LatchNotHeld
-    ++ (when (is_misplaced earlier s) Misplaced
-    ++ (when (is_behind_end jobs s && placed) BehindEnd
-    ++ (when (is_too_heavy initiators jobs s && asked) TooHeavy
-    ++ when (is_late_deck earlier s && asked) LateDeck)))))))))
+    when kind_number (has_bad_name s) BadName
+    ++ (when kind_number (repeats_name jobs s && placed) RepeatedName
+    ++ (when kind_number (awaits_no_job jobs s && placed) UnknownAfter
+    ++ (when kind_number (is_crowded s && placed) CrowdedAfter
+    ++ (when kind_number (has_bad_number s) BadNumber
+    ++ (when kind_number (uses_out_of_order jobs s && asked) LatchOrder
+    ++ (when kind_number (needs_latch jobs s && asked) LatchNotHeld
+    ++ (when kind_number (is_misplaced earlier s) Misplaced
+    ++ (when kind_number (is_behind_end jobs s && placed) BehindEnd
+    ++ (when kind_number (is_too_heavy initiators jobs s && asked) TooHeavy
+    ++ when kind_number (is_late_deck earlier s && asked) LateDeck)))))))))
 
 -- the same for a line that may state nothing
 abbrev pub kinds_of_statement : ℕ → List Statement → Option Statement → List ℕ
@@ -180,9 +176,9 @@ kinds_of_statement initiators earlier (Some s) = kinds_behind initiators earlier
 -- the kinds of fault of a line behind the earlier statements, rising
 abbrev pub kinds_of : ℕ → Version → List Statement → List ℕ → List ℕ
 kinds_of initiators v earlier line =
-    when (is_foreign line) ForeignByte
-    ++ (when (is_too_long line) TooLong
-    ++ (when (has_no_form v line) NoForm
+    when kind_number (is_foreign line) ForeignByte
+    ++ (when kind_number (is_too_long line) TooLong
+    ++ (when kind_number (has_no_form v line) NoForm
     ++ kinds_of_statement initiators earlier (statement_of v line)))
 
 -- the rules of a deck's lines: it ends with the null statement

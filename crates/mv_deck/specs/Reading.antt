@@ -3,14 +3,11 @@ use Rattle.std.specs.Prelude.{◌≡◌, ℕ, ◌+◌, ◌≤◌, false, nat_lt,
 use Rattle.std.specs.List.{list_any}
 use Rattle.mv_deck.specs.declared.deck.After.{After}
 use Rattle.mv_deck.specs.declared.deck.Step.{Step}
-use Rattle.mv_deck.specs.declared.fault.Kind.{Kind}
 use Rattle.mv_deck.specs.declared.form.Version.{Version}
 use Rattle.mv_deck.specs.declared.reading.Reading.{Reading}
 use Rattle.mv_deck.specs.Statement.{Statement}
 use Rattle.mv_deck.specs.Deck.{JobData, job_data, jobs_of, place_of, last_steps}
-use Rattle.mv_deck.specs.Fault.{is_null, is_job, kind_number, has_bad_name, has_bad_number, is_misplaced}
-use Rattle.mv_line.specs.declared.fault.LineRefusal.{LineRefusal}
-use Rattle.mv_line.specs.Fault as lines
+use Rattle.mv_deck.specs.Fault.{is_null, is_job, has_bad_name, has_bad_number, is_misplaced}
 use Rattle.mv_deck.specs.Fault.{repeats_name, awaits_no_job, is_crowded}
 use Rattle.mv_deck.specs.Held.{held, latches, is_end}
 use Rattle.mv_deck.specs.Names.{place_in}
@@ -45,10 +42,6 @@ pub record IsBehind (initiators : ℕ) (v : Version) (statements : List Statemen
   pub begun : is_some r.name ≡ list_any is_job statements
   pub stated : r.stated ≡ nat_lt 0 (length statements)
   pub ended : r.ended ≡ list_any is_null statements
-
--- the kind that is told is the lowest
-abbrev pub TellsLowest : LineRefusal Kind → List ℕ → Type 0
-TellsLowest refusal kinds = lines.Tells kind_number refusal kinds
 
 -- what a statement has no fault of, but for those of the job that it stands in and for the weight
 pub record IsGoodJob (earlier : List Statement) (jobs : List JobData) (s : Statement) : Type 0 where

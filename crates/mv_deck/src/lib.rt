@@ -25,4 +25,4 @@ pub use load::{MOST_JOBS, load_deck};
 pub use mv_line::{TextFault as DeckFault, TextRefusal as DeckRefusal};
 pub use operand::{MOST_AFTER, VOLUME_COUNT};
 pub use reading::read_deck;
-pub use weight::MOST_INITIATORS;
+pub use weight::{MOST_INITIATORS, step_events};

@@ -1,17 +1,18 @@
 //! The reader of decks, line by line (`specs/Reading.antt`). What is read is `specs/Deck.antt`, or a fault of `specs/Fault.antt`.
 
 ghost use Rattle.std.specs.Prelude.{◌≡◌, ◌<◌, ◌≤◌, ◌-◌, ◌+◌, ◌^◌, ◌++◌, List, [], ◌∷◌, ℕ, true, false, map, Some, length};
-ghost use Rattle.std.specs.Prelude.{option_to_list, MatchResult, IfOk, IfErr, OnOk, IsSome, if◌then◌else◌};
+ghost use Rattle.std.specs.Prelude.{MatchResult, IfOk, IfErr, OnOk, IsSome, if◌then◌else◌};
 ghost use Rattle.std.specs.Str.{bytes_eq};
 ghost use Rattle.mv_deck.specs.Deck.{JobData, job_data, deck_data, deck_of, jobs_of, place_of, fresh_job, step_of};
-ghost use Rattle.mv_deck.specs.Fault.{first_fault, TellsFirst, kinds_of_statement, line_rules};
+ghost use Rattle.mv_deck.specs.Fault.{first_fault, TellsFirst, kind_number, kinds_of_statement, line_rules};
 ghost use Rattle.mv_deck.specs.Form.{stated, part_data, listed};
 ghost use Rattle.mv_deck.specs.Held.{HasNumberInRange, held, latches, is_end as ends_by};
 ghost use Rattle.mv_deck.specs.Names.{place_in};
-ghost use Rattle.mv_deck.specs.Reading.{HasFewJobs, IsBehind, IsGoodJob, TellsLowest, jobs_read};
+ghost use Rattle.mv_deck.specs.Reading.{HasFewJobs, IsBehind, IsGoodJob, jobs_read};
 ghost use Rattle.mv_deck.specs.Statement.{Statement, Null, DeckOf, JobOf};
 ghost use Rattle.mv_deck.specs.Operand.{most_after};
 ghost use Rattle.mv_deck.specs.Weight.{most_initiators};
+ghost use Rattle.mv_line.specs.Fault.{TellsLowest};
 
 use crate::fault::Kind;
 use crate::form::{Form, Part, Version, form_of, parts_of, version_of};
@@ -151,7 +152,7 @@ impl<'a> Reading<'a> {
             → MatchResult result
             (λ _. (kinds_of_statement n earlier (Some (stated v form.entry)) ≡ [])
             × IsBehind n v (earlier ++ stated v form.entry ∷ []) self.new)
-            (λ e. TellsLowest e (kinds_of_statement n earlier (Some (stated v form.entry)))) }
+            (λ e. TellsLowest kind_number e (kinds_of_statement n earlier (Some (stated v form.entry)))) }
     {
         match form {
             Form::Null => self.take_null(),
@@ -193,7 +194,7 @@ impl<'a> Reading<'a> {
         ensures { (n : ℕ) (v : Version) (earlier : List Statement) → IsBehind n v earlier self.old
             → MatchResult result
             (λ _. (kinds_of_statement n earlier (Some Null) ≡ []) × IsBehind n v (earlier ++ Null ∷ []) self.new)
-            (λ e. TellsLowest e (kinds_of_statement n earlier (Some Null))) }
+            (λ e. TellsLowest kind_number e (kinds_of_statement n earlier (Some Null))) }
     {
         if self.ended {
             return Err(LineRefusal::Has(Kind::Misplaced));
@@ -208,7 +209,7 @@ impl<'a> Reading<'a> {
         ensures { (n : ℕ) (v : Version) (earlier : List Statement) → IsBehind n v earlier self.old
             → MatchResult result
             (λ _. (kinds_of_statement n earlier (Some (DeckOf word.now)) ≡ []) × IsBehind n v (earlier ++ DeckOf word.now ∷ []) self.new)
-            (λ e. TellsLowest e (kinds_of_statement n earlier (Some (DeckOf word.now)))) }
+            (λ e. TellsLowest kind_number e (kinds_of_statement n earlier (Some (DeckOf word.now)))) }
     {
         if word != b"2".as_slice() {
             return Err(LineRefusal::Has(Kind::BadNumber));
@@ -233,7 +234,7 @@ impl<'a> Reading<'a> {
             → MatchResult result
             (λ _. (kinds_of_statement n earlier (Some (JobOf name.now (listed v list.entry))) ≡ [])
             × IsBehind n v (earlier ++ JobOf name.now (listed v list.entry) ∷ []) self.new)
-            (λ e. TellsLowest e (kinds_of_statement n earlier (Some (JobOf name.now (listed v list.entry))))) }
+            (λ e. TellsLowest kind_number e (kinds_of_statement n earlier (Some (JobOf name.now (listed v list.entry))))) }
     {
         let parts = parts_of(self.alloc, self.version, list)?;
         if let Err(refusal) = self.check_job(name, &parts) {
@@ -248,13 +249,13 @@ impl<'a> Reading<'a> {
         Ok(())
     }
 
-    // TellsLowest the lowest kind of fault of a JOB, but for its weight.
+    // Tells the lowest kind of fault of a JOB, but for its weight.
     fn check_job(&self, name: &'a [u8], parts: &[Part<'a>]) -> Result<(), LineRefusal<Kind>>
         ensures few { OnOk result (length parts.now ≤ most_after) }
         ensures kinds { (n : ℕ) (v : Version) (earlier : List Statement) → IsBehind n v earlier self.now
             → MatchResult result
             (λ _. IsGoodJob earlier (jobs_of earlier) (JobOf name.now (map part_data parts.now)))
-            (λ e. TellsLowest e (kinds_of_statement n earlier (Some (JobOf name.now (map part_data parts.now))))) }
+            (λ e. TellsLowest kind_number e (kinds_of_statement n earlier (Some (JobOf name.now (map part_data parts.now))))) }
     {
         if !is_name(name) || has_bad_name(parts) {
             return Err(LineRefusal::Has(Kind::BadName));
@@ -293,7 +294,7 @@ impl<'a> Reading<'a> {
         ensures begun { OnOk result (IsSome self.new.name) }
         ensures held { OnOk result (self.new.held.modes ≡ map (held []) latches) }
         ensures flags { OnOk result ((self.new.closed ≡ false) × (self.new.stated ≡ true) × (self.new.ended ≡ self.old.ended)) }
-        ensures rest { OnOk result ((self.new.room ≡ self.old.room) × (self.new.initiators ≡ self.old.initiators)
+        ensures others { OnOk result ((self.new.room ≡ self.old.room) × (self.new.initiators ≡ self.old.initiators)
             × (self.new.version ≡ self.old.version)) }
     {
         let after = self.names.after(self.alloc, parts)?;
@@ -316,7 +317,7 @@ impl<'a> Reading<'a> {
         ensures { (n : ℕ) (v : Version) (earlier : List Statement) (s : Statement) → IsBehind n v earlier self.old → step_of s ≡ Some step
             → MatchResult result
             (λ _. (kinds_of_statement n earlier (Some s) ≡ []) × IsBehind n v (earlier ++ s ∷ []) self.new)
-            (λ e. TellsLowest e (kinds_of_statement n earlier (Some s))) }
+            (λ e. TellsLowest kind_number e (kinds_of_statement n earlier (Some s))) }
     {
         if self.ended || self.name.is_none() {
             return Err(LineRefusal::Has(Kind::Misplaced));
@@ -330,7 +331,7 @@ impl<'a> Reading<'a> {
         if self.held.lacks_latch(&step) {
             return Err(LineRefusal::Has(Kind::LatchNotHeld));
         }
-        let weight = self.initiators as u64 * step_events(&step);
+        let weight = self.initiators as u64 * step_events(&step) as u64;
         if weight > self.room {
             return Err(LineRefusal::Has(Kind::TooHeavy));
         }
@@ -347,7 +348,7 @@ impl<'a> Reading<'a> {
         ensures steps { OnOk result (self.new.steps.items ≡ []) }
         ensures flags { OnOk result ((self.new.closed ≡ self.old.closed) × (self.new.stated ≡ self.old.stated)
             × (self.new.ended ≡ self.old.ended)) }
-        ensures rest { OnOk result ((self.new.room ≡ self.old.room) × (self.new.initiators ≡ self.old.initiators)
+        ensures others { OnOk result ((self.new.room ≡ self.old.room) × (self.new.initiators ≡ self.old.initiators)
             × (self.new.version ≡ self.old.version) × (self.new.names ≡ self.old.names)) }
         ensures bound { OnOk result (length self.new.finished.items ≤ length self.old.finished.items + 1) }
     {

@@ -11,8 +11,8 @@ pub(crate) const HEAVIEST: u64 = 524_287;
 /// How many initiators may run a deck.
 pub const MOST_INITIATORS: u32 = 8;
 
-/// The events of a step at most.
-pub(crate) fn step_events(step: &Step) -> u64
+/// At most how many events a step makes.
+pub fn step_events(step: &Step) -> u32
     ensures events { result ≡ events_of_step step.now }
     ensures few { result ≤ 2 }
 {

@@ -14,14 +14,14 @@ use Rattle.mv_entrytext.specs.declared.fault.Kind.TheVariants.{NoForm, BadNumber
 use Rattle.mv_line.specs.declared.fault.LineRefusal.{LineRefusal}
 use Rattle.mv_line.specs.declared.fault.LineRefusal.TheVariants.{Has, NoMemory}
 use Rattle.mv_line.specs.declared.fault.TextFault.{TextFault}
-use Rattle.mv_line.specs.Fault.{refusal_at}
+use Rattle.mv_line.specs.Fault.{refusal_at, fault_at}
 use Rattle.mv_entrytext.specs.declared.line.EntryLine.{EntryLine}
 use Rattle.mv_entrytext.specs.declared.version.Version.{Version}
 use Rattle.mv_entrytext.specs.Journal.{Line, JournalOf, Callers, Elements, Volumes, Latches, Quota, Budget, Owner, ExitTo, Events}
 use Rattle.mv_entrytext.specs.Journal.{EntryOf, End}
 use Rattle.mv_entrytext.specs.Lines.{Stage, AtVersion, AtCallers, AtElements, AtVolumes, AtLatches, AtQuota, AtBudgets, AtOwners}
 use Rattle.mv_entrytext.specs.Lines.{AtExits, AtEntries, AtEnd, count_line, next_line, line_read, Draft, draft_with}
-use Rattle.mv_entrytext.specs.Fault.{TellsFirst, kind_number, kind_said, kind_of, is_cut, fault_at, first_fault, text_fault, draft_of, journal_of}
+use Rattle.mv_entrytext.specs.Fault.{TellsFirst, kind_number, kind_said, kind_of, is_cut, first_fault, text_fault, draft_of, journal_of}
 use Rattle.mv_entrytext.specs.Said.{entry_said}
 use Rattle.mv_entrytext.specs.Draft.{TellsKind, kind_of_form, draft_at, line_behind, IsAt, kind_at_end}
 use Rattle.mv_entrytext.proofs.Parts.{first_part, joined_again}
@@ -87,7 +87,7 @@ at_next {rest = rest} {behind = behind} {text = text} {number = number} {d = d} 
 -- ---- a fault
 
 fault_here : (number : ℕ) (k : Kind) (d : Draft) (text more : List ℕ) (lines : List (List ℕ)) → kind_of d text ≡ Some k
-    → first_fault number d (text ∷ more ∷ lines) ≡ Some (fault_at number k)
+    → first_fault number d (text ∷ more ∷ lines) ≡ Some (fault_at number (kind_number k))
 unfolding first_fault
 fault_here number k d text more lines e = rw e refl
 
@@ -128,12 +128,13 @@ at_said {text = text} {d = d} l here read e told =
 
 -- the text ends in this line
 cut_here : (number : ℕ) (d : Draft) (last : List ℕ) → is_cut d last ≡ true
-    → first_fault number d (last ∷ []) ≡ Some (fault_at number Cut)
+    → first_fault number d (last ∷ []) ≡ Some (fault_at number (kind_number Cut))
 unfolding first_fault
 cut_here number d last e = rw e refl
 
 pub at_cut : {bytes rest last : List ℕ} {number : ℕ} {d : Draft} {left : Option (Bor (List ℕ))} → IsAt bytes rest number d
-    → parts_at 10 rest ≡ last ∷ parts_left 10 left → left ≡ None → is_cut d last ≡ true → text_fault bytes ≡ Some (fault_at number Cut)
+    → parts_at 10 rest ≡ last ∷ parts_left 10 left → left ≡ None → is_cut d last ≡ true
+    → text_fault bytes ≡ Some (fault_at number (kind_number Cut))
 at_cut {last = last} {number = number} {d = d} at parts none e =
     sym at.fault ∙ ap (first_fault number d) (parts ∙ ap (λ (x : Option (Bor (List ℕ))). last ∷ parts_left 10 x) none)
     ∙ cut_here number d last e
@@ -161,16 +162,17 @@ no_form_at_end : (v : Version) (c : Setup) (es : List Entry) (ns text : List ℕ
 no_form_at_end v c es ns text = rw (nothing_comes true text, nothing_comes false text) refl
 
 end_kinds : (number : ℕ) (v : Version) (c : Setup) (es : List Entry) (ns p : List ℕ) (qs : List (List ℕ)) (e : LineRefusal Kind)
-    → TellsKind e (kind_at_end (p ∷ qs)) → TellsFirst (refusal_at kind_number number e) (first_fault number (draft_at AtEnd v c es ns) (p ∷ qs))
+    → TellsKind e (kind_at_end (p ∷ qs))
+    → TellsFirst (refusal_at kind_number number e) (first_fault number (draft_at AtEnd v c es ns) (p ∷ qs))
 unfolding first_fault
 end_kinds number v c es ns p [] (Has k) told = go (eqb (length p) 0) told where
   go : (t : Bool) → cond {A = Option Kind} t None (Some Cut) ≡ Some k
-      → cond (not (true && t)) (Some (fault_at number Cut)) None ≡ Some (fault_at number k)
+      → cond (not (true && t)) (Some (fault_at number (kind_number Cut))) None ≡ Some (fault_at number (kind_number k))
   go true told = absurd cc
-  go false told = let same : Cut ≡ k = cc in ap (λ (j : Kind). Some (fault_at number j)) same
+  go false told = let same : Cut ≡ k = cc in ap (λ (j : Kind). Some (fault_at number (kind_number j))) same
 end_kinds number v c es ns p (q ∷ qs) (Has k) told =
     let same : NoForm ≡ k = cc in
-    rw (no_form_at_end v c es ns p) (ap (λ (j : Kind). Some (fault_at number j)) same)
+    rw (no_form_at_end v c es ns p) (ap (λ (j : Kind). Some (fault_at number (kind_number j))) same)
 end_kinds number v c es ns p qs NoMemory told = tt
 
 pub at_end_fault : {bytes rest : List ℕ} {number : ℕ} {v : Version} {c : Setup} {es : List Entry} {ns : List ℕ}
@@ -202,7 +204,7 @@ said_so e is = e ∙ ap (λ (x : EntryLine). Some (entry_said x)) is
 -- END with another count than that of the entries
 pub at_wrong_count : {bytes rest behind text : List ℕ} {number n : ℕ} {v : Version} {c : Setup} {es : List Entry} {ns : List ℕ}
     → IsAtLine bytes rest number (draft_at (AtEntries v) v c es ns) text behind → line_read true (AtEntries v) text ≡ Some (End n)
-    → (length es ≡ n → ⊥) → text_fault bytes ≡ Some (fault_at number WrongCount)
+    → (length es ≡ n → ⊥) → text_fault bytes ≡ Some (fault_at number (kind_number WrongCount))
 at_wrong_count {n = n} {es = es} here read other = at_said (End n) here read (Has WrongCount) (rw (ne_eqb (length es) n other) refl)
 
 -- END with their count: the reader stands behind it

@@ -22,7 +22,8 @@ use Rattle.mv_entrytext.specs.Journal.{Line, JournalOf, Callers, Elements, Volum
 use Rattle.mv_entrytext.specs.Journal.{EntryOf, End, line_text, line, entry_lines, counts_text, lists_text, head_text, text_of}
 use Rattle.mv_entrytext.specs.Lines.{Stage, AtVersion, AtCallers, AtElements, AtVolumes, AtLatches, AtQuota, AtBudgets, AtOwners}
 use Rattle.mv_entrytext.specs.Lines.{AtExits, AtEntries, AtEnd, line_read, Draft, blank, with_call, draft_with}
-use Rattle.mv_entrytext.specs.Fault.{kind_said, kind_of, is_read, is_cut, is_ended, fault_at, fault_or, draft_after, first_fault}
+use Rattle.mv_line.specs.Fault.{fault_at}
+use Rattle.mv_entrytext.specs.Fault.{kind_number, kind_said, kind_of, is_read, is_cut, is_ended, fault_or, draft_after, first_fault}
 use Rattle.mv_entrytext.specs.Fault.{text_fault, draft_of, journal_of, HasJournal, AreCallsIn}
 use Rattle.mv_entrytext.proofs.CallNumbers.{IsCallIn, AreEach, calls_from_each, no_numbers, number_more, lines_more}
 use Rattle.mv_entrytext.proofs.Parts.{first_part, joined_again}
@@ -267,9 +268,10 @@ not_cut : (b : Bool) (f : TextFault) → cond b (Some f) None ≡ None → b ≡
 not_cut true f e = absurd cc
 not_cut false f e = refl
 
-is_over : (number : ℕ) (d : Draft) (last : List ℕ) → cond (is_cut d last) (Some (fault_at number Cut)) None ≡ None → IsOver d last
+is_over : (number : ℕ) (d : Draft) (last : List ℕ) → cond (is_cut d last) (Some (fault_at number (kind_number Cut))) None ≡ None → IsOver d last
 is_over number d last e =
-    let both = and_parts (is_ended d.stage) (eqb (length last) 0) (not-false _ (not_cut (is_cut d last) (fault_at number Cut) e)) in
+    let whole = not_cut (is_cut d last) (fault_at number (kind_number Cut)) e in
+    let both = and_parts (is_ended d.stage) (eqb (length last) 0) (not-false _ whole) in
     record { stage = end_only d.stage both.0; nothing = nil_from_length last (eqb-true (length last) 0 both.1) }
 
 abbrev SoFarD : Draft → List ℕ → Type 0

@@ -5,7 +5,7 @@ use Rattle.mv_machine.specs.declared.entry.Entry.{Entry}
 use Rattle.mv_machine.specs.Check.{IsValid, refusal_of}
 use Rattle.mv_machine.specs.Setup.{Setup}
 use Rattle.mv_line.specs.declared.fault.TextFault.{TextFault}
-use Rattle.mv_line.specs.Fault as lines
+use Rattle.mv_line.specs.Fault.{fault_at}
 pub use Rattle.mv_line.specs.Fault.{TellsFirst}
 use Rattle.mv_line.specs.Part.{parts_at}
 use Rattle.mv_entrytext.specs.declared.fault.Kind.{Kind}
@@ -73,10 +73,6 @@ is_cut d line = not (is_ended d.stage && length line == 0)
 
 -- ---- the first fault of a text
 
--- a fault of this line, of this kind
-abbrev pub fault_at : ℕ → Kind → TextFault
-fault_at line kind = lines.fault_at line (kind_number kind)
-
 -- what the lines have said with this one
 abbrev pub draft_after : Draft → Option Line → Draft
 draft_after d None = d
@@ -84,13 +80,13 @@ draft_after d (Some l) = draft_with l d
 
 -- a fault of this line, or else the first one behind it
 abbrev pub fault_or : ℕ → Option Kind → Option TextFault → Option TextFault
-fault_or number (Some kind) behind = Some (fault_at number kind)
+fault_or number (Some kind) behind = Some (fault_at number (kind_number kind))
 fault_or number None behind = behind
 
 -- The first fault of lines that are numbered from here on, behind the lines so far. The last of them has no LF.
 unfoldable pub first_fault : ℕ → Draft → List (List ℕ) → Option TextFault
 first_fault number d [] = None
-first_fault number d (last ∷ []) = if is_cut d last then Some (fault_at number Cut) else None
+first_fault number d (last ∷ []) = if is_cut d last then Some (fault_at number (kind_number Cut)) else None
 first_fault number d (line ∷ more ∷ lines) =
     fault_or number (kind_of d line) (first_fault (number + 1) (draft_after d (line_read true d.stage line)) (more ∷ lines))
 

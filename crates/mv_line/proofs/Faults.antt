@@ -30,7 +30,8 @@ rises_last true kind low le = (le, tt)
 rises_last false kind low le = tt
 
 -- where none is told, the first test does not hold, and none is told behind it
-pub none_when : (holds : Bool) (kind : ℕ) (kinds : List ℕ) → (if holds then kind ∷ [] else []) ++ kinds ≡ [] → (holds ≡ false) × (kinds ≡ [])
+pub none_when : (holds : Bool) (kind : ℕ) (kinds : List ℕ) → (if holds then kind ∷ [] else []) ++ kinds ≡ []
+    → (holds ≡ false) × (kinds ≡ [])
 none_when true kind kinds e = absurd (cc e)
 none_when false kind kinds e = (refl, e)
 

@@ -5,7 +5,7 @@ use Rattle.std.specs.Prelude.{fold, option_map, if◌then◌else◌}
 use Rattle.std.proofs.lemmas.List.{nil_from_length}
 use Rattle.mv_line.specs.declared.fault.LineRefusal.{LineRefusal}
 use Rattle.mv_line.specs.declared.fault.LineRefusal.TheVariants.{Has, NoMemory}
-use Rattle.mv_line.specs.Fault.{LineRules, Tells, TellsFirst, fault_at, faults_by_line, first_fault, first_of_list, refusal_at}
+use Rattle.mv_line.specs.Fault.{LineRules, TellsLowest, TellsFirst, fault_at, faults_by_line, first_fault, first_of_list, refusal_at}
 use Rattle.mv_line.specs.Line.{lines_of}
 use Rattle.mv_line.proofs.Faults.{line_passed, first_in_line}
 
@@ -51,7 +51,7 @@ module _ {Said Reader : Type 0} (rules : LineRules Said) (HasTaken : Said → Re
 
     -- the kind that is told of the next line is the first fault of the text
     pub told_at : {K : Type 0} (number_of : K → ℕ) (line behind : List ℕ) (e : LineRefusal K) → lines_of rest ≡ line ∷ lines_of behind
-        → Tells number_of e (rules.kinds_of p.said line)
+        → TellsLowest number_of e (rules.kinds_of p.said line)
         → TellsFirst (refusal_at number_of number e) (first_fault rules start (lines_of bytes))
     told_at number_of line behind (Has kind) lines told =
         sym p.first ∙ ap (λ (x : List (List ℕ)). first_of_list (faults_by_line rules number p.said x)) lines

@@ -17,6 +17,10 @@ pub record LineRules (Said : Type 0) : Type 0 where
   pub is_whole : Said → Bool
   pub cut_short : ℕ
 
+-- the number of a kind, where its test holds
+abbrev pub when : {K : Type 0} → (K → ℕ) → Bool → K → List ℕ
+when number_of holds kind = if holds then number_of kind ∷ [] else []
+
 -- The line of this number has a fault of this kind, of lines that are numbered from here on: by what it is and what was said before it,
 -- or, behind the last line, for want of the rest of the text.
 pub data HasFaultAt {Said : Type 0} (rules : LineRules Said) (from : ℕ) (said : Said) (lines : List (List ℕ)) (number kind : ℕ)
@@ -52,9 +56,9 @@ first_fault rules said lines = first_of_list (faults_by_line rules 1 said lines)
 -- ---- what is told
 
 -- the kind that is told of a line is the lowest of its kinds, which have these numbers
-abbrev pub Tells : {K : Type 0} → (K → ℕ) → LineRefusal K → List ℕ → Type 0
-Tells number_of (Has kind) kinds = first_of_list kinds ≡ Some (number_of kind)
-Tells number_of of_line.NoMemory kinds = Unit {0}
+abbrev pub TellsLowest : {K : Type 0} → (K → ℕ) → LineRefusal K → List ℕ → Type 0
+TellsLowest number_of (Has kind) kinds = first_of_list kinds ≡ Some (number_of kind)
+TellsLowest number_of of_line.NoMemory kinds = Unit {0}
 
 -- the refusal of a text whose line of this number was not taken
 abbrev pub refusal_at : {K : Type 0} → (K → ℕ) → ℕ → LineRefusal K → TextRefusal

@@ -1,7 +1,7 @@
 //! The reader of texts by lines: one pass over the bytes, for any rules of lines (`specs/Fault.antt`).
 
 ghost use Rattle.std.specs.Prelude.{◌≡◌, ◌<◌, ◌-◌, ◌^◌, [], length, fold, None, Some, option_map, MatchResult, if◌then◌else◌};
-ghost use Rattle.mv_line.specs.Fault.{LineRules, Tells, TellsFirst, first_fault};
+ghost use Rattle.mv_line.specs.Fault.{LineRules, TellsLowest, TellsFirst, first_fault};
 ghost use Rattle.mv_line.specs.Line.{lines_of};
 
 use crate::fault::{FaultKind, LineRefusal, TextRefusal};
@@ -34,7 +34,7 @@ pub trait LineReader<'a> {
         ensures { (setting : Self.Setting) (said : Self.Said) → Self.HasTaken setting said self.old → MatchResult result
             (λ _. ((Self.rules setting).kinds_of said line.now ≡ [])
             × Self.HasTaken setting ((Self.rules setting).with_line said line.now) self.new)
-            (λ e. Tells Self.Kind.number_of e ((Self.rules setting).kinds_of said line.now)) };
+            (λ e. TellsLowest Self.Kind.number_of e ((Self.rules setting).kinds_of said line.now)) };
 
     /// The kind of fault of a text that ends here, if it is cut short.
     fn kind_at_end(&self) -> Option<Self::Kind>

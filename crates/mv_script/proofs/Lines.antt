@@ -12,10 +12,10 @@ use Rattle.mv_script.specs.declared.reading.Reading.{Reading}
 use Rattle.mv_script.specs.declared.statement.Statement.{Statement}
 use Rattle.mv_script.specs.declared.words.Misread.{Misread}
 use Rattle.mv_script.specs.declared.words.Misread.TheVariants.{NoForm, BadNumber}
-use Rattle.mv_script.specs.Fault.{kinds_of, kinds_behind}
-use Rattle.mv_line.specs.Fault.{first_of_list}
+use Rattle.mv_script.specs.Fault.{kind_number, kinds_of, kinds_behind}
+use Rattle.mv_line.specs.Fault.{TellsLowest, first_of_list}
 use Rattle.mv_script.specs.Misread.{misread_refusal, IsReadAs}
-use Rattle.mv_script.specs.Reading.{IsBehind, IsTaken, TellsLowest, Notes, Stands}
+use Rattle.mv_script.specs.Reading.{IsBehind, IsTaken, Notes, Stands}
 use Rattle.mv_script.specs.Script.{sizes_behind, with_line, added, task_count, owners_of, table_of}
 use Rattle.mv_script.specs.Statement.{line_states, text_states}
 use Rattle.mv_script.specs.Words.{Read}
@@ -61,7 +61,7 @@ module _ (earlier : List Statement) (line text : List ℕ) (same : text ≡ show
   pub line_taken : (s : Statement) → 0 < length text → text_states (sizes_behind earlier) text ≡ Ok s
       → (result : Result (Unit {0}) (LineRefusal Kind)) (r : Reading) → IsTaken result earlier s r
       → MatchResult result (λ (done : Unit {0}). (kinds_of earlier line ≡ []) × IsBehind (with_line earlier line) r)
-      (λ e. TellsLowest e (kinds_of earlier line))
+      (λ e. TellsLowest kind_number e (kinds_of earlier line))
   line_taken s lt e (Ok done) r h =
       let is = some_stated lt ∙ ap (λ (o : Read Statement). Some o) e in (
         its_kinds s is ∙ h.0,
@@ -72,15 +72,16 @@ module _ (earlier : List Statement) (line text : List ℕ) (same : text ≡ show
   line_taken s lt e (Err NoMemory) r h = tt
 
   misread : (why : Misread) → line_states (sizes_behind earlier) line ≡ Some (Err why) → (e : LineRefusal Kind) → e ≡ misread_refusal why
-      → TellsLowest e (kinds_of earlier line)
-  misread NoForm is e same = subst (λ (x : LineRefusal Kind). TellsLowest x (kinds_of earlier line)) (sym same) (no_form is)
-  misread BadNumber is e same = subst (λ (x : LineRefusal Kind). TellsLowest x (kinds_of earlier line)) (sym same) (bad_number is)
+      → TellsLowest kind_number e (kinds_of earlier line)
+  misread NoForm is e same = subst (λ (x : LineRefusal Kind). TellsLowest kind_number x (kinds_of earlier line)) (sym same) (no_form is)
+  misread BadNumber is e same =
+      subst (λ (x : LineRefusal Kind). TellsLowest kind_number x (kinds_of earlier line)) (sym same) (bad_number is)
 
   pub line_refused : 0 < length text → (e : LineRefusal Kind) → IsReadAs {A = Statement} (Err e) (text_states (sizes_behind earlier) text)
-      → TellsLowest e (kinds_of earlier line)
+      → TellsLowest kind_number e (kinds_of earlier line)
   line_refused lt NoMemory h = tt
   line_refused lt (Has k) h = go (text_states (sizes_behind earlier) text) refl h where
     go : (read : Read Statement) → text_states (sizes_behind earlier) text ≡ read → IsReadAs {A = Statement} (Err (Has k)) read
-        → TellsLowest (Has k) (kinds_of earlier line)
+        → TellsLowest kind_number (Has k) (kinds_of earlier line)
     go (Ok s) is h = absurd h
     go (Err why) is h = misread why (some_stated lt ∙ ap (λ (o : Read Statement). Some o) is) (Has k) h

@@ -16,9 +16,9 @@ use Rattle.mv_script.specs.Costs.{costs_of}
 use Rattle.mv_script.specs.Fault.{has_script, has_task, has_end, is_out_of_order, is_miscounted, leads_down, lacks_obtain}
 use Rattle.mv_script.specs.Fault.{uses_table, is_bad_table}
 use Rattle.mv_script.specs.Fault.{is_too_costly, kinds_of, kinds_of_statement, kinds_behind, faults_from, first_fault}
-use Rattle.mv_line.specs.Fault.{first_of_list}
+use Rattle.mv_line.specs.Fault.{first_of_list, when}
 use Rattle.mv_line.proofs.Faults.{none_when, no_kinds, no_fault_at_end}
-use Rattle.mv_script.specs.Fault.{line_rules, when, has_no_form, has_bad_number}
+use Rattle.mv_script.specs.Fault.{kind_number, line_rules, has_no_form, has_bad_number}
 use Rattle.mv_script.specs.Limits.{most_ecbs, most_exits, most_calls}
 use Rattle.mv_script.specs.Reading.{progress_of, budgets_in, IsSoundSoFar}
 use Rattle.mv_script.specs.Script.{task_count, owners_of, exits_of, table_of, tasks_of, last_task, budgets_of, sizes_behind, added}
@@ -54,7 +54,7 @@ pub record IsFine (earlier : List Statement) (s : Statement) : Type 0 where
   pub fits : is_bad_table earlier s ≡ false
 
 -- the last one
-none_last : (b : Bool) (k : Kind) → when b k ≡ [] → b ≡ false
+none_last : (b : Bool) (k : Kind) → when kind_number b k ≡ [] → b ≡ false
 none_last false k e = refl
 none_last true k e = absurd cc
 
@@ -163,8 +163,9 @@ holds_more earlier statement.End h g f =
 
 -- what the kinds of a line say of what it states
 states_fine : (earlier : List Statement) (line : List ℕ) (states : Option (Read Statement))
-    → when (is_foreign line) ForeignByte ++ (when (is_too_long line) TooLong ++ (when (has_no_form states) NoForm
-    ++ (when (has_bad_number states) BadNumber ++ kinds_of_statement earlier states))) ≡ []
+    → when kind_number (is_foreign line) ForeignByte ++ (when kind_number (is_too_long line) TooLong
+    ++ (when kind_number (has_no_form states) NoForm ++ (when kind_number (has_bad_number states) BadNumber
+    ++ kinds_of_statement earlier states))) ≡ []
     → kinds_of_statement earlier states ≡ []
 states_fine earlier line states e =
     let a = none_when (is_foreign line) _ _ e in

@@ -15,7 +15,7 @@ use Rattle.mv_script.specs.declared.answer.Answer.{Answer}
 use Rattle.mv_script.specs.declared.answer.Answer.TheVariants as answer
 
 -- Each refusal has an answer of its own, but for the two that no call of a script is told: a post of an event finds no volume that
--- counts too many, and no slot has a code that is no event's index (`EventsAreInOrder` of Events). They stand beside the purge of
+-- counts too many, and no slot has a code that is no event's index (`EventsAreHandedOut` of Events). They stand beside the purge of
 -- such a post, which does not come either.
 abbrev pub refused : Refusal → Answer
 refused refusal.TooMany = answer.TooMany

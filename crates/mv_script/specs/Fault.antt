@@ -1,11 +1,11 @@
 -- The faults of a text: one test for each kind of fault that a line can have, and which fault is the first.
 use Rattle.std.specs.Prelude.{ℕ, Bool, true, false, ◌&&◌, ◌||◌, not, nat_le, nat_lt, List, [], ◌∷◌, ◌++◌, length, sum}
-use Rattle.std.specs.Prelude.{count_by, Option, Some, None, is_some, Ok, Err, if◌then◌else◌}
+use Rattle.std.specs.Prelude.{count_by, Option, Some, None, is_some, Ok, Err}
 use Rattle.std.specs.List.{list_any}
 use Rattle.mv_line.specs.Byte.{is_within}
 use Rattle.mv_line.specs.Line.{lines_of, is_foreign, is_too_long}
 use Rattle.mv_line.specs.declared.fault.TextFault.{TextFault}
-use Rattle.mv_line.specs.Fault.{LineRules, HasFaultAt, faults_by_line, first_of_list}
+use Rattle.mv_line.specs.Fault.{LineRules, HasFaultAt, faults_by_line, first_of_list, when}
 pub use Rattle.mv_line.specs.Fault.{TellsFirst}
 use Rattle.mv_machine.specs.Limits.{events_limit}
 use Rattle.mv_calls.specs.Table.{table_refusal}
@@ -179,21 +179,17 @@ is_bad_table earlier statement.End = false
 
 -- ---- all faults, and the first
 
--- the number of a kind, where its test holds
-abbrev pub when : Bool → Kind → List ℕ
-when holds kind = if holds then kind_number kind ∷ [] else []
-
 -- the kinds of fault of a statement behind earlier ones, rising. One that is out of order is asked no more
 abbrev pub kinds_behind : List Statement → Statement → List ℕ
 kinds_behind earlier s =
     let in_order = not (is_out_of_order earlier s) in
-    when (is_out_of_order earlier s) OutOfOrder
-    ++ (when (is_miscounted earlier s && in_order) Miscounted
-    ++ (when (leads_down s && in_order) LeadsDown
-    ++ (when (lacks_obtain earlier s && in_order) NoObtain
-    ++ (when (is_too_costly earlier s && in_order) TooCostly
-    ++ (when (uses_table earlier s && in_order) UsesTable
-    ++ when (is_bad_table earlier s && in_order) BadTable)))))
+    when kind_number (is_out_of_order earlier s) OutOfOrder
+    ++ (when kind_number (is_miscounted earlier s && in_order) Miscounted
+    ++ (when kind_number (leads_down s && in_order) LeadsDown
+    ++ (when kind_number (lacks_obtain earlier s && in_order) NoObtain
+    ++ (when kind_number (is_too_costly earlier s && in_order) TooCostly
+    ++ (when kind_number (uses_table earlier s && in_order) UsesTable
+    ++ when kind_number (is_bad_table earlier s && in_order) BadTable)))))
 
 -- the same for a line that may state nothing
 abbrev pub kinds_of_statement : List Statement → Option (Read Statement) → List ℕ
@@ -205,10 +201,10 @@ kinds_of_statement earlier (Some (Err why)) = []
 abbrev pub kinds_of : List Statement → List ℕ → List ℕ
 kinds_of earlier line =
     let states = line_states (sizes_behind earlier) line in
-    when (is_foreign line) ForeignByte
-    ++ (when (is_too_long line) TooLong
-    ++ (when (has_no_form states) NoForm
-    ++ (when (has_bad_number states) BadNumber
+    when kind_number (is_foreign line) ForeignByte
+    ++ (when kind_number (is_too_long line) TooLong
+    ++ (when kind_number (has_no_form states) NoForm
+    ++ (when kind_number (has_bad_number states) BadNumber
     ++ kinds_of_statement earlier states)))
 
 -- the rules of a script's lines: it ends with END

@@ -16,7 +16,7 @@ use Rattle.mv_script.specs.declared.statement.Statement.TheVariants as statement
 use Rattle.mv_script.specs.Costs.{script_setup, costs_of}
 use Rattle.mv_script.specs.Fault.{has_script, has_exit, has_task, has_end, kind_number, kinds_behind}
 use Rattle.mv_line.specs.declared.fault.LineRefusal.{LineRefusal}
-use Rattle.mv_line.specs.Fault as lines
+use Rattle.mv_line.specs.Fault.{TellsLowest}
 use Rattle.mv_script.specs.Limits.{most_tasks, most_ecbs, most_exits}
 use Rattle.mv_script.specs.Script.{task_count, owners_of, exits_of, table_of, tasks_of, with_call, sizes_behind, is_obtain}
 use Rattle.mv_script.specs.Sound.{IfThere, IsSoundExit, IsSoundTask, IsGoodStatement}
@@ -158,10 +158,6 @@ pub record Stands (statements : List Statement) (n : Notes) : Type 0 where
 abbrev pub IsBehind : List Statement → Reading → Type 0
 IsBehind statements r = Stands statements (notes_of r)
 
--- the kind that is told is the lowest
-abbrev pub TellsLowest : LineRefusal Kind → List ℕ → Type 0
-TellsLowest refusal kinds = lines.Tells kind_number refusal kinds
-
 -- the reader is behind some statements, and this one names what they state
 abbrev pub IsToTake : Reading → Statement → Type 0
 IsToTake r s = (earlier : List Statement) × (IsBehind earlier r × IsGoodStatement (sizes_behind earlier) s)
@@ -169,4 +165,4 @@ IsToTake r s = (earlier : List Statement) × (IsBehind earlier r × IsGoodStatem
 -- the statement has no fault and the reader is behind it, or the kind that is told is its lowest
 abbrev pub IsTaken : Result (Unit {0}) (LineRefusal Kind) → List Statement → Statement → Reading → Type 0
 IsTaken (Ok done) earlier s r = (kinds_behind earlier s ≡ []) × IsBehind (earlier ++ s ∷ []) r
-IsTaken (Err refusal) earlier s r = TellsLowest refusal (kinds_behind earlier s)
+IsTaken (Err refusal) earlier s r = TellsLowest kind_number refusal (kinds_behind earlier s)

@@ -16,7 +16,8 @@ use mv_machine::ValidConfig;
 /// How many events a call may need, in a configuration with these blocks and exits.
 pub(crate) fn cost(config: &ValidConfig, call: &Call) -> u32
     requires elements { config.now.elements_per_caller ≡ elements_per_task }
-    requires numbers { (table : Option Table) × HasGoodNumbers (record { tasks = config.now.callers; ecbs = length config.now.owners; table = table }) call.now }
+    requires numbers { (table : Option Table)
+        × HasGoodNumbers (record { tasks = config.now.callers; ecbs = length config.now.owners; table = table }) call.now }
     ensures { result ≡ cost_of config.now call.now }
 {
     match call {

@@ -2,7 +2,7 @@
 //! `specs/Sound.antt`, or a fault of `specs/Fault.antt`.
 
 ghost use Rattle.std.specs.Prelude.{◌≡◌, ◌<◌, ◌-◌, ◌^◌, ◌++◌, List, [], ◌∷◌, true, None, not, ◌||◌, nat_lt, is_some};
-ghost use Rattle.std.specs.Prelude.{length, count_by, MatchResult, IfOk, IfErr, OnOk};
+ghost use Rattle.std.specs.Prelude.{length, count_by, IfOk, IfErr, OnOk};
 ghost use Rattle.mv_script.specs.declared.call.Call.{Call};
 ghost use Rattle.mv_script.specs.declared.statement.Statement.{Statement};
 ghost use Rattle.mv_script.specs.declared.statement.Statement.TheVariants as statement;
@@ -358,7 +358,7 @@ impl Reading {
         ensures tasks { OnOk result (self.new.finished.items ≡ self.old.finished.items ++ self.old.calls.items ∷ []) }
         ensures budgets { OnOk result (self.new.budgets.items ≡ self.old.budgets.items ++ self.old.spent ∷ []) }
         ensures fresh { OnOk result ((self.new.calls.items ≡ []) × ((self.new.spent ≡ 0) × (self.new.obtains ≡ 0))) }
-        ensures rest { OnOk result ((self.new.stated ≡ self.old.stated) × ((self.new.owners ≡ self.old.owners)
+        ensures others { OnOk result ((self.new.stated ≡ self.old.stated) × ((self.new.owners ≡ self.old.owners)
             × ((self.new.exits ≡ self.old.exits) × ((self.new.costs ≡ self.old.costs)
             × ((self.new.room ≡ self.old.room) × ((self.new.ended ≡ self.old.ended) × (self.new.table ≡ self.old.table))))))) }
     {

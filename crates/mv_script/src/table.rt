@@ -4,7 +4,8 @@ ghost use Rattle.std.specs.Prelude.{◌≡◌};
 ghost use Rattle.std.specs.List.{list_any};
 ghost use Rattle.mv_eventlaws.specs.Completions.{is_in_range};
 ghost use Rattle.mv_eventlaws.specs.Served.{is_block as is_table_block};
-ghost use Rattle.mv_script.specs.Table.{uses as uses_what_is, uses_any as uses_any_of, is_block_if_any, posts_block, is_event_requestor as is_by_event};
+ghost use Rattle.mv_script.specs.Table.{uses as uses_what_is, uses_any as uses_any_of, is_block_if_any, posts_block};
+ghost use Rattle.mv_script.specs.Table.{is_event_requestor as is_by_event};
 
 use crate::call::Call;
 use mv_calls::Table;

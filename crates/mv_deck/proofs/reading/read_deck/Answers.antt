@@ -13,8 +13,17 @@ begins : (c : After-new-reading) → IsBehind c.args.initiators (version_in c.ar
 begins c = subst (λ (v : Version). IsBehind c.args.initiators v [] c.new-reading.result) c.version_of.ensures c.new-reading.ensures
 
 pub read_lines-requires : goal.read_lines-requires
-read_lines-requires c = λ lifetimes.
-    ((refl, tt), (c.requires.short, ((c.args.initiators, version_in c.args.bytes.now), [], begins (goal.at.read_lines-requires c).After-new-reading)))
+read_lines-requires c = λ lifetimes. (
+  (refl, tt),
+  (
+    c.requires.short,
+    (
+      (c.args.initiators, version_in c.args.bytes.now),
+      [],
+      begins (goal.at.read_lines-requires c).After-new-reading,
+    ),
+  ),
+)
 
 pub returns-in-Err-clause-fault : goal.returns-in-Err-clause-fault
 unfolding faults_from

@@ -2,10 +2,10 @@ use Rattle.std.proofs.Common.{◌≡◌, ◌+◌, ◌*◌, ◌-◌, ◌<◌, tru
 use Rattle.std.specs.Prelude.{nat_lt}
 use Rattle.std.proofs.lemmas.List.{length-map}
 use Rattle.mv_deck.specs.Deck.{jobs_of, fresh_job}
-use Rattle.mv_deck.specs.Fault.{kinds_of_statement, kinds_behind}
-use Rattle.mv_line.specs.Fault.{first_of_list}
+use Rattle.mv_deck.specs.Fault.{kind_number, kinds_of_statement, kinds_behind}
+use Rattle.mv_line.specs.Fault.{TellsLowest, first_of_list}
 use Rattle.mv_deck.specs.Form.{part_data, listed}
-use Rattle.mv_deck.specs.Reading.{TellsLowest, jobs_read}
+use Rattle.mv_deck.specs.Reading.{jobs_read}
 use Rattle.mv_deck.specs.Statement.{JobOf, AfterPart}
 use Rattle.mv_deck.specs.Weight.{weight, heaviest}
 use Rattle.mv_deck.proofs.Behind.{behind_job, job_weight, new_name}
@@ -16,7 +16,8 @@ pub returns-in-Err : goal.returns-in-Err
 returns-in-Err c = λ n v earlier b.
     let e : map part_data c.deref.result.now ≡ listed v c.args.list = ap (map part_data) c.deref.ensures.value ∙ c.in_ok-parts.ensures
     ∙ ap (λ x. listed x c.args.list) b.version in
-    subst (λ (x : List AfterPart). TellsLowest c.in-Err.refusal (kinds_of_statement n earlier (Some (JobOf c.args.name.now x)))) e
+    subst (λ (x : List AfterPart). TellsLowest kind_number c.in-Err.refusal
+    (kinds_of_statement n earlier (Some (JobOf c.args.name.now x)))) e
     (c.in-Err.ensures.kinds n v earlier b)
 
 pub returns-then-weight-self : goal.returns-then-weight-self
@@ -49,7 +50,7 @@ returns c = λ n v earlier b.
     begin.jobs (jobs_of earlier) b.kept.named b.jobs
     ∙ ap (λ x. jobs_of earlier ++ fresh_job (jobs_of earlier) c.args.name.now (map part_data x) ∷ []) same in
     let left : c.begin.new.self.room - (8 + 9 * c.args.self.now.initiators + 2 * c.len.result) + (8 + 9 * n + 2 * length parts)
-    ≡ c.args.self.now.room = omega (arith, begin.rest.0, count, initiators, c.if-weight-self.false) in
+    ≡ c.args.self.now.room = omega (arith, begin.others.0, count, initiators, c.if-weight-self.false) in
     let total : c.begin.new.self.room - (8 + 9 * c.args.self.now.initiators + 2 * c.len.result) +
     (weight (jobs_of earlier) n + (8 + 9 * n + 2 * length parts)) ≡ heaviest = omega (arith, left, b.kept.room) in
     let weighs : nat_lt heaviest (weight (jobs_of earlier ++ fresh_job (jobs_of earlier) c.args.name.now parts ∷ []) n) ≡ false =
@@ -67,7 +68,7 @@ returns c = λ n v earlier b.
         stated = begin.flags.1;
         ended = begin.flags.2;
         room = left;
-        initiators_are = begin.rest.1;
-        version = begin.rest.2;
+        initiators_are = begin.others.1;
+        version = begin.others.2;
       }),
     )

@@ -16,9 +16,9 @@ with_budgets-requires c =
     let p = progress_of statements in
     let well = ended_well statements n b c.requires.1.1 in
     let e = c.in_ok-finish.ensures in
-    let stated : c.finish.new.self.stated ≡ p.stated = e.rest.0 ∙ b.far.stated in
-    let owners : c.finish.new.self.owners.items ≡ p.owners = ap (λ v. v.items) e.rest.1.0 ∙ b.far.owners in
-    let exits : map exit_of c.finish.new.self.exits.items ≡ p.exits = ap (λ v. map exit_of v.items) e.rest.1.1.0 ∙ b.far.exits in
+    let stated : c.finish.new.self.stated ≡ p.stated = e.others.0 ∙ b.far.stated in
+    let owners : c.finish.new.self.owners.items ≡ p.owners = ap (λ v. v.items) e.others.1.0 ∙ b.far.owners in
+    let exits : map exit_of c.finish.new.self.exits.items ≡ p.exits = ap (λ v. map exit_of v.items) e.others.1.1.0 ∙ b.far.exits in
     let budgets : c.finish.new.self.budgets.items ≡ budgets_in p = e.budgets ∙ sym (budgets_are statements n b well.0) in
     record {
       valid = rw (stated, owners, exits, budgets) (valid p (budgets_in p) b.far.sound well.1.0

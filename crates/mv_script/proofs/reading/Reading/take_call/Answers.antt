@@ -17,6 +17,7 @@ use Rattle.mv_script.specs.Table.{uses_any}
 use Rattle.mv_script.proofs.Behind.{late_call, last_calls, too_much, not_much, taken_call}
 use Rattle.mv_script.proofs.Costs.{cost_same}
 use Rattle.mv_script.proofs.Told.{many, none, much, used}
+use Rattle.mv_script.proofs.reading.Reading.take_call.Goals.{After-lacks_obtain}
 use Rattle.mv_script.proofs.reading.Reading.take_call.Goals as goal
 
 -- what is known of a call where a task has begun
@@ -80,41 +81,41 @@ returns-then-len-ge-MOST_CALLS c = λ earlier b good.
     (omega (arith, c.len.ensures, c.if-len-ge-MOST_CALLS.true)) in
     many earlier (statement.Call c.args.call) o m
 
+-- once it was asked whether its OBTAIN is lacking: it is in order, it is not one too many, and that is what was answered
+asked : (c : After-lacks_obtain) (earlier : List Statement) → Stands earlier (notes_of c.args.self.now)
+    → (is_out_of_order earlier (statement.Call c.args.call) ≡ false) × (is_miscounted earlier (statement.Call c.args.call) ≡ false)
+    × (lacks_obtain earlier (statement.Call c.args.call) ≡ c.lacks_obtain.result)
+asked c earlier b =
+    let n = notes_of c.args.self.now in (
+      order earlier n b c.args.call c.in-Some.costs c.in-Some.is c.if-self.false,
+      counted earlier n b c.args.call c.in-Some.costs c.in-Some.is c.if-self.false
+          (omega (arith, c.len.ensures, c.if-len-ge-MOST_CALLS.false)),
+      means earlier n b c.args.call c.in-Some.costs c.in-Some.is c.if-self.false
+          ∙ sym (c.lacks_obtain.ensures n.calls (sym b.far.obtains)),
+    )
+
 pub returns-then-lacks_obtain : goal.returns-then-lacks_obtain
 returns-then-lacks_obtain c = λ earlier b good.
-    let n = notes_of c.args.self.now in
-    let o = order earlier n b c.args.call c.in-Some.costs c.in-Some.is c.if-self.false in
-    let m = counted earlier n b c.args.call c.in-Some.costs c.in-Some.is c.if-self.false
-    (omega (arith, c.len.ensures, c.if-len-ge-MOST_CALLS.false)) in
-    let l = means earlier n b c.args.call c.in-Some.costs c.in-Some.is c.if-self.false
-    ∙ sym (c.lacks_obtain.ensures n.calls (sym b.far.obtains)) ∙ c.if-lacks_obtain.true in
-    none earlier (statement.Call c.args.call) o m refl l
+    let a = asked (goal.at.returns-then-lacks_obtain c).After-lacks_obtain earlier b in
+    none earlier (statement.Call c.args.call) a.0 a.1 refl (a.2 ∙ c.if-lacks_obtain.true)
 
 pub returns-then-cost-self : goal.returns-then-cost-self
 returns-then-cost-self c = λ earlier b good.
     let n = notes_of c.args.self.now in
-    let o = order earlier n b c.args.call c.in-Some.costs c.in-Some.is c.if-self.false in
-    let m = counted earlier n b c.args.call c.in-Some.costs c.in-Some.is c.if-self.false
-    (omega (arith, c.len.ensures, c.if-len-ge-MOST_CALLS.false)) in
-    let l = means earlier n b c.args.call c.in-Some.costs c.in-Some.is c.if-self.false
-    ∙ sym (c.lacks_obtain.ensures n.calls (sym b.far.obtains)) ∙ c.if-lacks_obtain.false in
+    let a = asked (goal.at.returns-then-cost-self c).After-lacks_obtain earlier b in
     let d = price earlier n b c.args.call c.in-Some.costs c.in-Some.is c.if-self.false c.cost-cost.result c.cost-cost.ensures in
-    much earlier (statement.Call c.args.call) o m refl l
+    much earlier (statement.Call c.args.call) a.0 a.1 refl (a.2 ∙ c.if-lacks_obtain.false)
     (too_much earlier n b c.args.call (begun earlier n b c.args.call c.in-Some.costs c.in-Some.is c.if-self.false)
     (omega (arith, d, c.if-cost-self.true)))
 
 pub returns-then-uses_any : goal.returns-then-uses_any
 returns-then-uses_any c = λ earlier b good.
     let n = notes_of c.args.self.now in
-    let o = order earlier n b c.args.call c.in-Some.costs c.in-Some.is c.if-self.false in
-    let m = counted earlier n b c.args.call c.in-Some.costs c.in-Some.is c.if-self.false
-    (omega (arith, c.len.ensures, c.if-len-ge-MOST_CALLS.false)) in
-    let l = means earlier n b c.args.call c.in-Some.costs c.in-Some.is c.if-self.false
-    ∙ sym (c.lacks_obtain.ensures n.calls (sym b.far.obtains)) ∙ c.if-lacks_obtain.false in
+    let a = asked (goal.at.returns-then-uses_any c).After-lacks_obtain earlier b in
     let d = price earlier n b c.args.call c.in-Some.costs c.in-Some.is c.if-self.false c.cost-cost.result c.cost-cost.ensures in
     let e = not_much earlier n b c.args.call (begun earlier n b c.args.call c.in-Some.costs c.in-Some.is c.if-self.false)
     (omega (arith, d, c.if-cost-self.false)) in
-    used earlier (statement.Call c.args.call) o m refl l e
+    used earlier (statement.Call c.args.call) a.0 a.1 refl (a.2 ∙ c.if-lacks_obtain.false) e
     (use_stated earlier n b c.args.call c.in-Some.costs c.in-Some.is c.if-self.false c.stated_table.result c.uses_any.result
     c.stated_table.ensures c.uses_any.ensures ∙ c.if-uses_any.true)
 

@@ -18,9 +18,9 @@ returns-then-is_some c = λ earlier b good.
     let begun : is_some n.costs ≡ true = sym c.is_some.ensures ∙ c.if-is_some.true in
     let t = taken_task earlier n b order (omega (arith, c.task_count.ensures earlier b, c.if-task_count-self.false, b.far.stated)) begun in
     let e = c.in_ok-finish.ensures in
-    let same = same_notes e.rest.0 (ap (λ v. v.items) e.rest.1.0) (ap (λ v. map exit_of v.items) e.rest.1.1.0) e.rest.1.1.1.1.1.1
-    e.rest.1.1.1.0
-    e.tasks e.budgets e.fresh.0 e.fresh.1.0 e.fresh.1.1 e.rest.1.1.1.1.0 e.rest.1.1.1.1.1.0 in
+    let same = same_notes e.others.0 (ap (λ v. v.items) e.others.1.0) (ap (λ v. map exit_of v.items) e.others.1.1.0) e.others.1.1.1.1.1.1
+    e.others.1.1.1.0
+    e.tasks e.budgets e.fresh.0 e.fresh.1.0 e.fresh.1.1 e.others.1.1.1.1.0 e.others.1.1.1.1.1.0 in
     (t.0, subst (λ (m : Notes). Stands (earlier ++ statement.Task ∷ []) m) (sym same) t.1)
 
 pub unbudgeted-requires : goal.unbudgeted-requires
