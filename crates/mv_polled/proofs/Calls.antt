@@ -1,12 +1,8 @@
 -- The call of a need, from its first poll to its answer.
-use Rattle.std.proofs.Common.{◌≡◌, ℕ, ◌*◌, List, length, take, Option, Result, refl, sym, ap, subst, arith}
+use Rattle.std.proofs.Common.{◌≡◌, ℕ, length, take, refl, sym, ap, subst, arith}
 use Rattle.std.proofs.lemmas.List.{length-take-le}
 use Rattle.mv_board.specs.Faces.{BoardFace, CallerFace}
-use Rattle.mv_calls.specs.LatchCalls.{Obtained, obtain}
-use Rattle.mv_calls.specs.Refusal.{Refusal}
 use Rattle.mv_calls.specs.Waits.{wait}
-use Rattle.mv_latch.specs.declared.request.LatchForm.TheVariants.{Waiting}
-use Rattle.mv_latch.specs.declared.request.Mode.{Mode}
 use Rattle.mv_machine.specs.Setup.{Setup}
 use Rattle.mv_polled.specs.Waiting.{WaitFace, IsWaitAt}
 use Rattle.mv_polled.specs.Pausing.{PauseFace, IsPauseAt}
@@ -15,7 +11,6 @@ use Rattle.mv_polled.specs.declared.meeting.Call.{Call}
 use Rattle.mv_polled.specs.declared.meeting.Call.TheVariants as call
 use Rattle.mv_polled.specs.declared.meeting.Meeting.{Meeting}
 use Rattle.mv_polled.specs.Meeting.{IsCallOf, IsMeeting, IsNeed, IsTaken, IsTakenUp}
-use Rattle.mv_wait.specs.Run.{IsServed}
 use Rattle.mv_work.specs.declared.need.Need.{Need}
 use Rattle.mv_work.specs.declared.need.Need.TheVariants as need
 use Rattle.mv_work.specs.Meeting.{MayMeet}

@@ -60,9 +60,6 @@ listed_stays ws e x false l = l
 
 -- ---- the blocks that are not ready
 
-unready_cons : (ws : List Watch) (x : ℕ) (es : List ℕ) → unready ws (x ∷ es) ≡ cond (not (is_listed ws x)) (x ∷ unready ws es) (unready ws es)
-unready_cons ws x es = refl
-
 -- a look at another block leaves those of a list
 unready_same : (ws : List Watch) (e : ℕ) (is : Bool) (es : List ℕ) → AllByRecursion (λ m. m ≡ e → ⊥) es
     → unready (with_watch is (watch.Ecb e) ws) es ≡ unready ws es

@@ -18,7 +18,7 @@ use Rattle.mv_polled.specs.declared.turn.Stage.TheVariants.{Begun, Over}
 use Rattle.mv_polled.specs.declared.turn.Turn.{Turn}
 use Rattle.mv_polled.specs.declared.turn.Turn.TheVariants.{Ready, Pending}
 use Rattle.mv_polled.specs.Obtaining.{ObtainFace, new_obtain, IsObtainAt, IsObtained, IsLeftObtaining}
-use Rattle.mv_polled.specs.Turn.{AtStage, MatchTurn}
+use Rattle.mv_polled.specs.Turn.{MatchTurn}
 
 pub obtained_by : (c : Setup) (q : ObtainFace) (t0 u : CallerFace) (r : Result Obtained ObtainRefusal)
     → IsObtainMade c q.latch q.requestor q.mode Waiting t0 r u → q.stage ≡ Over → IsObtained c q r t0 u
@@ -56,11 +56,6 @@ obtain_since c q t0 t u v Pending m is = record {
   };
   stage = is.stage;
 }
-
--- one that was left waiting may be polled again
-pub obtain_goes_on : (c : Setup) (q : ObtainFace) (t0 t u : CallerFace) → IsLeftObtaining c q t0 t u → IsObtainAt c q t0 u
-obtain_goes_on c q t0 t u l =
-    subst (λ s. AtStage s ((u ≡ t0) × MayObtain t0) (IsObtaining c q.latch q.requestor q.mode q.id t0 u)) (sym l.stage) l.obtaining
 
 -- a new obtain may be polled by a task that meets what it asks
 pub obtain_may_begin : (c : Setup) (q : ObtainFace) (latch requestor : ℕ) (mode : Mode) (t : CallerFace)

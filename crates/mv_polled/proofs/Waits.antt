@@ -119,9 +119,11 @@ turn_since c w more t0 t u v Pending m is = left_since c w more t0 t u v m is
 
 -- one that was left waiting may be polled again
 pub wait_goes_on : (c : Setup) (w : WaitFace) (t0 t u : CallerFace) → IsLeftWaiting c w t0 t u → IsWaitAt c w t0 u
-wait_goes_on c w t0 t u l = subst (λ s. AtStage s ((u ≡ t0) × MayWait c w.ecbs t0) (IsWaiting c w.count w.ecbs t0 u)) (sym l.stage) l.waiting
+wait_goes_on c w t0 t u l = subst (λ s. AtStage s ((u ≡ t0) × MayWait c w.ecbs t0) (IsWaiting c w.count w.ecbs t0 u))
+    (sym l.stage) l.waiting
 
 -- a new wait may be polled by a task that meets what it asks
-pub wait_may_begin : (c : Setup) (w : WaitFace) (room count : ℕ) (es : List ℕ) (t : CallerFace) → w ≡ new_wait room count es → MayWait c es t
+pub wait_may_begin : (c : Setup) (w : WaitFace) (room count : ℕ) (es : List ℕ) (t : CallerFace) → w ≡ new_wait room count es
+    → MayWait c es t
     → (t0 : CallerFace) × IsWaitAt c w t0 t
 wait_may_begin c w room count es t is may = (t, subst (λ (f : WaitFace). IsWaitAt c f t t) (sym is) (refl, may))

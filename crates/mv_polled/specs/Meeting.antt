@@ -13,22 +13,23 @@ use Rattle.mv_polled.specs.declared.meeting.Meeting.{Meeting}
 use Rattle.mv_work.specs.declared.need.Blocks.{Blocks}
 use Rattle.mv_work.specs.declared.need.Need.{Need}
 use Rattle.mv_work.specs.declared.need.Need.TheVariants as need
+use Rattle.mv_work.specs.Needs.{most_blocks}
 
--- there is room for a wait for eight blocks
+-- there is room for a wait for as many blocks as a task waits for
 abbrev pub HasRoom : Meeting → Type 0
-HasRoom m = m.wait.room ≡ 8
+HasRoom m = m.wait.room ≡ most_blocks
 
--- at most eight blocks are needed
+-- no more blocks are needed than a task waits for
 abbrev pub IsNeed : Need → Type 0
-IsNeed (need.Blocks b) = (b.len ≤ 8) × (length b.of ≡ 8)
+IsNeed (need.Blocks b) = (b.len ≤ most_blocks) × (length b.of ≡ most_blocks)
 IsNeed (need.Block e) = Unit {0}
 IsNeed (need.Pause token) = Unit {0}
 IsNeed (need.Latch latch requestor mode) = Unit {0}
 
 -- the call of the need was taken up, and not polled yet
 abbrev pub IsTaken : Need → Call → WaitFace → Type 0
-IsTaken (need.Blocks b) call.Wait w = w ≡ new_wait 8 b.count (take b.len b.of)
-IsTaken (need.Block e) call.Block w = w ≡ new_wait 8 1 (e ∷ [])
+IsTaken (need.Blocks b) call.Wait w = w ≡ new_wait most_blocks b.count (take b.len b.of)
+IsTaken (need.Block e) call.Block w = w ≡ new_wait most_blocks 1 (e ∷ [])
 IsTaken (need.Pause token) (call.Pause p) w = p ≡ new_pause token
 IsTaken (need.Latch latch requestor mode) (call.Obtain q) w = q ≡ new_obtain latch requestor mode
 IsTaken n c w = ⊥
@@ -40,7 +41,7 @@ IsTakenUp n m = IsTaken n m.call m.wait
 -- a wait for these blocks may be polled
 abbrev pub IsWaitFor : Setup → Blocks → WaitFace → CallerFace → CallerFace → Type 0
 IsWaitFor c b w u v =
-    (w.count ≡ b.count) × (w.ecbs ≡ take b.len b.of) × (b.len ≤ 8) × (length b.of ≡ 8) × IsWaitAt c w u v
+    (w.count ≡ b.count) × (w.ecbs ≡ take b.len b.of) × (b.len ≤ most_blocks) × (length b.of ≡ most_blocks) × IsWaitAt c w u v
 
 -- and one for this block
 abbrev pub IsBlockFor : Setup → ℕ → WaitFace → CallerFace → CallerFace → Type 0

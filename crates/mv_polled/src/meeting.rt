@@ -10,6 +10,7 @@ ghost use Rattle.mv_polled.specs.Turn.{MatchTurn};
 ghost use Rattle.mv_polled.specs.Waiting.{IsWaitAt};
 ghost use Rattle.mv_polled.specs.Meeting.{HasRoom, IsMeeting, IsNeed, IsTakenUp, IsWaitFor, IsBlockFor, IsPauseFor, IsObtainFor};
 ghost use Rattle.mv_work.specs.Meeting.{IsMet};
+ghost use Rattle.mv_work.specs.Needs.{most_blocks};
 ghost use Rattle.mv_work.specs.declared.need.Blocks.{Blocks as BlocksValue};
 ghost use Rattle.mv_work.specs.declared.need.Need.{Need as NeedValue};
 ghost use Rattle.mv_work.specs.declared.need.Need.TheVariants as need;
@@ -100,7 +101,7 @@ impl Meeting {
     }
 }
 
-// Polls a wait of at most eight blocks.
+// Polls a wait for blocks.
 fn await_blocks<R: Wait>(
     rt: &R,
     station: &Station,
@@ -109,7 +110,7 @@ fn await_blocks<R: Wait>(
 ) -> Turn<Result<Got, Lost>>
     requires task { IsOf station.now task.old }
     requires stage { (t : CallerFace) × IsWaitAt station.now.config call.old t task.old }
-    requires few { length call.old.ecbs ≤ 8 }
+    requires few { length call.old.ecbs ≤ most_blocks }
     ensures room { call.new.room ≡ call.old.room }
     ensures same { IsSame task.old task.new }
     ensures turn { (b : BlocksValue) (t : CallerFace) → IsWaitFor station.now.config b call.old t task.old → MatchTurn result

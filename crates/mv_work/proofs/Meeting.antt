@@ -116,7 +116,8 @@ module _ (b : BoardFace) (deck : List JobData) (i : ℕ) (w : Work) (t : CallerF
       (λ v x. initiator_worked b.config deck i w at.0 at.1 at.2 x)
   ready_at (Some (stage.Writer j)) is at =
       ready (ends_found w) (Some (stage.Writer j)) (writer i) at.0 at.1 (λ fits. fits.may)
-      (λ g to fits. record { number = fits.number; room = fits.room; slot = slots_are b.config (writer i) None n g to fits.block fits.may }) (λ g v x. (at.0, x))
+      (λ g to fits. record { number = fits.number; room = fits.room; slot = slots_are b.config (writer i) None n g to fits.block fits.may })
+      (λ g v x. (at.0, x))
       (λ v x. writer_worked b.config deck i w at.0 x)
 
   pub waits_ready : b.config ≡ spool_setup deck i → HasCome b deck i w t (Some n) u → CanMeet b deck i w t n u w.stage

@@ -13,6 +13,7 @@ use Rattle.mv_calls.specs.Program.{Call, accepted, finished, followed}
 use Rattle.mv_deck.specs.declared.deck.Step.{Step}
 use Rattle.mv_deck.specs.declared.deck.Step.TheVariants.{Print, Scan}
 use Rattle.mv_deck.specs.Deck.{JobData}
+use Rattle.mv_deck.specs.Operand.{highest_latch}
 use Rattle.mv_deck.specs.Weight.{step_events}
 use Rattle.mv_plan.specs.Jobs.{job_at}
 use Rattle.mv_plan.specs.SpoolSetup.{done, initiator}
@@ -153,7 +154,7 @@ pub record IsRunning (deck : List JobData) (me : ℕ) (notes : Notes) (r : Runni
 -- an initiator that waits at this stage
 abbrev pub IsInitiating : List JobData → ℕ → Notes → InitiatorStage → Type 0
 IsInitiating deck me notes (Pause round) = IsBetween deck notes round
-IsInitiating deck me notes (Latch r) = IsRunning deck me notes r × (r.latch ≤ 7)
+IsInitiating deck me notes (Latch r) = IsRunning deck me notes r × (r.latch ≤ highest_latch)
 
 -- the initiator waits for what its stage says
 abbrev pub IsInitiatorNeed : List JobData → ℕ → Notes → InitiatorStage → Need → Type 0

@@ -11,7 +11,7 @@ use Rattle.mv_work.specs.declared.need.Got.{Got}
 use Rattle.mv_work.specs.declared.need.Got.TheVariants as got
 use Rattle.mv_work.specs.declared.need.Need.{Need}
 use Rattle.mv_work.specs.declared.need.Need.TheVariants as need
-use Rattle.mv_work.specs.Needs.{answer_of, need_call, need_events}
+use Rattle.mv_work.specs.Needs.{answer_of, most_blocks, need_call, need_events}
 use Rattle.mv_work.specs.Ran.{Ran}
 
 -- an answer to this need: as many slots as blocks, a code for one block, the next token of the same element, a request for the latch
@@ -31,7 +31,8 @@ IsMet c n t r u = MatchResult r
 
 -- what a need of task k asks of the configuration
 abbrev pub MayMeet : Setup → ℕ → Need → Type 0
-MayMeet c k (need.Blocks b) = (b.len ≤ 8) × (length b.of ≡ 8) × AllByRecursion (λ e. e < length c.owners) (take b.len b.of)
+MayMeet c k (need.Blocks b) =
+    (b.len ≤ most_blocks) × (length b.of ≡ most_blocks) × AllByRecursion (λ e. e < length c.owners) (take b.len b.of)
 MayMeet c k (need.Block e) = (e < length c.owners) × (owner_of c e ≡ k) × (StartsExit c e → ⊥)
 MayMeet c k (need.Pause token) = token.element < element_count c
 MayMeet c k (need.Latch latch requestor mode) = Unit {0}

@@ -15,6 +15,10 @@ use Rattle.mv_work.specs.declared.need.Need.TheVariants as need
 use Rattle.mv_work.specs.declared.need.Got.{Got}
 use Rattle.mv_work.specs.declared.need.Got.TheVariants as got
 
+-- how many blocks a task waits for at once, at most
+abbrev pub most_blocks : ℕ
+most_blocks = 8
+
 -- what a wait tells: how its blocks were found, what a pause was given, or the number of a request that was granted
 pub data Answer : Type 0 where
   Slots : (slots : List (Option ℕ)) → Answer
@@ -26,7 +30,7 @@ pub record IsWaitFor (n : ℕ) (es : List ℕ) (b : Blocks) : Type 0 where
   pub count : b.count ≡ n
   pub len : b.len ≡ length es
   pub blocks : take b.len b.of ≡ es
-  pub room : length b.of ≡ 8
+  pub room : length b.of ≡ most_blocks
 
 -- the call that a need is. It is not to be refused
 abbrev pub need_call : Setup → Need → Call Answer

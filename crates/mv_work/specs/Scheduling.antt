@@ -17,7 +17,7 @@ use Rattle.mv_work.specs.declared.need.Need.TheVariants as need
 use Rattle.mv_work.specs.declared.stage.SchedulerStage.{SchedulerStage}
 use Rattle.mv_work.specs.declared.stage.SchedulerStage.TheVariants.{Entry, Ends, Idle, Dismissal}
 use Rattle.mv_work.specs.Meeting.{MayMeet}
-use Rattle.mv_work.specs.Needs.{Answer, on_slots}
+use Rattle.mv_work.specs.Needs.{Answer, most_blocks, on_slots}
 use Rattle.mv_work.specs.Waiting.{Asks, Comes, Stages}
 
 -- the dismissals from initiator m on
@@ -101,7 +101,7 @@ AreBlocks count n = ⊥
 -- and told of
 abbrev pub AreSlots : Option ℕ → Got → Type 0
 AreSlots None (got.Code code) = Unit {0}
-AreSlots (Some count) (got.Slots s) = (s.len ≡ count) × (s.len ≤ 8)
+AreSlots (Some count) (got.Slots s) = (s.len ≡ count) × (s.len ≤ most_blocks)
 AreSlots count g = ⊥
 
 -- the scheduler waits for what its stage says

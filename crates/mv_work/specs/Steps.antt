@@ -5,7 +5,7 @@ use Rattle.mv_calls.specs.Program.{Done, Wrong}
 use Rattle.mv_deck.specs.declared.deck.Step.{Step}
 use Rattle.mv_deck.specs.declared.deck.Step.TheVariants.{Use}
 use Rattle.mv_deck.specs.EndCode.{not_run}
-use Rattle.mv_deck.specs.Operand.{volume_count}
+use Rattle.mv_deck.specs.Operand.{volume_count, highest_latch}
 use Rattle.mv_latchset.specs.declared.token.LatchToken.{LatchToken}
 use Rattle.mv_machine.specs.Reach.{release_cost}
 use Rattle.mv_machine.specs.Setup.{Setup}
@@ -24,7 +24,7 @@ BearsSteps c = (c.latches ≡ volume_count) × (c.volumes ≡ volume_count) × (
 abbrev pub requests_of : List (Option LatchToken) → ℕ → Option ℕ
 requests_of tokens latch = option_map (λ t. t.id) (slice_index_or tokens latch None)
 
--- there is room for each of eight latches, and each token is of its latch
+-- there is room for each latch, and each token is of its latch
 pub record AreKept (tokens : List (Option LatchToken)) : Type 0 where
   pub count : length tokens ≡ volume_count
   pub own : (latch : ℕ) (t : LatchToken) → slice_index_or tokens latch None ≡ Some t → t.latch ≡ latch
@@ -47,4 +47,4 @@ DoesStep c job tokens place notes step (Err lost) after t u = (steps : List Step
 abbrev pub IsGoodDid : Did → Type 0
 IsGoodDid did.Went = Unit {0}
 IsGoodDid (did.Ended end) = end < not_run
-IsGoodDid (did.Asks latch mode) = latch ≤ 7
+IsGoodDid (did.Asks latch mode) = latch ≤ highest_latch

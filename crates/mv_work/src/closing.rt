@@ -47,8 +47,8 @@ pub struct SpoolRun {
     pub volumes: Vec<u32>,
 }
 
-// The numbers of the eight volumes, as a list.
-fn volumes_of(alloc: Global, held: &[u32; 8]) -> Result<Vec<u32>, NoMemory>
+// The numbers of the volumes, as a list.
+fn volumes_of(alloc: Global, held: &[u32; VOLUME_COUNT]) -> Result<Vec<u32>, NoMemory>
     ensures { IfOk result (λ volumes. volumes.items ≡ map (λ volume. slice_index held.now volume) (range_with_len 0 volume_count)) }
 {
     let mut volumes = Vec::with_capacity(alloc, VOLUME_COUNT)?;

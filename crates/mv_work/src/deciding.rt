@@ -1,4 +1,4 @@
-//! What the scheduler decides. Clauses cite the plan's `SpoolTasks.antt`, and `specs/Parts.antt`.
+//! What the scheduler decides. Clauses cite the plan's `SpoolTasks.antt`, and `specs/Needs.antt`, `Parts.antt`.
 
 ghost use Rattle.std.specs.Prelude.{◌≡◌, ◌<◌, ◌≤◌, length, map, take};
 ghost use Rattle.std.specs.List.{AllByRecursion, range_with_len};
@@ -8,6 +8,7 @@ ghost use Rattle.mv_deck.specs.Weight.{most_initiators};
 ghost use Rattle.mv_plan.specs.SpoolSetup.{jobs_limit, idle};
 ghost use Rattle.mv_plan.specs.SpoolTasks.{code_of, ends_of, some_end_above};
 ghost use Rattle.mv_wait.specs.Answers.{slot_of, slots_of};
+ghost use Rattle.mv_work.specs.Needs.{most_blocks};
 ghost use Rattle.mv_work.specs.Parts.{is_end_above};
 
 use crate::initiator::NOT_TO_RUN;
@@ -21,7 +22,7 @@ pub(crate) fn end_blocks(jobs: u32, after: &[After]) -> [u32; MOST_BLOCKS]
     requires jobs { (jobs ≤ jobs_limit) × (length after.now ≤ most_after) }
     requires earlier { AllByRecursion (λ part. part.job < jobs) after.now }
     ensures blocks { take (length after.now) result ≡ ends_of jobs after.now }
-    ensures room { length result ≡ 8 }
+    ensures room { length result ≡ most_blocks }
 {
     let mut blocks = [0; MOST_BLOCKS];
     for k in 0..after.len() {
@@ -70,7 +71,7 @@ pub(crate) fn job_code(job: u32, skipped: bool) -> u32
 pub(crate) fn idle_blocks(jobs: u32, initiators: u32) -> [u32; MOST_BLOCKS]
     requires { (jobs ≤ jobs_limit) × (initiators ≤ most_initiators) }
     ensures blocks { take initiators result ≡ map (idle jobs) (range_with_len 0 initiators) }
-    ensures room { length result ≡ 8 }
+    ensures room { length result ≡ most_blocks }
 {
     let mut blocks = [0; MOST_BLOCKS];
     for i in 0..initiators {

@@ -1,6 +1,6 @@
 //! An initiator. Clauses cite the plan's `SpoolTasks.antt`, and `specs/Waiting.antt`, `specs/Noting.antt` and `specs/Initiating.antt`.
 
-ghost use Rattle.std.specs.Prelude.{◌≡◌, ◌<◌, ◌≤◌, ◌+◌, ◌-◌, ℕ, suc, [], false, length, option_map, IfOk};
+ghost use Rattle.std.specs.Prelude.{◌≡◌, ◌<◌, ◌≤◌, ◌+◌, ◌-◌, suc, [], false, length, option_map, IfOk};
 ghost use Rattle.std.specs.List.{AllByRecursion};
 ghost use Rattle.mv_deck.specs.EndCode.{not_run};
 ghost use Rattle.mv_pause.specs.Answers.{gift_of};
@@ -8,7 +8,8 @@ ghost use Rattle.mv_plan.specs.Jobs.{job_at};
 ghost use Rattle.mv_plan.specs.SpoolSetup.{jobs_limit, initiator as plan_initiator};
 ghost use Rattle.mv_plan.specs.SpoolTasks.{job_named as named_by};
 ghost use Rattle.mv_work.specs.Initiating.{InitiatorComes, IsAtJob, IsInitiatorAnswer, IsBetween, IsOwn, initiator_due, initiator_left};
-ghost use Rattle.mv_work.specs.Initiating.{job_then, marks_left, rounds_after, rounds_due, steps_events, step_marks, steps_marks, steps_then};
+ghost use Rattle.mv_work.specs.Initiating.{job_then, marks_left, rounds_after, rounds_due, steps_events, step_marks, steps_marks};
+ghost use Rattle.mv_work.specs.Initiating.{steps_then};
 ghost use Rattle.mv_work.specs.Needs.{Gave, answer_of};
 ghost use Rattle.mv_work.specs.Noting.{initiating_noted, record_of, rounds_noted};
 ghost use Rattle.mv_work.specs.Parts.{jobs_of, named_of};

@@ -1,6 +1,7 @@
-//! What a task waits for, and what it is told.
+//! What a task waits for, and what it is told. Clauses cite `specs/Needs.antt`.
 
 ghost use Rattle.std.specs.Prelude.{◌≡◌, ◌≤◌, take, length};
+ghost use Rattle.mv_work.specs.Needs.{most_blocks};
 
 use mv_element::Token;
 use mv_latch::Mode;
@@ -49,9 +50,9 @@ pub enum Got {
     Granted(LatchToken),
 }
 
-/// These slots, eight at most, to be told to a task.
+/// These slots, `MOST_BLOCKS` at most, to be told to a task.
 pub fn slots_in(slots: &[WaitSlot]) -> Slots
-    requires { length slots.now ≤ 8 }
+    requires { length slots.now ≤ most_blocks }
     ensures len { result.len ≡ length slots.now }
     ensures slots { take (length slots.now) result.of ≡ slots.now }
 {

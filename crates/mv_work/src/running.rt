@@ -1,12 +1,11 @@
-//! Jobs that are run. Clauses cite the plan's `SpoolTasks.antt`, and `specs/Noting.antt`, `specs/Steps.antt` and
-//! `specs/Initiating.antt`.
+//! Jobs that are run. Clauses cite `specs/Steps.antt` and `specs/Initiating.antt`.
 
-ghost use Rattle.std.specs.Prelude.{◌≡◌, ◌<◌, ◌≤◌, ◌+◌, drop, IfOk};
+ghost use Rattle.std.specs.Prelude.{◌≡◌, ◌<◌, ◌≤◌, ◌+◌, IfOk};
 ghost use Rattle.mv_board.specs.Faces.{IsOf, IsSame};
 ghost use Rattle.mv_calls.specs.Rest.{IsAtRest};
+ghost use Rattle.mv_deck.specs.Operand.{highest_latch};
 ghost use Rattle.mv_deck.specs.Sound.{HasGoodNumbers};
 ghost use Rattle.mv_deck.specs.Weight.{step_events};
-ghost use Rattle.mv_plan.specs.Jobs.{job_at};
 ghost use Rattle.mv_work.specs.Initiating.{InitiatorComes, IsRunning, initiator_due, initiator_left, step_marks, steps_from};
 ghost use Rattle.mv_work.specs.Needs.{Holds};
 ghost use Rattle.mv_work.specs.Parts.{jobs_of};
@@ -127,7 +126,7 @@ pub(crate) fn on_granted<R: Wait, G: Gate>(
     requires spool { IsSpool station.now deck.now initiators }
     requires index { index < initiators }
     requires running { IsRunning (jobs_of deck.now) index notes.old running }
-    requires token { (running.latch ≤ 7) × (token.latch ≡ running.latch) }
+    requires token { (running.latch ≤ highest_latch) × (token.latch ≡ running.latch) }
     requires rests { IsResting station.now (initiator_due (jobs_of deck.now) notes.old.given.items (stage.Latch running)) task.old }
     ensures { InitiatorComes station.now (jobs_of deck.now) index notes.new
         (initiator_left station.now.config (jobs_of deck.now) index notes.old (stage.Latch running) (Holds token.id))

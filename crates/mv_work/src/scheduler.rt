@@ -3,7 +3,7 @@
 ghost use Rattle.std.specs.Prelude.{◌≡◌, ◌<◌, ◌≤◌, ◌+◌, ◌*◌, ◌-◌, [], ◌∷◌, length, MatchResult, Some};
 ghost use Rattle.mv_board.specs.Faces.{IsOf};
 ghost use Rattle.mv_element.specs.Table.{release_limit};
-ghost use Rattle.mv_calls.specs.Program.{Done, Wrong, followed};
+ghost use Rattle.mv_calls.specs.Program.{Done, Wrong};
 ghost use Rattle.mv_calls.specs.Rest.{IsAtRest};
 ghost use Rattle.mv_deck.specs.Weight.{most_initiators};
 ghost use Rattle.mv_plan.specs.Jobs.{job_at};
@@ -14,7 +14,7 @@ ghost use Rattle.mv_work.specs.Needs.{Slots, answer_of};
 ghost use Rattle.mv_work.specs.Parts.{HasInitiator, jobs_of};
 ghost use Rattle.mv_work.specs.Ran.{Ran};
 ghost use Rattle.mv_work.specs.Scheduling.{IsSchedulerAnswer, SchedulerAsks, SchedulerComes, scheduler_due, scheduler_left};
-ghost use Rattle.mv_work.specs.Scheduling.{dismissals_from, exit_set, first_idle, jobs_due, jobs_from, then_jobs};
+ghost use Rattle.mv_work.specs.Scheduling.{dismissals_from, exit_set, jobs_due, jobs_from, then_jobs};
 ghost use Rattle.mv_work.specs.Waiting.{IsResting, IsSpool};
 ghost use Rattle.mv_work.specs.declared.stage.SchedulerStage.TheVariants as stage;
 

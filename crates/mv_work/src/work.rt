@@ -1,6 +1,6 @@
 //! The work of a task, wait by wait. Clauses cite `specs/Works.antt` and `specs/Waiting.antt`.
 
-ghost use Rattle.std.specs.Prelude.{◌≡◌, ◌<◌, ◌≤◌, ◌+◌, IfOk};
+ghost use Rattle.std.specs.Prelude.{◌<◌, ◌≤◌, ◌+◌, IfOk};
 ghost use Rattle.mv_board.specs.Faces.{CallerFace, IsFresh};
 ghost use Rattle.mv_deck.specs.Weight.{most_initiators};
 ghost use Rattle.mv_work.specs.Parts.{jobs_of};

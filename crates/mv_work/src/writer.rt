@@ -1,6 +1,6 @@
-//! The writer. Clauses cite the plan's `SpoolTasks.antt`, and `specs/Waiting.antt` and `specs/Writing.antt`.
+//! The writer. Clauses cite `specs/Waiting.antt` and `specs/Writing.antt`.
 
-ghost use Rattle.std.specs.Prelude.{◌≡◌, ◌<◌, ◌≤◌, ◌+◌, ◌-◌, ◌*◌, ℕ, List, [], ◌∷◌, length, vec_capacity, Some};
+ghost use Rattle.std.specs.Prelude.{◌<◌, ◌≤◌, ◌+◌, ◌-◌, ◌*◌, ℕ, List, [], ◌∷◌, length, vec_capacity, Some};
 ghost use Rattle.mv_work.specs.Needs.{Slots};
 ghost use Rattle.mv_work.specs.Parts.{jobs_of};
 ghost use Rattle.mv_work.specs.Waiting.{Asks, IsResting, IsSpool};

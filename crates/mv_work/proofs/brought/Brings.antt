@@ -16,8 +16,8 @@ use Rattle.mv_machine.specs.Setup.{Setup}
 use Rattle.mv_calls.specs.Keeping.{Kept, kept_after}
 use Rattle.mv_calls.specs.LatchCalls.{Obtained, GrantedAs, PendingAs, release_latch}
 use Rattle.mv_calls.specs.Pauses.{Gift, gift_of, pause, paused, resumed, is_others_token}
-use Rattle.mv_calls.specs.Program.{Program, Do, Done, Early, Wrong, Heard, Call, Says, left, entries, going_on, unrefused, followed, accepted}
-use Rattle.mv_calls.specs.Program.{wrong, on_element, on_volume, unless_refused}
+use Rattle.mv_calls.specs.Program.{Program, Do, Done, Early, Wrong, Heard, Call, Says, left, entries, going_on, unrefused, followed}
+use Rattle.mv_calls.specs.Program.{accepted, wrong, on_element, on_volume, unless_refused}
 use Rattle.mv_calls.specs.Refusal.{Refusal}
 use Rattle.mv_calls.specs.Refusal as refusal
 use Rattle.mv_calls.specs.Waits.{read_volume, write_volume, the_value, refused_if}

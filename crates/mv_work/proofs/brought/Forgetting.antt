@@ -21,7 +21,8 @@ use Rattle.mv_deck.specs.declared.deck.Step.TheVariants.{Print, Use, Free, Count
 use Rattle.mv_deck.specs.EndCode.{not_run}
 use Rattle.mv_plan.specs.Jobs.{job_at}
 use Rattle.mv_plan.specs.SpoolSetup.{done, idle}
-use Rattle.mv_plan.specs.SpoolTasks.{Named, granted_as, freed, counted, named_by, job_named, run_steps, job_done, run_job, rounds, initiating}
+use Rattle.mv_plan.specs.SpoolTasks.{Named, granted_as, freed, counted, named_by, job_named, run_steps, job_done, run_job, rounds}
+use Rattle.mv_plan.specs.SpoolTasks.{initiating}
 use Rattle.mv_work.specs.declared.records.Noted.{Noted}
 use Rattle.mv_work.specs.declared.records.Noted.TheVariants.{Printed, Scanned}
 use Rattle.mv_work.specs.Initiating.{job_then, jobs_of_records}

@@ -22,7 +22,8 @@ use Rattle.mv_calls.specs.Endings.{end_of_job}
 use Rattle.mv_calls.specs.Keeping.{Kept}
 use Rattle.mv_calls.specs.LatchCalls.{Obtained, obtain, obtain_refusal, obtained, confirmed, release_latch, let_go, purge, purged}
 use Rattle.mv_calls.specs.Pauses.{allocate, open_lowest, lowest_free, opened, deallocate, closed, is_others_token}
-use Rattle.mv_calls.specs.Posts.{Posting, Posted, Woke, Already, posting, posted_next, each_posted, post_within, post, wake_posted, wakes_posted}
+use Rattle.mv_calls.specs.Posts.{Posting, Posted, Woke, Already, posting, posted_next, each_posted, post_within, post, wake_posted}
+use Rattle.mv_calls.specs.Posts.{wakes_posted}
 use Rattle.mv_calls.specs.Program.{Program, Do, Done, Early, Wrong, Heard, on_ecb, on_element, on_volume, on_latch}
 use Rattle.mv_calls.specs.Program.{and_then, unless_refused}
 use Rattle.mv_calls.specs.Refusal.{Refusal}

@@ -1,9 +1,8 @@
-use Rattle.std.proofs.Common.{map, sym, ◌∙◌, subst}
+use Rattle.std.proofs.Common.{sym, ◌∙◌, subst}
 use Rattle.mv_board.specs.Faces.{AreInOrder}
 use Rattle.mv_work.specs.Parts.{jobs_of}
-use Rattle.mv_work.specs.Works.{AreWorked}
 use Rattle.mv_work.proofs.Histories.{is_left}
-use Rattle.mv_polled.proofs.Running.{are_polled, are_worked, polled_in_order, work_of}
+use Rattle.mv_polled.proofs.Running.{are_polled, are_worked, polled_in_order}
 use Rattle.mv_polled.proofs.spool.run_tasks.Goals as goal
 
 pub poll_all-polled-requires-clause-polled : goal.poll_all-polled-requires-clause-polled

@@ -1,12 +1,14 @@
-use Rattle.std.proofs.Common.{◌≡◌, ℕ, ◌-◌, ◌<◌, Bool, false, true, if◌then◌else◌, List, length, Option, Some, sym, ap, ◌∙◌, arith}
+use Rattle.std.proofs.Common.{◌≡◌, ℕ, ◌+◌, ◌-◌, ◌<◌, Bool, false, true, if◌then◌else◌, List, length, set, Option, Some, sym, ap, ◌∙◌, arith}
 use Rattle.std.proofs.lemmas.List.{get_or_default, length-set}
+use Rattle.mv_deck.specs.Deck.{JobData}
 use Rattle.mv_deck.specs.declared.deck.Job.{Job}
+use Rattle.mv_plan.specs.Jobs.{job_at}
 use Rattle.mv_plan.specs.SpoolTasks.{Named, job_named}
 use Rattle.mv_pause.specs.Answers.{gift_of, deallocate_answer}
 use Rattle.mv_work.specs.declared.running.Named as code
 use Rattle.mv_calls.specs.Program.{wrong}
 use Rattle.mv_work.specs.Initiating.{given_then, job_then, jobs_of_records, rounds_after}
-use Rattle.mv_work.specs.Initiating.{job_marks, steps_events}
+use Rattle.mv_work.specs.Initiating.{job_marks, left_of, steps_events}
 use Rattle.mv_work.specs.Parts.{jobs_of, named_of}
 use Rattle.mv_plan.proofs.points.InitiatorSound.{named_is}
 use Rattle.mv_work.proofs.Decks.{job_count}
@@ -64,13 +66,26 @@ left_is g c b is =
     (gift_of c.args.given) c.if-given-eq-NO_JOB.false some (omega arith) between.given (omega arith) b
     (get_or_default c.args.notes.now.given.items c.in_ok-named.named.job false c.index.result.now (omega arith) ∙ sym c.index.ensures ∙ is)
 
+-- and of what is left of the jobs, its own is gone, where it was not given before
+left_one : (g : bound.Over) (c : After-index g) → c.index.result.now ≡ false → (f : JobData → ℕ)
+    → left_of f (set c.args.notes.now.given.items c.in_ok-named.named.job true) (jobs_of c.args.deck.now)
+    + f (job_at (jobs_of c.args.deck.now) c.in_ok-named.named.job)
+    ≡ left_of f c.args.notes.now.given.items (jobs_of c.args.deck.now)
+left_one g c is f =
+    let count = job_count c.args.deck.now in
+    let given = c.args.notes.now.given.items in
+    let job = c.in_ok-named.named.job in
+    let size = c.requires.between.size in
+    let lt = named_place c.args.deck.now c.args.given.code c.in_ok-named.named c.in_ok-named.ensures in
+    left_less f given (jobs_of c.args.deck.now) job false (omega arith) size
+    (get_or_default given job false c.index.result.now (omega arith) ∙ sym c.index.ensures ∙ is)
+
 pub returns-then-index : goal.returns-then-index
 returns-then-index g c =
     comes_nowhere c.args.task.now (left_is g (goal.at.returns-then-index g c).After-index true c.if-index.true) c.requires.rests.quiet
 
 pub start_job-requires-clause-at : goal.start_job-requires-clause-at
 start_job-requires-clause-at g c =
-    let deck = jobs_of c.args.deck.now in
     let count = job_count c.args.deck.now in
     let given = c.args.notes.now.given.items in
     let job = c.in_ok-named.named.job in
@@ -78,8 +93,7 @@ start_job-requires-clause-at g c =
     let within = between.round in
     let size = between.size in
     let lt = named_place c.args.deck.now c.args.given.code c.in_ok-named.named c.in_ok-named.ensures in
-    let free = get_or_default given job false c.index.result.now (omega arith) ∙ sym c.index.ensures ∙ c.if-index.false in
-    let less = left_less job_marks given deck job false (omega arith) size free in
+    let less = left_one g (goal.at.start_job-requires-clause-at g c).After-index c.if-index.false job_marks in
     let room = between.room in record {
       round = omega arith;
       job = omega arith;
@@ -90,16 +104,9 @@ start_job-requires-clause-at g c =
 
 pub start_job-requires-clause-rests : goal.start_job-requires-clause-rests
 start_job-requires-clause-rests g c =
-    let deck = jobs_of c.args.deck.now in
     let count = job_count c.args.deck.now in
-    let given = c.args.notes.now.given.items in
-    let job = c.in_ok-named.named.job in
-    let between = c.requires.between in
-    let within = between.round in
-    let size = between.size in
-    let lt = named_place c.args.deck.now c.args.given.code c.in_ok-named.named c.in_ok-named.ensures in
-    let free = get_or_default given job false c.index.result.now (omega arith) ∙ sym c.index.ensures ∙ c.if-index.false in
-    let less = left_less (λ j. steps_events j.steps) given deck job false (omega arith) size free in
+    let within = c.requires.between.round in
+    let less = left_one g (goal.at.start_job-requires-clause-rests g c).After-index c.if-index.false (λ j. steps_events j.steps) in
     rests_less c.requires.rests (omega arith)
 
 pub returns : goal.returns

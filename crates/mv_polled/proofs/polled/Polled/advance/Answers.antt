@@ -3,7 +3,6 @@ use Rattle.mv_polled.specs.declared.polled.Polled.{Polled}
 use Rattle.mv_polled.specs.Polled.{IsPolled, Stands}
 use Rattle.mv_polled.proofs.Polling.{fits, stands_next, waits}
 use Rattle.mv_wait.proofs.Runs.{same_then}
-use Rattle.mv_work.specs.Meeting.{IsMet}
 use Rattle.mv_work.specs.Parts.{jobs_of}
 use Rattle.mv_work.specs.Works.{WasTold}
 use Rattle.mv_work.proofs.Runs.{still_of}

@@ -1,8 +1,8 @@
-use Rattle.std.proofs.Common.{◌+◌, ◌<◌, sym, ap, ◌∙◌, subst}
+use Rattle.std.proofs.Common.{sym, subst}
 use Rattle.mv_board.specs.Faces.{CallerFace, IsFresh}
 use Rattle.mv_polled.proofs.Polling.{fits, new_stands, stands_next}
 use Rattle.mv_work.specs.Parts.{jobs_of}
-use Rattle.mv_work.specs.Works.{HasCome, IsNew}
+use Rattle.mv_work.specs.Works.{HasCome}
 use Rattle.mv_polled.proofs.polled.Polled.begin.Goals as goal
 
 pub begin-need-requires-clause-number : goal.begin-need-requires-clause-number
