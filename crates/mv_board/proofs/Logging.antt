@@ -15,7 +15,7 @@ use Rattle.mv_board.specs.declared.view.Sight.{Sight}
 use Rattle.mv_board.specs.declared.view.View.{View}
 use Rattle.mv_board.specs.declared.watch.Watch.{Watch}
 use Rattle.mv_board.specs.Caller.{face_of, IsSeated}
-use Rattle.mv_board.specs.Faces.{HappenedAt, Found, Missed, Shows, LooksAt, last_of}
+use Rattle.mv_board.specs.Faces.{HappenedAt, Found, Missed, Shows, LooksAt, last_of, part_of}
 use Rattle.mv_board.specs.Steps.{Meets, PossibleFor, entry_of}
 use Rattle.mv_board.specs.View.{own, first_of, with_own, part_met, part_logged, met, off}
 
@@ -133,13 +133,7 @@ module _ (c d : Inside) (o : Object) (op : Op) (place : ℕ) (reply : Reply) (sh
   }
 
   -- which say of the caller what its events say
-  parts_again : d.seat.me.0.parts ≡ record {
-    caller = d.events.caller;
-    left = d.events.left;
-    log = d.events.log.entries;
-    told = (own d.seat.me.0).told;
-    sights = (own d.seat.me.0).sights;
-  } ∷ []
+  parts_again : d.seat.me.0.parts ≡ part_of (face_of d) ∷ []
   parts_again = parts_after ∙ (λ i. record {
     caller = sym more.caller i;
     left = sym more.left i;

@@ -4,7 +4,7 @@ use Rattle.std.specs.List.{AllByRecursion}
 use Rattle.mv_machine.specs.Limits.{events_limit}
 use Rattle.mv_machine.specs.Setup.{Setup}
 use Rattle.mv_board.specs.declared.caller.Caller.TheInside.{Inside}
-use Rattle.mv_board.specs.Faces.{CallerFace, last_of}
+use Rattle.mv_board.specs.Faces.{CallerFace, last_of, part_of}
 use Rattle.mv_board.specs.View.{own}
 
 -- what its seat and its log say of it
@@ -27,13 +27,7 @@ face_of i = record {
 -- There is such a caller, and no caller has more events left than all have together
 pub record IsSeated (i : Inside) : Type 0 where
   pub empty : i.seat.me.1 ≡ []
-  pub parts : i.seat.me.0.parts ≡ record {
-    caller = i.events.caller;
-    left = i.events.left;
-    log = i.events.log.entries;
-    told = (own i.seat.me.0).told;
-    sights = (own i.seat.me.0).sights;
-  } ∷ []
+  pub parts : i.seat.me.0.parts ≡ part_of (face_of i) ∷ []
   pub turn : i.seat.me.0.turn ≡ []
   pub whose : i.events.log.caller ≡ i.events.caller
   pub room : i.events.left ≤ i.events.log.room

@@ -13,9 +13,11 @@ use atomic_table::Seat;
 use mv_latch::Wake;
 use mv_machine::{Object, Op, OpenLog, Reply};
 use std::marker::Model;
+use thiserror::Error;
 
 /// The word that an exchange found in place of the one expected: a place times 2^45, and a state in the 45 bits below.
-#[derive(Clone, Copy, Debug, PartialEq, Eq)]
+#[derive(Clone, Copy, Debug, PartialEq, Eq, Error)]
+#[error("the word was {0}")]
 pub struct Moved(pub u64);
 
 /// The events of one caller: those that it made, and how many it may still make.

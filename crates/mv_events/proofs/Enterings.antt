@@ -1,5 +1,6 @@
 -- Posts of events, by what their parts did.
-use Rattle.std.proofs.Common.{◌≡◌, ℕ, ◌+◌, ◌<◌, ◌≤◌, nat_lt, Bool, true, false, cond, Result, Ok, Err, ◌⊎◌, inl, inr, refl, sym, ap, ◌∙◌, subst, arith}
+use Rattle.std.proofs.Common.{◌≡◌, ℕ, ◌+◌, ◌<◌, ◌≤◌, nat_lt, Bool, true, false, cond, Result, Ok, Err, ◌⊎◌, inl, inr, refl, sym, ap, ◌∙◌}
+use Rattle.std.proofs.Common.{subst, arith}
 use Rattle.std.proofs.lemmas.Bool.{lt-ltb}
 use Rattle.mv_latch.specs.declared.request.LatchForm.TheVariants.{Waiting}
 use Rattle.mv_latch.specs.declared.request.Mode.TheVariants.{Exclusive}
@@ -23,9 +24,9 @@ use Rattle.mv_calls.proofs.TableFacts.{reaches_itself}
 use Rattle.mv_wait.specs.declared.posting.PostAnswer.{PostAnswer}
 use Rattle.mv_wait.specs.declared.posting.PostAnswer.TheVariants as answer
 use Rattle.mv_wait.specs.Answers.{post_answer}
-use Rattle.mv_wait.specs.Run.{Runs, IsServed}
+use Rattle.mv_wait.specs.Run.{Runs, IsServed, keeps}
 use Rattle.mv_wait.proofs.Runs.{runs_none, runs_then, runs_within, serves}
-use Rattle.mv_events.specs.Entering.{keeps, LeadsTo, Enters, Counts}
+use Rattle.mv_events.specs.Entering.{LeadsTo, Enters, Counts}
 use Rattle.mv_events.proofs.Following.{served_first, served_last}
 
 -- ---- the blocks of a table reach themselves alone

@@ -1,6 +1,6 @@
 -- The next event, by what its parts did.
-use Rattle.std.proofs.Common.{◌≡◌, ℕ, ◌+◌, ◌<◌, ◌≤◌, ◌==◌, not, nat_lt, Bool, true, false, cond, List, [], ◌∷◌, Option, Some, None, Result, Ok, Err}
-use Rattle.std.proofs.Common.{refl, sym, ap, ◌∙◌, subst, arith}
+use Rattle.std.proofs.Common.{◌≡◌, ℕ, ◌+◌, ◌<◌, ◌≤◌, ◌==◌, not, nat_lt, Bool, true, false, cond, List, [], ◌∷◌, Option, Some, None, Result}
+use Rattle.std.proofs.Common.{Ok, Err, refl, sym, ap, ◌∙◌, subst, arith}
 use Rattle.std.proofs.lemmas.Bool.{eq-eqb, ne_eqb}
 use Rattle.mv_machine.specs.Check.{or_else}
 use Rattle.mv_machine.specs.Setup.{Setup}
@@ -15,9 +15,8 @@ use Rattle.mv_calls.specs.Rest.{IsAtRest}
 use Rattle.mv_calls.specs.Table.{event_block, slot_block}
 use Rattle.mv_calls.specs.Waits.{wait, test_ecb, refused_if}
 use Rattle.mv_calls.proofs.Making.{kept_caller}
-use Rattle.mv_wait.specs.Run.{Runs, IsServed}
+use Rattle.mv_wait.specs.Run.{Runs, IsServed, keeps}
 use Rattle.mv_wait.proofs.Runs.{runs_none, runs_within, serves}
-use Rattle.mv_events.specs.Entering.{keeps}
 use Rattle.mv_events.proofs.Following.{served_first}
 use Rattle.mv_events.proofs.Enterings.{below_is, not_below_is}
 

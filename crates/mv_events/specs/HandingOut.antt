@@ -8,11 +8,10 @@ use Rattle.mv_calls.specs.Refusal.{Refusal}
 use Rattle.mv_calls.specs.Refusal as refusal
 use Rattle.mv_calls.specs.Table.{event_block, slot_block}
 use Rattle.mv_calls.specs.Waits.{wait, test_ecb}
-use Rattle.mv_wait.specs.Run.{IsServed}
+use Rattle.mv_wait.specs.Run.{IsServed, keeps}
 use Rattle.mv_events.specs.declared.handing_out.Event.{Event}
 use Rattle.mv_events.specs.declared.handing_out.NextRefusal.{NextRefusal}
 use Rattle.mv_events.specs.declared.handing_out.NextRefusal.TheVariants as refused
-use Rattle.mv_events.specs.Entering.{keeps}
 
 -- the slot of this position was waited for, and has this code
 abbrev pub HasCode : Setup → Table → ℕ → ℕ → CallerFace → CallerFace → Type 0

@@ -1,7 +1,7 @@
 //! What scripts can't show, since they keep all other calls from a table: what others did to it. What tables hand out, and posts and next
 //! events of tasks that wait for each other, run as scripts, in mv_program.
 
-ghost use Rattle.std.specs.Prelude.{◌≡◌, ◌<◌, ◌≤◌, length, IfOk};
+ghost use Rattle.std.specs.Prelude.{◌≡◌, ◌<◌, length, IfOk};
 ghost use Rattle.mv_ecb.specs.Table.{code_limit};
 ghost use Rattle.mv_board.specs.Faces.{IsFresh, IsOf};
 ghost use Rattle.mv_calls.specs.Rest.{IsAtRest};

@@ -28,7 +28,7 @@ use Rattle.mv_latchset.specs.Answers.{obtain_refused}
 use Rattle.mv_latchset.specs.Obtaining.{IsAnswered, IsQueuedAndSettled, IsRefusedBy, settled_reply}
 use Rattle.mv_latchset.specs.Replies.{IsPosted}
 use Rattle.mv_latchset.proofs.Admits.{not_before, no_purge_before}
-use Rattle.mv_latchset.proofs.Resting.{granted_rests, refused_rests, pending_rests, settled_rests}
+use Rattle.mv_latchset.proofs.Resting.{unqueued_rests, pending_rests, settled_rests}
 
 -- an obtain may need an event, and one of the Waiting form two
 pub some_events : (form : LatchForm) → 1 ≤ obtain_events form
@@ -88,7 +88,7 @@ module _ (c : Setup) (latch requestor : ℕ) (mode : Mode) (form : LatchForm) wh
       obtain_served Is t u (Ok (GrantedAs id)) none
       (runs_within 1 (obtain_events form) asked (Done (Ok (GrantedAs id))) t u (some_events form)
       (latch_runs (λ ws. obtained latch form) (Done (Ok (GrantedAs id))) t u (Obtain latch requestor mode form) (latch_reply.Granted id)
-      h refl)) began (granted_rests t u latch requestor mode form id h began) is
+      h refl)) began (unqueued_rests t u latch requestor mode form (latch_reply.Granted id) (λ w. refl) h began) is
 
   -- not made, since another stands in its way
   pub not_now_served : (Is : Result Obtained Refusal → Type 0) (t u : CallerFace) (id : ℕ) → IsAllowed t → form ≡ form_of.Conditional
@@ -99,7 +99,7 @@ module _ (c : Setup) (latch requestor : ℕ) (mode : Mode) (form : LatchForm) wh
       (runs_within 1 (obtain_events form) asked (Done (Err (refusal.NotNow id))) t u (some_events form)
       (latch_runs (λ ws. obtained latch form) (Done (Err (refusal.NotNow id))) t u (Obtain latch requestor mode form)
       (latch_reply.NotNow id) h (ap (λ f. obtained latch f (latch_reply.NotNow id)) is_form)))
-      began (refused_rests t u latch requestor mode form id h began) is
+      began (unqueued_rests t u latch requestor mode form (latch_reply.NotNow id) (λ w. refl) h began) is
 
   -- queued, and a block is to be posted
   pub pending_served : (Is : Result Obtained Refusal → Type 0) (t u : CallerFace) (id : ℕ) → IsAllowed t → IsPosted form

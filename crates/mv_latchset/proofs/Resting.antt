@@ -3,7 +3,7 @@ use Rattle.std.proofs.Common.{◌≡◌, ℕ, ◌==◌, Bool, true, false, refl,
 use Rattle.std.proofs.lemmas.Bool.{eq-eqb}
 use Rattle.mv_latch.specs.declared.operation.LatchOp.TheVariants.{Obtain, Confirm, Release, Purge}
 use Rattle.mv_latch.specs.declared.operation.LatchReply.{LatchReply}
-use Rattle.mv_latch.specs.declared.operation.LatchReply.TheVariants.{Granted, Queued, NotNow}
+use Rattle.mv_latch.specs.declared.operation.LatchReply.TheVariants.{Queued}
 use Rattle.mv_latch.specs.declared.request.LatchForm.{LatchForm}
 use Rattle.mv_latch.specs.declared.request.LatchForm.TheVariants as form_of
 use Rattle.mv_latch.specs.declared.request.Mode.{Mode}
@@ -19,24 +19,17 @@ use Rattle.mv_latchset.specs.Obtaining.{IsAnswered, IsRequestSettled, settled_re
 
 -- ---- events that open no wait
 
-pub granted_rests : (t u : CallerFace) (latch requestor : ℕ) (mode : Mode) (form : LatchForm) (id : ℕ)
-    → IsAnswered (Obtain latch requestor mode form) (Granted id) t u → IsAtRest t.log → IsAtRest u.log
-granted_rests t u latch requestor mode form id h rest =
-    still_at_rest t u Latches (op_on.Latch (Obtain latch requestor mode form)) (reply_of.Latch (Granted id)) h (go form) rest where
+-- of an obtain, where its reply opens none if it is to wait
+pub unqueued_rests : (t u : CallerFace) (latch requestor : ℕ) (mode : Mode) (form : LatchForm) (r : LatchReply)
+    → ((w : OpenWaits)
+    → waits_after w Latches (op_on.Latch (Obtain latch requestor mode form_of.Waiting)) (reply_of.Latch r) ≡ w)
+    → IsAnswered (Obtain latch requestor mode form) r t u → IsAtRest t.log → IsAtRest u.log
+unqueued_rests t u latch requestor mode form r opens_none h rest =
+    still_at_rest t u Latches (op_on.Latch (Obtain latch requestor mode form)) (reply_of.Latch r) h (go form) rest where
       go : (f : LatchForm) (w : OpenWaits)
-          → waits_after w Latches (op_on.Latch (Obtain latch requestor mode f)) (reply_of.Latch (Granted id)) ≡ w
+          → waits_after w Latches (op_on.Latch (Obtain latch requestor mode f)) (reply_of.Latch r) ≡ w
       go form_of.Conditional w = refl
-      go form_of.Waiting w = refl
-      go (form_of.Posted e) w = refl
-
-pub refused_rests : (t u : CallerFace) (latch requestor : ℕ) (mode : Mode) (form : LatchForm) (id : ℕ)
-    → IsAnswered (Obtain latch requestor mode form) (NotNow id) t u → IsAtRest t.log → IsAtRest u.log
-refused_rests t u latch requestor mode form id h rest =
-    still_at_rest t u Latches (op_on.Latch (Obtain latch requestor mode form)) (reply_of.Latch (NotNow id)) h (go form) rest where
-      go : (f : LatchForm) (w : OpenWaits)
-          → waits_after w Latches (op_on.Latch (Obtain latch requestor mode f)) (reply_of.Latch (NotNow id)) ≡ w
-      go form_of.Conditional w = refl
-      go form_of.Waiting w = refl
+      go form_of.Waiting w = opens_none w
       go (form_of.Posted e) w = refl
 
 pub pending_rests : (t u : CallerFace) (latch requestor : ℕ) (mode : Mode) (form : LatchForm) (ecb id : ℕ) → form ≡ form_of.Posted ecb

@@ -72,7 +72,7 @@ pub enum ObtainRefusal {
 /// # Example
 ///
 /// ```
-/// let Ok(Obtained::Granted(token)) = obtain(station, rt, task, 0, 17, Mode::Exclusive, Form::Waiting) else { return };
+/// let Ok(Obtained::Granted(token)) = obtain(station, rt, task, 0, 17, Mode::Exclusive, LatchForm::Waiting) else { return };
 /// ```
 pub fn obtain<R: Wait>(
     station: &Station,

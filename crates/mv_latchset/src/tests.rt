@@ -67,7 +67,7 @@ fn take<R: Abort + Wait>(
     task: &mut Task,
     latch: u32,
     requestor: u64,
-    form: Form,
+    form: LatchForm,
 ) -> LatchToken
     requires task { IsOf station.now task.old }
     requires rest { IsAtRest task.old.log }
@@ -110,12 +110,12 @@ fn give_back<R: Abort + Wait>(rt: &R, station: &Station, task: &mut Task, token:
 fn a_token_has_the_key_of_its_record(rt: HostRuntime) -> Result<(), Fail> {
     let (station, mut tasks) = open(rt.alloc(), vec![in rt.alloc(); 100]?)?;
     let mut task = station.take_last(&mut tasks);
-    let first = take(&rt, &station, &mut task, 0, 1, Form::Conditional);
-    let second = take(&rt, &station, &mut task, 1, 1, Form::Conditional);
+    let first = take(&rt, &station, &mut task, 0, 1, LatchForm::Conditional);
+    let second = take(&rt, &station, &mut task, 1, 1, LatchForm::Conditional);
     assert_eq!(rt; (first.key, second.key), (0, 1));
     give_back(&rt, &station, &mut task, first);
     // The record that was given back is used again, under the number of another request.
-    let third = take(&rt, &station, &mut task, 2, 1, Form::Conditional);
+    let third = take(&rt, &station, &mut task, 2, 1, LatchForm::Conditional);
     assert_eq!(rt; (third.id, third.key), (3, 0));
     assert_eq!(rt; task.key(first.id), None);
     assert_eq!(rt; task.key(second.id), Some(1));
@@ -175,7 +175,15 @@ fn obtain_behind_a_post<R: Abort + Wait>(
     assert!(rt; station.config().reach(0) <= task.left());
     station.post(rt, &mut task, 0, 0);
     assert!(rt; task.left() >= 2);
-    obtain(station, rt, &mut task, 0, 9, Mode::Exclusive, Form::Waiting)
+    obtain(
+        station,
+        rt,
+        &mut task,
+        0,
+        9,
+        Mode::Exclusive,
+        LatchForm::Waiting,
+    )
 }
 
 #[test]
@@ -183,7 +191,7 @@ fn a_request_is_purged_while_its_task_waits(rt: HostRuntime) -> Result<(), Fail>
     let (station, mut tasks) = open(rt.alloc(), vec![in rt.alloc(); 100, 200_100]?)?;
     let mut holder = station.take_last(&mut tasks);
     let waiter = station.take_last(&mut tasks);
-    let held = take(&rt, &station, &mut holder, 0, 1, Form::Conditional);
+    let held = take(&rt, &station, &mut holder, 0, 1, LatchForm::Conditional);
     let (purged, obtained) = join(
         &rt,
         || hold_until_a_purge(&rt, &station, holder, held),
@@ -200,7 +208,7 @@ fn take_often<R: Abort + Wait>(
     station: &Station,
     mut task: Task,
     requestor: u64,
-    form: Form,
+    form: LatchForm,
     times: u32,
 ) -> Task
     requires task { IsOf station.now task }
@@ -222,7 +230,7 @@ fn take_often<R: Abort + Wait>(
 fn contend<R: Abort + Wait + Threads + Sync>(
     rt: &R,
     alloc: Global,
-    form: Form,
+    form: LatchForm,
     times: u32,
 ) -> Result<(Station, Vec<Task>), Fail>
     requires form { IfSome (posted_ecb form) (λ e. e ≡ 0) }
@@ -235,7 +243,7 @@ fn contend<R: Abort + Wait + Threads + Sync>(
     let first = station.take_last(&mut tasks);
     let (first, second) = join(
         rt,
-        || take_often(rt, &station, first, 1, Form::Waiting, times),
+        || take_often(rt, &station, first, 1, LatchForm::Waiting, times),
         || take_often(rt, &station, second, 2, form, times),
     );
     Ok((station, vec![in alloc; first, second]?))
@@ -243,7 +251,7 @@ fn contend<R: Abort + Wait + Threads + Sync>(
 
 #[test]
 fn one_task_takes_a_latch_beside_one_that_is_posted_for_it(rt: HostRuntime) -> Result<(), Fail> {
-    let (station, tasks) = contend(&rt, rt.alloc(), Form::Posted(0), 1000)?;
+    let (station, tasks) = contend(&rt, rt.alloc(), LatchForm::Posted(0), 1000)?;
     let closed = station.close(tasks);
     let listed = closed.history.listed(rt.alloc())?;
     replay(rt.alloc(), &listed.config, &listed.journal)?;
@@ -256,13 +264,13 @@ fn one_task_takes_a_latch_beside_one_that_is_posted_for_it(rt: HostRuntime) -> R
 fn a_free_latch_is_taken_and_given_back(rt: HostRuntime) -> Result<(), Fail> {
     let (station, mut tasks) = open(rt.alloc(), vec![in rt.alloc(); 50_010]?)?;
     let task = station.take_last(&mut tasks);
-    let task = take_often(&rt, &station, task, 1, Form::Waiting, 25_000);
+    let task = take_often(&rt, &station, task, 1, LatchForm::Waiting, 25_000);
     assert_eq!(rt; task.log().len(), 50_000);
     Ok(())
 }
 
 #[test]
 fn two_threads_take_one_latch(rt: HostRuntime) -> Result<(), Fail> {
-    contend(&rt, rt.alloc(), Form::Waiting, 10_000)?;
+    contend(&rt, rt.alloc(), LatchForm::Waiting, 10_000)?;
     Ok(())
 }

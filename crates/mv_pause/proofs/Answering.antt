@@ -71,27 +71,23 @@ says_opened c t u n reply h p own none =
     subst SaysOpened (sym a.reply_is) (open_says a.state _ _ _ (a.agrees own) none)
 
 -- it is not busy
-pause_says : (g : ℕ) (s : ElementState) (used parked : Bool) (kept : ℕ) → ElementAgrees s used parked kept → parked ≡ false
+pub pause_says : (g : ℕ) (s : ElementState) (used parked : Bool) (kept : ℕ) → ElementAgrees s used parked kept → parked ≡ false
     → SaysBegun (reply_of.Element (element_step (element_op.Pause g) s).1)
 pause_says g s used parked kept h idle = grind arith
 
-pub says_begun : (c : Setup) (t u : CallerFace) (n g : ℕ) (reply : Reply)
-    → Happened t (Element n) (op_on.Element (element_op.Pause g)) reply u
-    → IsPossible c u.number u.log u.told → element_owner c n ≡ t.number → IsAtRest t.log → SaysBegun reply
-says_begun c t u n g reply h p own rest =
-    let a = element_answers c t u n (element_op.Pause g) reply h p in
-    subst SaysBegun (sym a.reply_is) (pause_says g a.state _ _ _ (a.agrees own) (rest.parked n))
-
-close_says : (g : ℕ) (s : ElementState) (used parked : Bool) (kept : ℕ) → ElementAgrees s used parked kept → parked ≡ false
+pub close_says : (g : ℕ) (s : ElementState) (used parked : Bool) (kept : ℕ) → ElementAgrees s used parked kept → parked ≡ false
     → SaysClosed (reply_of.Element (element_step (element_op.Close g) s).1)
 close_says g s used parked kept h idle = grind arith
 
-pub says_closed : (c : Setup) (t u : CallerFace) (n g : ℕ) (reply : Reply)
-    → Happened t (Element n) (op_on.Element (element_op.Close g)) reply u
-    → IsPossible c u.number u.log u.told → element_owner c n ≡ t.number → IsAtRest t.log → SaysClosed reply
-says_closed c t u n g reply h p own rest =
-    let a = element_answers c t u n (element_op.Close g) reply h p in
-    subst SaysClosed (sym a.reply_is) (close_says g a.state _ _ _ (a.agrees own) (rest.parked n))
+-- so is the reply to an event with such an operation
+pub says_idle : (c : Setup) (t u : CallerFace) (n : ℕ) (op : ElementOp) (reply : Reply) (Says : Reply → Type 0)
+    → ((s : ElementState) (used parked : Bool) (kept : ℕ) → ElementAgrees s used parked kept → parked ≡ false
+    → Says (reply_of.Element (element_step op s).1))
+    → Happened t (Element n) (op_on.Element op) reply u
+    → IsPossible c u.number u.log u.told → element_owner c n ≡ t.number → IsAtRest t.log → Says reply
+says_idle c t u n op reply Says cell h p own rest =
+    let a = element_answers c t u n op reply h p in
+    subst Says (sym a.reply_is) (cell a.state _ _ _ (a.agrees own) (rest.parked n))
 
 -- a pause and a close with a token that is current are not answered Spent
 pub pause_is_current : (g now : ℕ) (s : ElementState) (used parked : Bool) (kept : ℕ) → ElementAgrees s used parked kept → parked ≡ false

@@ -10,7 +10,7 @@ use Rattle.mv_machine.specs.declared.entry.Object.TheVariants.{Element}
 use Rattle.mv_machine.specs.declared.entry.Op.TheVariants as op_on
 use Rattle.mv_machine.specs.declared.entry.Reply.TheVariants as reply_of
 use Rattle.mv_machine.specs.Check.{or_else}
-use Rattle.mv_machine.specs.Replies.{NamesUpTo}
+use Rattle.mv_machine.specs.Limits.{highest_generation}
 use Rattle.mv_machine.specs.Setup.{Setup, element_owner}
 use Rattle.mv_machine.specs.System.{with_at}
 use Rattle.mv_board.specs.Faces.{CallerFace, Happened}
@@ -25,7 +25,7 @@ use Rattle.mv_wait.specs.Run.{Runs}
 use Rattle.mv_wait.proofs.Compose.{runs_and_then}
 use Rattle.mv_wait.proofs.Runs.{entry_of, runs_none}
 use Rattle.mv_wait.proofs.Waits.{kept_one}
-use Rattle.mv_pause.specs.Answers.{gift_of, transfer_answer, transfer_refused, IsLow, IsLowRefusal}
+use Rattle.mv_pause.specs.Answers.{gift_of, release_answer, transfer_answer, transfer_refused, IsLow, IsLowRefusal}
 use Rattle.mv_pause.specs.Pausing.{pause_own}
 use Rattle.mv_pause.specs.Replies.{HappenedOn, reply_to_release}
 use Rattle.mv_pause.specs.Transferring.{pause_cost, target_refused, IsTransferCause}
@@ -227,9 +227,9 @@ current_cause c current target code t refused.TargetAlready e = absurd (never (k
 -- ---- the generations that a transfer names
 
 pub target_is_low : (r : Result ReleaseAnswer ReleaseRefusal) (why : TransferRefusal) → Some (transfer_refused why) ≡ target_refused r
-    → NamesUpTo 262143 (reply_of.Element (reply_to_release r)) → IsLowRefusal (transfer_refused why)
+    → IsLow (release_answer r) → IsLowRefusal (transfer_refused why)
 target_is_low (Err (release_refusal.Spent m)) (refused.TargetSpent now) e h =
-    let same : m ≡ now = cc e in subst (λ g. g ≤ 262143) same h
+    let same : m ≡ now = cc e in subst (λ g. g ≤ highest_generation) same h
 target_is_low (Err (release_refusal.Spent m)) refused.NotOwner e h = tt
 target_is_low (Err (release_refusal.Spent m)) (refused.Spent now) e h = absurd (cc e)
 target_is_low (Err (release_refusal.Spent m)) refused.TargetAlready e h = tt

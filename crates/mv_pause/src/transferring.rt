@@ -14,12 +14,10 @@ ghost use Rattle.mv_wait.specs.Run.{IsServed};
 ghost use Rattle.mv_pause.specs.Answers.{transfer_answer, transfer_refused, IsLow, IsLowRefusal};
 ghost use Rattle.mv_pause.specs.Transferring.{target_refused, IsPausedBy, IsGivenTo, IsTransferCause};
 
-use crate::owning::{is_others, wake_owner};
+use crate::owning::is_others;
 use crate::pausing::{Given, pause_own};
-use crate::releasing::{ReleaseAnswer, ReleaseRefusal};
-use crate::replies::released;
-use mv_element::{ElementOp, Token};
-use mv_machine::{Object, Op};
+use crate::releasing::{ReleaseAnswer, ReleaseRefusal, release};
+use mv_element::Token;
 use mv_wait::{Station, Task};
 use std::sync::Wait;
 use thiserror::Error;
@@ -75,14 +73,7 @@ pub fn transfer<R: Wait>(
     if let Some(refusal) = refuses_transfer(station, task, current) {
         return Err(refusal);
     }
-    let reply = station.event(
-        rt,
-        task,
-        Object::Element(target.element),
-        Op::Element(ElementOp::Release(target.generation, code)),
-    );
-    let answer = released(reply);
-    wake_owner(station, answer, target.element);
+    let answer = release(station, rt, task, target, code);
     if let Some(refusal) = refuses_target(answer) {
         return Err(refusal);
     }

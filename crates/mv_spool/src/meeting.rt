@@ -4,7 +4,7 @@ ghost use Rattle.mv_work.specs.Meeting.{IsMet, MayMeet};
 ghost use Rattle.mv_work.specs.Needs.{need_events};
 ghost use Rattle.mv_work.specs.Waiting.{IsResting};
 
-use mv_latchset::{Form, Obtained, obtain};
+use mv_latchset::{LatchForm, Obtained, obtain};
 use mv_pause::pause;
 use mv_wait::{Station, Task, WaitSlot};
 use mv_work::{Got, Lost, MOST_BLOCKS, Need, slots_in};
@@ -36,7 +36,8 @@ pub(crate) fn meet<R: Wait>(
             Err(_) => Err(Lost),
         },
         Need::Latch(latch, requestor, mode) => {
-            match obtain(station, rt, task, latch, requestor, mode, Form::Waiting) {
+            let form = LatchForm::Waiting;
+            match obtain(station, rt, task, latch, requestor, mode, form) {
                 Ok(Obtained::Granted(token)) => Ok(Got::Granted(token)),
                 Ok(Obtained::Pending(_)) => Err(Lost),
                 Err(_) => Err(Lost),

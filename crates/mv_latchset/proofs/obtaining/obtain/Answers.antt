@@ -10,7 +10,8 @@ returns-in-Over g c =
 pub park_for-requires-clause-own : goal.park_for-requires-clause-own
 park_for-requires-clause-own g c =
     let a = c.args in
-    obtaining_made a.station.now.config a.latch a.requestor a.mode c.in-Queued.id a.task.now c.begin_obtain.new.task c.in-Queued.ensures.begun.1
+    obtaining_made a.station.now.config a.latch a.requestor a.mode c.in-Queued.id a.task.now c.begin_obtain.new.task
+    c.in-Queued.ensures.begun.1
 
 pub end_obtain-requires-clause-waiting : goal.end_obtain-requires-clause-waiting
 end_obtain-requires-clause-waiting g c =

@@ -14,8 +14,8 @@ use Rattle.mv_calls.specs.Program.{Do, on_element}
 use Rattle.mv_calls.specs.Refusal as refusal
 use Rattle.mv_wait.proofs.OneEvent.{event_served}
 use Rattle.mv_wait.proofs.Steps.{done_served}
-use Rattle.mv_pause.specs.Replies.{reply_to_close}
-use Rattle.mv_pause.proofs.Answering.{says_closed, close_is_current, current_is_not_spent}
+use Rattle.mv_pause.specs.Replies.{SaysClosed, reply_to_close}
+use Rattle.mv_pause.proofs.Answering.{close_says, says_idle, close_is_current, current_is_not_spent}
 use Rattle.mv_pause.proofs.Served.{mine, others, own_is}
 use Rattle.mv_pause.proofs.deallocating.deallocate.Goals as goal
 
@@ -41,8 +41,8 @@ event-reply-requires-clause-admitted g c lt =
 
 pub over-requires : goal.over-requires
 over-requires g c =
-    says_closed c.args.station.now.config c.args.task.now c.event-reply.new.task c.args.token.element c.args.token.generation
-    c.event-reply.result c.event-reply.ensures.event c.event-reply.ensures.possible
+    says_idle c.args.station.now.config c.args.task.now c.event-reply.new.task c.args.token.element (Close c.args.token.generation)
+    c.event-reply.result SaysClosed (close_says c.args.token.generation) c.event-reply.ensures.event c.event-reply.ensures.possible
     (own_is c.args.station.now.config c.args.task.now.number c.args.task.now.log c.args.token
     (sym c.is_others.ensures ∙ c.if-is_others.false)) c.requires.rest
 

@@ -14,15 +14,17 @@ use Rattle.mv_wait.proofs.Runs.{runs_within}
 use Rattle.mv_wait.proofs.Steps.{element_runs, waits_one, still_at_rest}
 use Rattle.mv_pause.specs.Answers.{gift_of}
 use Rattle.mv_pause.specs.Pausing.{pause_own}
-use Rattle.mv_pause.proofs.Answering.{says_begun, pause_is_current, current_is_not_spent, pause_gives, gives_next}
+use Rattle.mv_pause.specs.Replies.{SaysBegun}
+use Rattle.mv_pause.proofs.Answering.{pause_says, says_idle, pause_is_current, current_is_not_spent, pause_gives, gives_next}
 use Rattle.mv_pause.proofs.Gifts.{was_given, is_given}
 use Rattle.mv_pause.proofs.Served.{rests_by, none_given}
 use Rattle.mv_pause.proofs.pausing.begin_own.Goals as goal
 
 pub beginning-requires : goal.beginning-requires
 beginning-requires g c =
-    says_begun c.args.station.now.config c.args.task.now c.event-reply.new.task c.args.token.element c.args.token.generation
-    c.event-reply.result c.event-reply.ensures.event c.event-reply.ensures.possible c.requires.own c.requires.rest
+    says_idle c.args.station.now.config c.args.task.now c.event-reply.new.task c.args.token.element (Pause c.args.token.generation)
+    c.event-reply.result SaysBegun (pause_says c.args.token.generation) c.event-reply.ensures.event c.event-reply.ensures.possible
+    c.requires.own c.requires.rest
 
 pub returns-in-Given : goal.returns-in-Given
 returns-in-Given g c =

@@ -2,8 +2,6 @@ use Rattle.std.proofs.Common.{◌≡◌, Some, None, Ok, Err, option_map, refl, 
 use Rattle.mv_element.specs.declared.operation.ElementOp.TheVariants.{Release}
 use Rattle.mv_machine.specs.declared.entry.Object.TheVariants.{Element}
 use Rattle.mv_machine.specs.declared.entry.Op.TheVariants as op_on
-use Rattle.mv_machine.specs.Replies.{NamesUpTo}
-use Rattle.mv_board.specs.Faces.{Happened}
 use Rattle.mv_calls.specs.Keeping.{kept_of}
 use Rattle.mv_calls.specs.Pauses.{transfer, transfer_refusal, transferred, pause_current}
 use Rattle.mv_calls.specs.Program.{Do, Done, on_element}
@@ -13,7 +11,6 @@ use Rattle.mv_wait.proofs.Steps.{element_runs, served_by, done_served}
 use Rattle.mv_pause.specs.Answers.{transfer_answer, transfer_refused}
 use Rattle.mv_pause.specs.Replies.{reply_to_release}
 use Rattle.mv_pause.specs.Transferring.{pause_cost, target_refused}
-use Rattle.mv_pause.proofs.Answering.{says_released}
 use Rattle.mv_pause.proofs.Served.{rests_released}
 use Rattle.mv_pause.proofs.Transfers.{still_accepted, same_pause, refused_whole, accepted_whole, target_is_refused, target_is_released}
 use Rattle.mv_pause.proofs.Transfers.{cost_parts, target_cause, current_cause, target_is_low, transfer_is_low}
@@ -33,17 +30,13 @@ returns-in-Some g c =
       low = (c.in-Some.ensures.low, tt);
     }
 
-pub released-answer-requires : goal.released-answer-requires
-released-answer-requires g c =
-    says_released _ _ _ _ _ _ _ c.event-reply.ensures.event c.event-reply.ensures.possible
-
 pub returns-in-Some-refuses_target : goal.returns-in-Some-refuses_target
 returns-in-Some-refuses_target g c =
     let s = c.args.station.now.config in
     let t = c.args.task.now in
-    let u = c.event-reply.new.task in
+    let u = c.release-answer.new.task in
     let n = c.args.target.element in
-    let r = c.released-answer.result in
+    let r = c.release-answer.result in
     let kept = kept_of t.number t.log in
     let refusal = c.in-Some-refuses_target.refusal in
     let why = transfer_refused refusal in
@@ -52,7 +45,7 @@ returns-in-Some-refuses_target g c =
     sym c.refuses_transfer.ensures.refusal ∙ ap (λ z. option_map transfer_refused z) c.in_default.is in
     let is : target_refused r ≡ Some why =
     sym c.refuses_target.ensures ∙ ap (λ z. option_map transfer_refused z) c.in-Some-refuses_target.is in
-    let h = subst (λ z. Happened t (Element n) (op_on.Element op) z u) c.released-answer.ensures c.event-reply.ensures.event in
+    let h = c.release-answer.ensures.causes in
     let p = Do (Element n) (op_on.Element op) (λ x. on_element x.entry.reply (transferred s c.args.current kept)) in record {
       served = served_by (transfer_events c.args.current) (transfer s c.args.current c.args.target c.args.code)
           (λ a. a ≡ Err why) t u p (Err why)
@@ -62,37 +55,31 @@ returns-in-Some-refuses_target g c =
           (target_is_refused s c.args.current kept r why is)))
           c.requires.rest (rests_released t u n (op_on.Element op) r h c.requires.rest) refl;
       causes = target_cause s c.args.current c.args.target c.args.code t u r refusal (sym is) none h;
-      low = (target_is_low r refusal (sym is) (subst (NamesUpTo 262143) c.released-answer.ensures c.event-reply.ensures.low), tt);
+      low = (target_is_low r refusal (sym is) c.release-answer.ensures.low, tt);
     }
 
 pub pause_current-requires-clause-rest : goal.pause_current-requires-clause-rest
 pause_current-requires-clause-rest g c =
-    let n = c.args.target.element in
-    let op = op_on.Element (Release c.args.target.generation c.args.code) in
-    let h = subst (λ z. Happened c.args.task.now (Element n) op z c.event-reply.new.task) c.released-answer.ensures
-    c.event-reply.ensures.event in
-    rests_released c.args.task.now c.event-reply.new.task n op c.released-answer.result h c.requires.rest
+    rests_released c.args.task.now c.release-answer.new.task c.args.target.element
+    (op_on.Element (Release c.args.target.generation c.args.code)) c.release-answer.result c.release-answer.ensures.causes c.requires.rest
 
 pub pause_current-requires-clause-accepted : goal.pause_current-requires-clause-accepted
 pause_current-requires-clause-accepted g c =
     let s = c.args.station.now.config in
     let t = c.args.task.now in
-    let u = c.event-reply.new.task in
-    let n = c.args.target.element in
-    let op = op_on.Element (Release c.args.target.generation c.args.code) in
     let none : transfer_refusal s c.args.current (kept_of t.number t.log) ≡ None =
     sym c.refuses_transfer.ensures.refusal ∙ ap (λ z. option_map transfer_refused z) c.in_default.is in
-    let h = subst (λ z. Happened t (Element n) op z u) c.released-answer.ensures c.event-reply.ensures.event in
-    still_accepted s c.args.current t u n c.args.target.generation c.args.code c.released-answer.result h none
+    still_accepted s c.args.current t c.release-answer.new.task c.args.target.element c.args.target.generation c.args.code
+    c.release-answer.result c.release-answer.ensures.causes none
 
 pub returns : goal.returns
 returns g c =
     let s = c.args.station.now.config in
     let t = c.args.task.now in
-    let u = c.event-reply.new.task in
+    let u = c.release-answer.new.task in
     let v = c.pause_current.new.task in
     let n = c.args.target.element in
-    let r = c.released-answer.result in
+    let r = c.release-answer.result in
     let kept = kept_of t.number t.log in
     let answer = transfer_answer (Ok c.pause_current.result) in
     let op = Release c.args.target.generation c.args.code in
@@ -100,7 +87,7 @@ returns g c =
     sym c.refuses_transfer.ensures.refusal ∙ ap (λ z. option_map transfer_refused z) c.in_default.is in
     let reached : target_refused r ≡ None =
     sym c.refuses_target.ensures ∙ ap (λ z. option_map transfer_refused z) c.in_default-refuses_target.is in
-    let h = subst (λ z. Happened t (Element n) (op_on.Element op) z u) c.released-answer.ensures c.event-reply.ensures.event in
+    let h = c.release-answer.ensures.causes in
     let p = Do (Element n) (op_on.Element op) (λ x. on_element x.entry.reply (transferred s c.args.current kept)) in
     let pause = pause_current s c.args.current kept in
     let paused = subst (λ q. Runs (pause_cost c.args.current) q (Done answer) u v)

@@ -1,4 +1,4 @@
-use Rattle.std.proofs.Common.{◌≡◌, ℕ, List, Some, None, refl, subst}
+use Rattle.std.proofs.Common.{◌≡◌, ℕ, List, None, refl, subst}
 use Rattle.mv_board.specs.Faces.{BoardFace, CallerFace, IsFresh, IsOf}
 use Rattle.mv_deck.specs.Deck.{JobData}
 use Rattle.mv_wait.proofs.Parts.{still_of}
