@@ -33,7 +33,11 @@ module _ {S : Type 0} where
         first.0,
         first.1 ∙ (let e : j + 0 ≡ j = omega arith in e),
         in_order b (suc j) seats
-            (λ i d lt. ((each (suc i) d (omega arith)).0, (each (suc i) d (omega arith)).1 ∙ (let e : j + suc i ≡ suc j + i = omega arith in e))),
+            (λ i d lt. (
+              (each (suc i) d (omega arith)).0,
+              (each (suc i) d (omega arith)).1
+                  ∙ (let e : j + suc i ≡ suc j + i = omega arith in e),
+            )),
       )
 
   pub done_at : (P : ℕ → S → CallerFace → S → Type 0) (old new : List (Seat S)) (rooms : List S) (tasks : List CallerFace) (back : List S)

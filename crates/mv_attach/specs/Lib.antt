@@ -2,3 +2,5 @@
 pub mod Entries
 -- a configuration of blocks
 pub mod Blocks
+-- rooms that a task fills
+pub mod Rooms

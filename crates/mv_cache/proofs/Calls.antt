@@ -86,17 +86,6 @@ still_reading b most call Is t u s g r = record {
   other = λ zero_is. r.other (sym s.same.number ∙ zero_is);
 }
 
-pub is_longer : {A : Type 0} (most : ℕ) (call : Call A) (Is : A → Type 0) (t u : CallerFace)
-    → IsServed most call Is t u → Grown IsCalm t u → IsLonger t u
-is_longer most call Is t u s g = record { number = s.same.number; more = g.more; logged = g.logged }
-
-pub longer_then : (t u v : CallerFace) → IsLonger t u → IsLonger u v → IsLonger t v
-longer_then t u v a b = record {
-  number = b.number ∙ a.number;
-  more = a.more ++ b.more;
-  logged = b.logged ∙ ap (λ log. log ++ b.more) a.logged ∙ append_assoc t.log a.more b.more;
-}
-
 -- ---- who was granted holds the latch
 
 pub holds_granted : (mode : Mode) (requestor : ℕ) (t u : CallerFace) (token : LatchToken)
@@ -111,7 +100,8 @@ holds_granted mode requestor t u token (inr (form, q)) =
     let number : settled.awaited.number ≡ t.number = settled.waited.same.number ∙ queued.same.number in
     subst (HoldsLatch mode t.number)
     (sym (settled.confirmed.1.logged
-    ∙ (λ i. log i ++ entry_of (number i) Latches settled.confirmed.0 (op_on.Latch (Confirm 0 token.id)) (reply_of.Latch (Granted token.id)) ∷ [])))
+    ∙ (λ i. log i ++ entry_of (number i) Latches settled.confirmed.0 (op_on.Latch (Confirm 0 token.id))
+    (reply_of.Latch (Granted token.id)) ∷ [])))
     (holds_confirmed t.number q.queued.0 settled.confirmed.0 token.id mode requestor t.log)
 
 -- ---- the writer inside its section

@@ -267,7 +267,8 @@ module _ (c : Setup) (pairs : List Pair) (es : List Entry) (legal : Legal c es)
 
     stays : NoneTakesOut held.request b.before
     stays = none b.before (none_own j b.before b.own)
-        (all_split (λ e. (q : ℕ) → e.object ≡ Latches → e.op ≡ op_on.Latch (Purge q) → ⊥) (start ++ r.first ∷ []) b.before (r.second ∷ b.later)
+        (all_split (λ e. (q : ℕ) → e.object ≡ Latches → e.op ≡ op_on.Latch (Purge q) → ⊥) (start ++ r.first ∷ [])
+        b.before (r.second ∷ b.later)
         (λ front e rest is q. no_purge e.caller q (of e.caller front) e.object e.op
         (so_at front e rest (a.split ∙ ap (λ xs. start ++ r.first ∷ xs) b.split
         ∙ sym (append_assoc start (r.first ∷ []) (b.before ++ r.second ∷ b.later)) ∙ is)))) where
@@ -290,7 +291,8 @@ module _ (c : Setup) (pairs : List Pair) (es : List Entry) (legal : Legal c es)
 
     left_is : pair.left ≡ value_from 0 0 (of 0 start)
     left_is =
-        read_tells c (after c start) 0 pair.left r.first (rest_is_legal c start (r.first ∷ a.later) (subst (Legal c) a.split legal)).0 r.left
+        read_tells c (after c start) 0 pair.left r.first (rest_is_legal c start (r.first ∷ a.later)
+        (subst (Legal c) a.split legal)).0 r.left
         ∙ value_is start (r.first ∷ a.later) a.split 0
 
     right_is : pair.right ≡ value_from 1 0 (of 0 start)
@@ -298,7 +300,8 @@ module _ (c : Setup) (pairs : List Pair) (es : List Entry) (legal : Legal c es)
         read_tells c (after c (start ++ inside)) 1 pair.right r.second
         (rest_is_legal c (start ++ inside) (r.second ∷ b.later) (subst (Legal c) split legal)).0 r.right
         ∙ section_keeps_volume c j held.request 1 start inside legal_inside section held.mode
-        (subst (λ l. IsGuarded is_write l (Volume 1) (start ++ inside)) (sym held.here) (guarded (start ++ inside) (r.second ∷ b.later) split 1))
+        (subst (λ l. IsGuarded is_write l (Volume 1) (start ++ inside)) (sym held.here) (guarded (start ++ inside)
+        (r.second ∷ b.later) split 1))
         ∙ value_is start (r.first ∷ a.later) a.split 1
 
     is_pair : pair ≡ pair_of (of 0 start)

@@ -1,7 +1,6 @@
 -- What the tasks of a shared pair keep to, each by its own log, and what a reader has read.
-use Rattle.std.specs.Prelude.{◌≡◌, ℕ, ◌==◌, ◌≤◌, List, [], ◌∷◌, ◌++◌, ◌⊎◌, length, vec_capacity, Vec, if◌then◌else◌}
+use Rattle.std.specs.Prelude.{◌≡◌, ℕ, ◌==◌, ◌≤◌, List, [], ◌∷◌, ◌++◌, ◌⊎◌, length, if◌then◌else◌}
 use Rattle.std.specs.List.{AllByRecursion, Contains}
-use Rattle.std.proofs.Common.{Global}
 use Rattle.mv_latch.specs.declared.operation.LatchOp.TheVariants.{Purge}
 use Rattle.mv_latch.specs.declared.request.Mode.{Mode}
 use Rattle.mv_latch.specs.declared.request.Mode.TheVariants.{Exclusive, Shared}
@@ -123,10 +122,6 @@ pub record IsSharing (b : BoardFace) (pairs : List Pair) (reads : ℕ) : Type 0 
   pub config : b.config ≡ cache_setup (length pairs) reads
   pub few_pairs : length pairs ≤ pairs_limit
   pub few_reads : reads ≤ reads_limit
-
--- nothing was read yet, and there is room for so many reads
-abbrev pub HasRoom : ℕ → Vec Pair Global → Type 0
-HasRoom reads room = (room.items ≡ []) × (reads ≤ vec_capacity room)
 
 -- the task of this number is back: it was careful, the writer wrote whole pairs, and what was read was read under the latch
 pub record HasDone (pairs : List Pair) (k : ℕ) (t : CallerFace) (got : List Pair) : Type 0 where

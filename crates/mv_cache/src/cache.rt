@@ -1,12 +1,12 @@
 //! The writer and the readers. Clauses cite `specs/Setup.antt` and `specs/Whole.antt`.
 
-ghost use Rattle.std.specs.Prelude.{◌≡◌, ◌<◌, ◌≤◌, ◌+◌, ◌*◌, ◌∷◌, ℕ, [], length, vec_capacity, slice_index_or, IfOk, IfSome, All};
+ghost use Rattle.std.specs.Prelude.{◌≡◌, ◌<◌, ◌≤◌, ◌+◌, ◌*◌, ◌∷◌, [], length, vec_capacity, IfOk, IfSome, All};
 ghost use Rattle.std.specs.List.{AllByRecursion, Contains};
-ghost use Rattle.mv_board.specs.Faces.{IsFresh};
 ghost use Rattle.mv_machine.specs.Legal.{Legal};
 ghost use Rattle.mv_machine.specs.Limits.{highest_place};
+ghost use Rattle.mv_attach.specs.Rooms.{HasRoom};
 ghost use Rattle.mv_cache.specs.Setup.{pairs_limit, reads_limit, cache_setup};
-ghost use Rattle.mv_cache.specs.Whole.{IsSharing, IsWriting, IsReading, HasDone, HasRoom, WasRead, IsLonger, first_pair};
+ghost use Rattle.mv_cache.specs.Whole.{IsSharing, IsWriting, IsReading, HasDone, WasRead, IsLonger, first_pair};
 
 use mv_attach::{Work, run_tasks};
 use mv_io::NoMemory;
@@ -197,7 +197,8 @@ pub fn share<R: Threads + Wait + Sync>(
     requires pairs { length pairs.now ≤ pairs_limit }
     requires reads { reads ≤ reads_limit }
     // No read is torn: what was read was written as a pair, or is the first one.
-    ensures whole { IfOk result (λ shared. All (λ read. All (λ pair. Contains (first_pair ∷ pairs.now) pair) read.items) shared.read.items) }
+    ensures whole { IfOk result (λ shared. All (λ read. All (λ pair. Contains (first_pair ∷ pairs.now) pair)
+        read.items) shared.read.items) }
     ensures config { IfOk result (λ shared. shared.history.config ≡ cache_setup (length pairs.now) reads) }
     ensures legal { IfOk result (λ shared. Legal shared.history.config shared.history.coming) }
     ensures places { IfOk result (λ shared. All (λ e. e.place ≤ highest_place) shared.history.coming) }

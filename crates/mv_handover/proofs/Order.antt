@@ -1,5 +1,6 @@
 -- What comes out is what went in, in order. Used by hand_over.
-use Rattle.std.proofs.Common.{◌≡◌, ℕ, ◌<◌, ◌≤◌, List, [], ◌∷◌, ◌++◌, Vec, Global, length, get_or, ◌⊎◌, inl, inr, refl, sym, ap, ◌∙◌, subst, arith}
+use Rattle.std.proofs.Common.{◌≡◌, ℕ, ◌<◌, ◌≤◌, List, [], ◌∷◌, ◌++◌, Vec, Global, length, get_or, ◌⊎◌, inl, inr, refl, sym, ap, ◌∙◌, subst}
+use Rattle.std.proofs.Common.{arith}
 use Rattle.std.proofs.lemmas.Bool.{cases_eq}
 use Rattle.std.specs.List.{AllByRecursion}
 use Rattle.mv_latch.proofs.Joined.{both_empty}
@@ -57,28 +58,6 @@ in_order c es items taken has legal size put none took = same_parts 0 taken item
       (let a = parts_length s 0 taken items size in let b = ap length all in let d = ap length own in omega arith) in
       sym own ∙ within_same (takes s (of (owner_of c s) es)) (posts s es) within few ∙ all
 
--- with what the logs of two tasks say that came back
-pub closed_in_order : (b : BoardFace) (es : List Entry) (p q : CallerFace) (items taken : List ℕ) → Legal b.config es → of 0 es ≡ p.log
-    → of 1 es ≡ q.log → length taken ≡ length items → HasPut b items p → HasTaken b taken q → taken ≡ items
-closed_in_order b es p q items taken legal own other size put took =
-    in_order b.config es items taken put.ready.config legal size
-    (λ s lt. ap (posts s) own ∙ put.posts s lt) (λ s lt. ap (posts s) other ∙ took.posts s lt)
-    (λ s lt. ap (takes s) other ∙ took.takes s lt)
-
--- the history posts each item to its slot, and nothing else to a slot
-pub closed_posted : (b : BoardFace) (es : List Entry) (p q : CallerFace) (items taken : List ℕ) → Legal b.config es → of 0 es ≡ p.log
-    → of 1 es ≡ q.log → HasPut b items p → HasTaken b taken q → (s : ℕ) → s < slots → posts s es ≡ part s items
-closed_posted b es p q items taken legal own other put took s lt =
-    posts_of_first s es (two_callers b.config es put.ready.config legal) (ap (posts s) other ∙ took.posts s lt)
-    ∙ ap (posts s) own ∙ put.posts s lt
-
--- and the consumer takes each of them out of its slot
-pub closed_taken : (b : BoardFace) (es : List Entry) (p q : CallerFace) (items taken : List ℕ) → Legal b.config es → of 0 es ≡ p.log
-    → of 1 es ≡ q.log → length taken ≡ length items → HasPut b items p → HasTaken b taken q → (s : ℕ) → s < slots
-    → takes s (of 1 es) ≡ part s items
-closed_taken b es p q items taken legal own other size put took s lt =
-    ap (takes s) other ∙ took.takes s lt ∙ ap (part s) (closed_in_order b es p q items taken legal own other size put took)
-
 -- what the two tasks say that came back, and where their logs stand in the history
 pub record Back (b : BoardFace) (es : List Entry) (items taken : List ℕ) : Type 0 where
   pub producer : CallerFace
@@ -88,6 +67,25 @@ pub record Back (b : BoardFace) (es : List Entry) (items taken : List ℕ) : Typ
   pub count : length taken ≡ length items
   pub put : HasPut b items producer
   pub took : HasTaken b taken consumer
+
+-- so it is with what they say
+pub closed_in_order : {b : BoardFace} {es : List Entry} {items taken : List ℕ} → Back b es items taken → Legal b.config es → taken ≡ items
+closed_in_order {b} {es} {items} {taken} w legal =
+    in_order b.config es items taken w.put.ready.config legal w.count
+    (λ s lt. ap (posts s) w.first ∙ w.put.posts s lt) (λ s lt. ap (posts s) w.second ∙ w.took.posts s lt)
+    (λ s lt. ap (takes s) w.second ∙ w.took.takes s lt)
+
+-- the history posts each item to its slot, and nothing else to a slot
+pub closed_posted : {b : BoardFace} {es : List Entry} {items taken : List ℕ} → Back b es items taken → Legal b.config es
+    → (s : ℕ) → s < slots → posts s es ≡ part s items
+closed_posted {b} {es} w legal s lt =
+    posts_of_first s es (two_callers b.config es w.put.ready.config legal) (ap (posts s) w.second ∙ w.took.posts s lt)
+    ∙ ap (posts s) w.first ∙ w.put.posts s lt
+
+-- and the consumer takes each of them out of its slot
+pub closed_taken : {b : BoardFace} {es : List Entry} {items taken : List ℕ} → Back b es items taken → Legal b.config es
+    → (s : ℕ) → s < slots → takes s (of 1 es) ≡ part s items
+closed_taken w legal s lt = ap (takes s) w.second ∙ w.took.takes s lt ∙ ap (part s) (closed_in_order w legal)
 
 pub both_back : (b : BoardFace) (es : List Entry) (items : List ℕ) (tasks : List CallerFace) (rooms rest : List (Vec ℕ Global))
     (taken : Vec ℕ Global) → AreInOrder b 0 tasks → length tasks ≡ 2 → AllByRecursion (IsIn b.config es) tasks

@@ -1,5 +1,5 @@
 -- How a task stands between two calls, what a call adds to its log, and what each task has done when it is back.
-use Rattle.std.specs.Prelude.{◌≡◌, ℕ, ◌+◌, ◌<◌, ◌≤◌, false, List, [], ◌∷◌, ◌++◌, length, slice_index_or, vec_capacity, Vec}
+use Rattle.std.specs.Prelude.{◌≡◌, ℕ, ◌+◌, ◌<◌, ◌≤◌, false, List, [], ◌∷◌, ◌++◌, length, slice_index_or, Vec}
 use Rattle.std.specs.List.{AllByRecursion}
 use Rattle.std.proofs.Common.{Global}
 use Rattle.mv_ecb.specs.declared.operation.EcbOp.{EcbOp}
@@ -14,6 +14,7 @@ use Rattle.mv_machine.specs.Setup.{owner_of}
 use Rattle.mv_board.specs.Faces.{BoardFace, CallerFace, IsOf}
 use Rattle.mv_calls.specs.Keeping.{kept_of}
 use Rattle.mv_calls.specs.Rest.{IsAtRest}
+use Rattle.mv_attach.specs.Rooms.{HasRoom}
 use Rattle.mv_handover.specs.Setup.{slots, slots_setup, HasSlots}
 use Rattle.mv_handover.specs.Slots.{posts, takes, part}
 
@@ -77,10 +78,6 @@ pub record HasTaken (b : BoardFace) (items : List ℕ) (t : CallerFace) : Type 0
   pub posts : (s : ℕ) → s < slots → posts s t.log ≡ []
 
 -- ---- the work of both
-
--- the consumer's room has nothing in it, and takes so many items
-abbrev pub HasRoom : ℕ → Vec ℕ Global → Type 0
-HasRoom count room = (room.items ≡ []) × (count ≤ vec_capacity room)
 
 -- a room for each of the two, and the consumer's is large enough
 pub record AreRooms (count : ℕ) (rooms : Vec (Vec ℕ Global) Global) : Type 0 where

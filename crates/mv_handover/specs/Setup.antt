@@ -6,6 +6,10 @@ use Rattle.mv_machine.specs.Setup.{Setup}
 abbrev pub slots : ℕ
 slots = 4
 
+-- how many items are handed over at most
+abbrev pub items_limit : ℕ
+items_limit = 65535
+
 -- The producer is caller 0, and the consumer caller 1. Blocks 0 to 3 are the consumer's, and say that a slot is full; blocks 4 to 7
 -- are the producer's, and say that it is free. For each item each of them waits for a block, clears it, and posts one; before that
 -- the consumer says of each slot that it is free.

@@ -6,7 +6,7 @@ ghost use Rattle.mv_ecb.specs.Table.{code_limit};
 ghost use Rattle.mv_machine.specs.Legal.{Legal, of};
 ghost use Rattle.mv_machine.specs.Limits.{highest_place};
 ghost use Rattle.mv_handover.specs.Ready.{CanHandOver, IsNew, IsOwn, Put, Took, HasPut, HasTaken, CanStart, HasDone, AreRooms};
-ghost use Rattle.mv_handover.specs.Setup.{slots, slots_setup};
+ghost use Rattle.mv_handover.specs.Setup.{slots, items_limit, slots_setup};
 ghost use Rattle.mv_handover.specs.Slots.{posts, takes, part};
 
 use mv_attach::{Work, config_of_blocks, run_tasks};
@@ -37,7 +37,7 @@ pub struct HandedOver {
 
 // Caller 0 puts items in, and caller 1 takes them out. Blocks 0 to 3 say that a slot is full, and 4 to 7 that it is free.
 fn configuration(alloc: Global, items: u32) -> Result<ValidConfig, NoMemory>
-    requires few { items ≤ 65535 }
+    requires few { items ≤ items_limit }
     ensures { IfOk result (λ config. config ≡ slots_setup items) }
 {
     // For each item a wait, which is two events, a clear and a post; the consumer begins with a post for each slot.
@@ -146,7 +146,7 @@ pub fn hand_over<R: Threads + Wait + Sync>(
     alloc: Global,
     items: &[u32],
 ) -> Result<HandedOver, NoMemory>
-    requires few { length items.now ≤ 65535 }
+    requires few { length items.now ≤ items_limit }
     requires codes { AllByRecursion (λ x. x < code_limit) items.now }
     ensures taken { IfOk result (λ handed. handed.taken.items ≡ items.now) }
     ensures put { IfOk result (λ handed. (s : ℕ) → s < slots → posts s handed.history.coming ≡ part s items.now) }

@@ -56,7 +56,8 @@ closed_answers b requests es tasks rooms rest answers config legal order all wit
     let no = no_task b in
     let last : get_or rooms workers answers ≡ answers = last_room rooms rest answers workers is count in
     let server : HasDone b requests workers (get_or tasks workers no) answers.items =
-    subst (λ (r : Vec ℕ Global). HasDone b requests workers (get_or tasks workers no) r.items) last (done workers answers no (omega arith)) in
+    subst (λ (r : Vec ℕ Global). HasDone b requests workers (get_or tasks workers no) r.items) last
+    (done workers answers no (omega arith)) in
     answers_are b.config requests answers.items es (get_or tasks workers no).log config legal
     (λ j lt.
     let back = (done j answers no lt).back in

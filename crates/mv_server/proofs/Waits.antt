@@ -12,7 +12,6 @@ use Rattle.mv_machine.specs.declared.entry.Op.TheVariants as op_on
 use Rattle.mv_machine.specs.declared.entry.Reply.{Reply}
 use Rattle.mv_machine.specs.Setup.{Setup, owner_of}
 use Rattle.mv_calls.specs.Keeping.{Kept, kept_after, kept_from, kept_of, nothing_kept, extended_with}
-use Rattle.mv_calls.specs.Refusal as refusal
 use Rattle.mv_calls.specs.Waits.{wait_refusal, is_others_block}
 use Rattle.mv_calls.proofs.Making.{kept_caller}
 use Rattle.mv_calls.proofs.Unrefused.{IsFree, own_block as not_others, wait_unrefused}

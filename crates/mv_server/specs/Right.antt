@@ -1,7 +1,6 @@
 -- What each task of a pool keeps to, whatever the others do: a block of an answer is posted by a worker, and with nothing but that
 -- answer.
-use Rattle.std.specs.Prelude.{◌≡◌, ℕ, ◌+◌, ◌<◌, ◌≤◌, List, [], length, slice_index, vec_capacity, Vec}
-use Rattle.std.proofs.Common.{Global}
+use Rattle.std.specs.Prelude.{◌≡◌, ℕ, ◌+◌, ◌<◌, ◌≤◌, List, [], length, slice_index}
 use Rattle.std.specs.List.{AllByRecursion}
 use Rattle.mv_ecb.specs.declared.operation.EcbOp.TheVariants.{Extend, Post}
 use Rattle.mv_machine.specs.declared.entry.Entry.{Entry}
@@ -9,7 +8,6 @@ use Rattle.mv_machine.specs.declared.entry.Object.{Object}
 use Rattle.mv_machine.specs.declared.entry.Object.TheVariants.{Ecb}
 use Rattle.mv_machine.specs.declared.entry.Op.{Op}
 use Rattle.mv_machine.specs.declared.entry.Op.TheVariants as op_on
-use Rattle.mv_machine.specs.declared.entry.Reply.TheVariants as reply_of
 use Rattle.mv_board.specs.Faces.{BoardFace, CallerFace, IsOf}
 use Rattle.mv_calls.specs.Rest.{IsAtRest}
 use Rattle.mv_attach.specs.Entries.{Finds, IsPosted}
@@ -59,10 +57,6 @@ pub record IsWorkersPost (es : List Entry) (block code : ℕ) : Type 0 where
   pub worker : posted.entry.caller < workers
 
 -- ---- the work of all
-
--- there is nothing in it, and room for so many answers
-abbrev pub HasRoom : ℕ → Vec ℕ Global → Type 0
-HasRoom count room = (room.items ≡ []) × (count ≤ vec_capacity room)
 
 -- the task of this number is back, and the server has found each answer
 pub record HasDone (b : BoardFace) (requests : List ℕ) (k : ℕ) (t : CallerFace) (answers : List ℕ) : Type 0 where

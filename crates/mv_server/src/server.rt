@@ -6,9 +6,10 @@ ghost use Rattle.mv_element.specs.Table.{release_limit};
 ghost use Rattle.mv_machine.specs.Legal.{Legal};
 ghost use Rattle.mv_machine.specs.Limits.{highest_place};
 ghost use Rattle.mv_attach.specs.Entries.{Finds};
+ghost use Rattle.mv_attach.specs.Rooms.{HasRoom};
 ghost use Rattle.mv_server.specs.Pool.{workers, requests_limit, weeks_limit, worker_events, hand_out_events, server_events};
 ghost use Rattle.mv_server.specs.Pool.{pool_setup, days_in};
-ghost use Rattle.mv_server.specs.Right.{IsAsked, CanServe, IsBack, StaysReady, HasRoom, HasDone, IsWorkersPost};
+ghost use Rattle.mv_server.specs.Right.{IsAsked, CanServe, IsBack, StaysReady, HasDone, IsWorkersPost};
 
 use mv_attach::{Work, config_of_blocks, run_tasks};
 use mv_element::Token;

@@ -26,7 +26,8 @@ returns-clause-read g c =
     let token = c.in-Granted.token in
     let asked = c.obtain.ensures.served in
     let released = c.release_latch.ensures.served in
-    let by = subst (λ o. IsObtainedBy (Obtain 0 c.from-reader.result Shared Waiting) 0 Waiting t o u) c.in-Granted.is c.in-Ok.ensures.causes.1 in
+    let by = subst (λ o. IsObtainedBy (Obtain 0 c.from-reader.result Shared Waiting) 0 Waiting t o u)
+    c.in-Granted.is c.in-Ok.ensures.causes.1 in
     let one = read_one 0 c.read_volume-left.result u v c.read_volume-left.ensures.served in
     let two = read_one 1 c.read_volume-right.result v w c.read_volume-right.ensures.served in
     let rest = release_grown b.config _ _ _ _ w x released (cheap b.config c.requires.ready.careful.config) in

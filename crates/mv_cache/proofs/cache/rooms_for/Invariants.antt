@@ -1,6 +1,6 @@
 use Rattle.std.proofs.Common.{◌≡◌, length}
 use Rattle.std.specs.List.{AllByRecursion}
-use Rattle.mv_cache.specs.Whole.{HasRoom}
+use Rattle.mv_attach.specs.Rooms.{HasRoom}
 use Rattle.mv_cache.proofs.cache.rooms_for.Given as goal
 
 abbrev pub invariant-loop-made : goal.invariant-loop-made

@@ -1,6 +1,6 @@
 use Rattle.std.proofs.Common.{◌≡◌, length}
 use Rattle.std.specs.List.{AllByRecursion}
-use Rattle.mv_server.specs.Right.{HasRoom}
+use Rattle.mv_attach.specs.Rooms.{HasRoom}
 use Rattle.mv_server.proofs.server.rooms_for.Given as goal
 
 abbrev pub invariant-loop-made : goal.invariant-loop-made
