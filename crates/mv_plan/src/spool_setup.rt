@@ -10,24 +10,13 @@ ghost use Rattle.mv_deck.specs.Weight.{heaviest, most_initiators, weight};
 ghost use Rattle.mv_plan.specs.SpoolSetup.{jobs_limit, spool_setup, task_budgets, block_owners, end_exit};
 
 use crate::numbers::{SCHEDULER, done, end_for_scheduler, end_for_writer, writer};
-use mv_deck::{Deck, Job, Step, VOLUME_COUNT};
+use mv_deck::{Deck, Job, Step, VOLUME_COUNT, step_events};
 use mv_io::NoMemory;
 use mv_machine::{CheckRefusal, Config, Exit, ValidConfig};
 use std::alloc::Global;
 
 // How many callers there are beside the initiators: the reader, the scheduler and the writer.
 const OTHER_TASKS: u32 = 3;
-
-// At most how many events a step makes.
-fn step_events(step: &Step) -> u32
-    ensures { result ≡ events_of_step step.now }
-{
-    match step {
-        Step::Use(_, _) | Step::Count(_, _) | Step::Scan(_) => 2,
-        Step::Free(_) => 1,
-        Step::Print(_) | Step::Abend(_) | Step::Return(_) => 0,
-    }
-}
 
 // At most how many events the steps of a job make.
 #[tactic(auto, using(crate::proofs::code::Left::steps_left))]

@@ -1,5 +1,5 @@
 -- What the traces use of a moment, and how each caller's entry adds to them. Used by the result on ends.
-use Rattle.mv_plan.proofs.Words.{◌≡◌, ℕ, ◌+◌, ◌<◌, ◌≤◌, List, length, ◌⊎◌, inl, inr, refl, sym, ap, ◌∙◌, subst, arith, cases_lt, Extended}
+use Rattle.mv_plan.proofs.Words.{◌≡◌, ℕ, ◌+◌, ◌<◌, List, length, ◌⊎◌, inl, inr, refl, ap, ◌∙◌, subst, arith, Extended}
 use Rattle.mv_plan.proofs.Words.{Entry, Ecb, Setup, System, JobData, idle, reader, scheduler, initiator, writer, done, EcbOp, Op}
 use Rattle.mv_plan.proofs.Words.{common_steps}
 use Rattle.mv_plan.proofs.deck.{IsPlanned}

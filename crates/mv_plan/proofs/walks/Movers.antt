@@ -1,5 +1,5 @@
 -- Who makes an entry: an initiator, or a task that leaves volumes, latches and codes alone. For what speaks of initiators only.
-use Rattle.mv_plan.proofs.Words.{◌≡◌, ℕ, ◌+◌, ◌<◌, false, List, length, ◌⊎◌, refl, sym, ap, ◌∙◌, subst, arith, Entry, Object, Op, with_at}
+use Rattle.mv_plan.proofs.Words.{◌≡◌, ℕ, ◌+◌, ◌<◌, false, List, length, ◌⊎◌, refl, sym, ap, ◌∙◌, arith, Entry, Object, Op, with_at}
 use Rattle.mv_plan.proofs.Words.{JobData, initiator, is_obtain, purged_by, common_steps}
 use Rattle.mv_plan.proofs.points.{Point, At, ReaderAt, Entering, reader_asks, SchedulerAt, scheduler_asks, WriterAt, writer_asks}
 use Rattle.mv_plan.proofs.points.{InitiatorAt, initiator_asks, initiator_goes, IsNoPause, reader_no_pause, scheduler_no_pause}
@@ -38,17 +38,6 @@ pub record Mover (deck : List JobData) (initiators : ℕ) (t u : Points) (e : En
   pub object : e.object ≡ (initiator_asks (length deck) number point).0
   pub op : e.op ≡ (initiator_asks (length deck) number point).1
   pub moved : u.initiators ≡ with_at t.initiators number (initiator_goes deck point e.reply)
-
-aside : (initiators k : ℕ) (ask : Object × Op) (t u : Points) (e : Entry) → e.caller ≡ k → e.object ≡ ask.0 → e.op ≡ ask.1
-    → ((i : ℕ) → i < initiators → k ≡ initiator i → ⊥) → u.initiators ≡ t.initiators
-    → IsSignal ask.0 → IsNoPause ask.0 ask.1 → IsNoRequest ask.1 → Aside initiators t u e
-aside initiators k ask t u e is o op other same a b d = record {
-  caller = λ i lt q. other i lt (sym is ∙ q);
-  same = same;
-  signal = subst IsSignal (sym o) a;
-  no_pause = subst (λ z. IsNoPause z e.op) (sym o) (subst (λ z. IsNoPause ask.0 z) (sym op) b);
-  no_request = subst IsNoRequest (sym op) d;
-}
 
 pub who_moved : (deck : List JobData) (initiators : ℕ) (t u : Points) (e : Entry) → Move deck initiators t e u
     → Aside initiators t u e ⊎ Mover deck initiators t u e
