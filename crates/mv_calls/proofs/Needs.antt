@@ -375,7 +375,8 @@ call_asks c kept (services.CheckLatch latch id) its low = once_asks (IsHeard c) 
 call_asks c kept (services.ReleaseLatch latch id conditional) its low =
     cost_asks c _ _ _ low (λ h fits. let_go_asks c conditional h.wakes kept h.entry.reply fits)
 call_asks c kept (services.Purge requestor) its low = purge_asks c requestor kept low
-call_asks c kept (services.EndOfJob requestor block code) its low = ending_asks c requestor (Some block) code kept (omega arith) (omega arith)
+call_asks c kept (services.EndOfJob requestor block code) its low =
+    ending_asks c requestor (Some block) code kept (omega arith) (omega arith)
 call_asks c kept (services.EndOfTask requestor mother code) its low =
     wider (IsHeard c) _ _ _ (omega arith)
     (closes_ask (IsHeard c) kept (endings.used_elements c kept) (release_cost c + mother_events c mother) _

@@ -25,7 +25,7 @@ use Rattle.mv_machine.proofs.Lists.{all_front, all_back}
 use Rattle.mv_machine.proofs.EntryRuns.{entry_of}
 use Rattle.mv_machine.proofs.Reaches.{all_lead_up, reach_is}
 use Rattle.mv_calls.specs.Exits.{NamesOwnExit}
-use Rattle.mv_calls.specs.Keeping.{Kept, kept_after}
+use Rattle.mv_calls.specs.Keeping.{Kept, kept_after, nothing_kept}
 use Rattle.mv_calls.specs.Known.{BlockAgrees}
 use Rattle.mv_calls.specs.Posts.{Posting, posting, posted_next, each_posted, post_within, post}
 use Rattle.mv_calls.specs.Posts.{wake_posted, wakes_posted}
@@ -73,34 +73,7 @@ own_exit c es k o p op r l h = absurd (false≢true h.admits)
 pub exits_are_own : (c : Setup) (es : List Entry) (e : Entry) → Legal c es → IsNext c (after c es) e → NamesOwnExit c e.object e.reply
 exits_are_own c es e l h = own_exit c es e.caller e.object e.place e.op e.reply l h
 
--- ---- a program and what follows it
-record Parts {A B : Type 0} (p : Program A) (f : A → Program B) (hs : List Heard) : Type 0 where
-  front : List Heard
-  rest : List Heard
-  answer : A
-  whole : hs ≡ front ++ rest
-  says : Says p front
-  says_rest : Says (f answer) rest
-
-parts : {A B : Type 0} (p : Program A) (f : A → Program B) (hs : List Heard) → Says (and_then p f) hs → Says p hs ⊎ Parts p f hs
-parts (Done a) f hs s = inr (record { front = []; rest = hs; answer = a; whole = refl; says = tt; says_rest = s })
-parts (Do o op next) f [] s = inl tt
-parts (Do o op next) f (h ∷ hs) s = elim (parts (next h) f hs s.1) [
-  | inl all ↦ inl (s.0, all)
-  | inr r ↦ inr (record {
-    front = h ∷ r.front;
-    rest = r.rest;
-    answer = r.answer;
-    whole = ap (λ zs. h ∷ zs) r.whole;
-    says =
-        (s.0, r.says);
-    says_rest = r.says_rest;
-  })
-]
-parts Early f [] s = inl tt
-parts Early f (h ∷ hs) s = absurd (cc s.0)
-parts Wrong f [] s = inl tt
-parts Wrong f (h ∷ hs) s = absurd (cc s.0)
+-- ---- what is asked for
 
 -- a program asks for at most so many events, where each that it hears of is so
 abbrev pub Asks : {A : Type 0} → (Heard → Type 0) → ℕ → Program A → Type 0
@@ -113,23 +86,6 @@ HasOwnExit c h = NamesOwnExit c h.entry.object h.entry.reply
 -- it asks for at most so many, where the replies name own exits
 abbrev pub AsksAtMost : {A : Type 0} → Setup → ℕ → Program A → Type 0
 AsksAtMost c most p = Asks (HasOwnExit c) most p
-
--- a program and what follows it ask together
-pub both_ask : {A B : Type 0} (P : Heard → Type 0) (m n : ℕ) (p : Program A) (f : A → Program B) → Asks P m p
-    → ((a : A) → Asks P n (f a)) → Asks P (m + n) (and_then p f)
-both_ask P m n p f first later hs each s = elim (parts p f hs s) [
-  | inl all ↦ omega (arith, first hs each all)
-  | inr r ↦
-      let both : AllByRecursion P (r.front ++ r.rest) = subst (AllByRecursion P) r.whole each in
-      let sum : length hs ≡ length r.front + length r.rest = ap (λ (zs : List Heard). length zs) r.whole ∙ length-append r.front r.rest in
-      omega (
-        arith,
-        sum,
-        first r.front (all_front P r.front r.rest both) r.says,
-        later r.answer r.rest
-            (all_back P r.front r.rest both) r.says_rest,
-      )
-]
 
 -- ---- a program and the call that follows it
 record PartsOn {A B : Type 0} (p : Program A) (f : A → Call B) (hs : List Heard) : Type 0 where
@@ -179,6 +135,22 @@ follow_asks P m n call f kept first later hs each s = elim (parts_on kept (call 
             (all_back P r.front r.rest both) r.says_rest,
       )
 ]
+
+-- what goes on without what is kept goes on as a call does
+as_going_on : {A B : Type 0} (kept : Kept) (p : Program A) (f : A → Program B) (hs : List Heard) → Says (and_then p f) hs
+    → Says (going_on kept p (λ a then. f a)) hs
+as_going_on kept (Done a) f hs s = s
+as_going_on kept (Do o op next) f [] s = tt
+as_going_on kept (Do o op next) f (h ∷ hs) s = (s.0, as_going_on (kept_after kept o op h.entry.reply) (next h) f hs s.1)
+as_going_on kept Early f hs s = s
+as_going_on kept Wrong f hs s = s
+
+-- a program and what follows it ask together
+pub both_ask : {A B : Type 0} (P : Heard → Type 0) (m n : ℕ) (p : Program A) (f : A → Program B) → Asks P m p
+    → ((a : A) → Asks P n (f a)) → Asks P (m + n) (and_then p f)
+both_ask P m n p f first later hs each s =
+    follow_asks P m n (λ kept. p) (λ a then. f a) (nothing_kept 0) first (λ a then. later a) hs each
+    (as_going_on (nothing_kept 0) p f hs s)
 
 -- a program without event asks for nothing
 pub none_asks : {A : Type 0} (P : Heard → Type 0) (most : ℕ) (p : Program A) → HasNoEvent p → Asks P most p

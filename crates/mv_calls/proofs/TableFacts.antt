@@ -6,13 +6,11 @@ use Rattle.std.proofs.lemmas.Bool.{eqb-true}
 use Rattle.std.specs.List.{list_any, range_with_len}
 use Rattle.std.specs.Option.{option_or}
 use Rattle.mv_machine.specs.Check.{is_within, or_else}
-use Rattle.mv_machine.specs.Limits.{ecbs_limit}
 use Rattle.mv_machine.specs.Reach.{reach, reach_within, exits_of, greatest, total, cut}
 use Rattle.mv_machine.specs.Setup.{Setup, SetupExit, owner_of}
 use Rattle.mv_calls.specs.declared.table.Table.{Table}
 use Rattle.mv_calls.specs.declared.table.TableRefusal.{TableRefusal}
 use Rattle.mv_calls.specs.declared.table.TableRefusal.TheVariants.{BadSize, BadRange, NotOwner, BadLatch, BadVolume, HasExit}
-use Rattle.mv_calls.specs.Table.{IsSmallTable}
 use Rattle.mv_calls.specs.Table.{table_limit, event_block, slot_block, blocks_of_table, passes, meet, is_bad_range, is_on_exit, has_exit}
 use Rattle.mv_calls.specs.Table.{first_of_others, first_with_exit, table_refused_if, IsTableOf, IsSoundTable}
 
@@ -114,17 +112,6 @@ checked_is_sound c t e =
       latch = below t.latch c.latches (not_refused _ BadLatch four.0);
       volume = below t.volume c.volumes (not_refused _ BadVolume five.0);
       alone = λ i lt. none_in_table (has_exit c) t i exits lt;
-    }
-
--- and so it is small
-pub checked_is_small : (c : Setup) (t : Table) → IsTableOf c t → length c.owners ≤ ecbs_limit → IsSmallTable t
-checked_is_small c t e few =
-    let sound = checked_is_sound c t e in
-    let ends = sound.events in
-    let slots = sound.slots in record {
-      few = sound.few;
-      events = omega arith;
-      slots = omega arith;
     }
 
 -- ---- a post of a block that is on no exit is one event

@@ -1,15 +1,15 @@
 -- Calls that are not refused: when a wait and an extend are not, and the program that each call is then. Whoever follows a
 -- program call by call rewrites with these.
-use Rattle.std.proofs.Common.{◌≡◌, ℕ, ◌+◌, ◌≤◌, nat_lt, true, false, Bool, List, [], ◌∷◌, ◌++◌, length, Option, None}
+use Rattle.std.proofs.Common.{◌≡◌, ℕ, ◌+◌, ◌≤◌, nat_lt, false, Bool, List, [], ◌∷◌, ◌++◌, length, Option, None}
 use Rattle.std.proofs.Common.{refl, sym, ap}
 use Rattle.std.specs.List.{AllByRecursion}
 use Rattle.std.proofs.lemmas.Bool.{eq-eqb, le-ltb}
 use Rattle.mv_machine.specs.Check.{or_else}
-use Rattle.mv_machine.specs.Setup.{Setup, owner_of, is_exit_of}
+use Rattle.mv_machine.specs.Setup.{Setup, owner_of}
 use Rattle.mv_calls.specs.Keeping.{Kept}
 use Rattle.mv_calls.specs.Program.{unless_refused}
 use Rattle.mv_calls.specs.Refusal.{Refusal, TooMany, NotOwnerAt, ExtendedAt}
-use Rattle.mv_calls.specs.Waits.{refused_if, refused_at, doubled_at, is_others_block, wait_refusal, extend_refusal, wait, arm_all}
+use Rattle.mv_calls.specs.Waits.{refused_if, refused_at, doubled_at, is_others_block, wait_refusal, wait, arm_all}
 use Rattle.mv_calls.specs.Waits.{settle_all, enough, AreDistinct}
 use Rattle.mv_machine.proofs.Lists.{all_map, all_push}
 use Rattle.mv_calls.proofs.Distinct.{none_found}
@@ -64,11 +64,6 @@ wait_unrefused c count es kept few distinct free =
     (rw (le-ltb (length es) count few) refl) (none_doubled [] 0 es distinct (differ_from_none es))
     (nowhere NotOwnerAt (is_others_block c kept) 0 es (all_map (λ e f. own_block c kept e f.own) es free))
     (nowhere ExtendedAt kept.extended 0 es (all_map (λ e f. f.plain) es free))
-
--- an extend of a free block with an exit of its own
-pub extend_unrefused : (c : Setup) (e exit : ℕ) (kept : Kept) → IsFree c kept e → is_exit_of c exit e ≡ true
-    → extend_refusal c e exit kept ≡ None
-extend_unrefused c e exit kept free starts = rw (own_block c kept e free.own, starts, free.plain) refl
 
 -- such a wait arms and settles
 pub wait_is : (c : Setup) (count : ℕ) (es : List ℕ) (kept : Kept) → wait_refusal c count es kept ≡ None

@@ -1,6 +1,6 @@
 -- Tables of events: which tables a configuration can have.
-use Rattle.std.specs.Prelude.{◌≡◌, ℕ, ◌+◌, ◌==◌, ◌<◌, ◌≤◌, nat_lt, not, Bool, false, ◌&&◌, ◌||◌, List, ◌++◌, length, find, Option, Some, None}
-use Rattle.std.specs.Prelude.{option_map, if◌then◌else◌}
+use Rattle.std.specs.Prelude.{◌≡◌, ℕ, ◌+◌, ◌==◌, ◌<◌, ◌≤◌, nat_lt, not, Bool, false, ◌&&◌, ◌||◌, List, ◌++◌, length, find, Option, Some}
+use Rattle.std.specs.Prelude.{None, option_map, if◌then◌else◌}
 use Rattle.std.specs.List.{list_any, range_with_len}
 use Rattle.mv_machine.specs.Check.{is_within, or_else}
 use Rattle.mv_machine.specs.Limits.{ecbs_limit}

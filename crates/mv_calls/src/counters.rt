@@ -32,8 +32,8 @@ fn new_counters(alloc: Global, callers: u32, room: usize) -> Result<Vec<Counter>
 }
 
 impl CallCounters {
-    /// Before the first entry. All memory is taken here: of each caller 4 bytes for each block that may be pending, of which there are
-    /// 1 + callers × posted quota + 7 × exits.
+    /// Before the first entry. All memory is taken here: of each caller its counter, of 40 bytes in a list that grows by doubling, and
+    /// 4 bytes for each block that may be pending, of which there are 1 + callers × posted quota + 7 × exits.
     ///
     /// # Errors
     ///
@@ -46,7 +46,7 @@ impl CallCounters {
     }
 
     /// One more entry of a legal list of fewer than 2^32 entries: the number of its caller's call that it belongs to. The wakes are
-    /// those that the machine shows behind it.
+    /// those that the machine shows behind it. No memory is taken: `open` took that of the counters and of their blocks.
     ///
     /// # Example
     ///

@@ -12,7 +12,7 @@ ghost use Rattle.mv_machine.specs.Leaving.{WasPurged, takes_out};
 ghost use Rattle.mv_machine.specs.Legal.{Legal, after};
 ghost use Rattle.mv_machine.specs.Owned.{IsGranted};
 ghost use Rattle.mv_machine.specs.Setup.{Setup};
-ghost use Rattle.mv_calls.specs.Sections.{IsHolder, IsSection, IsGuarded, AreOwn, HoldsAlone, is_write, tells_grant};
+ghost use Rattle.mv_calls.specs.Sections.{IsHolder, IsSection, IsGuarded, AreOwn, is_write, tells_grant};
 
 /// Mutual exclusion. Who by its own entries holds a latch, and was purged by nobody, holds it, and so throughout its section; two
 /// that hold one latch at a moment, of which one holds it alone, are one; and while a caller holds a latch alone no other caller's

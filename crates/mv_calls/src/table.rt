@@ -6,8 +6,8 @@ ghost use Rattle.std.specs.List.{list_any, range_with_len};
 ghost use Rattle.mv_machine.specs.Config.{exit_of};
 ghost use Rattle.mv_machine.specs.Limits.{ecbs_limit};
 ghost use Rattle.mv_machine.specs.Setup.{owner_of};
-ghost use Rattle.mv_calls.specs.Table.{table_refusal, IsTableOf, IsSoundTable, is_bad_range, first_of_others, first_with_exit, blocks_of_table};
-ghost use Rattle.mv_calls.specs.Table.{is_on_exit, has_exit as block_has_exit};
+ghost use Rattle.mv_calls.specs.Table.{table_refusal, IsTableOf, IsSoundTable, is_bad_range, first_of_others, first_with_exit};
+ghost use Rattle.mv_calls.specs.Table.{blocks_of_table, is_on_exit, has_exit as block_has_exit};
 
 use mv_machine::{Exit, ValidConfig};
 use std::marker::Model;
@@ -201,7 +201,8 @@ impl Table {
     // The first blocks of its two ranges, the lower first.
     fn ranges(&self) -> (u32, u32)
         ensures rising { blocks_of_table self.now ≡ range_with_len result.0 self.now.size ++ range_with_len result.1 self.now.size }
-        ensures which { ((result.0 ≡ self.now.events) × (result.1 ≡ self.now.slots)) ⊎ ((result.0 ≡ self.now.slots) × (result.1 ≡ self.now.events)) }
+        ensures which { ((result.0 ≡ self.now.events) × (result.1 ≡ self.now.slots))
+            ⊎ ((result.0 ≡ self.now.slots) × (result.1 ≡ self.now.events)) }
     {
         if self.events < self.slots {
             (self.events, self.slots)

@@ -40,7 +40,12 @@ passes c v =
     let one = both_none _ _ v in
     let two = both_none _ _ one.1 in
     let three = both_none _ _ two.1 in
-    record { limit = none_mapped _ _ one.0; owner = none_mapped _ _ two.0; exit = none_mapped _ _ three.0; budget = none_mapped _ _ three.1 }
+    record {
+      limit = none_mapped _ _ one.0;
+      owner = none_mapped _ _ two.0;
+      exit = none_mapped _ _ three.0;
+      budget = none_mapped _ _ three.1;
+    }
 
 all_pass : {A : Type 0} (t : A → Bool) (i : ℕ) (xs : List A) → position_from t i xs ≡ None → AllByRecursion (λ x. t x ≡ false) xs
 all_pass t i [] e = tt

@@ -15,7 +15,8 @@ use Rattle.mv_entrytext.proofs.LinesAgain.{entry_line_read}
 use Rattle.mv_entrytext.proofs.KindsTaken.{takes_entry}
 use Rattle.mv_entrytext.proofs.Passes.{IsAtLine}
 
-module _ (v : Version) (text behind : List ℕ) (call : Option ℕ) (e : Entry) (read : entry_read true v text ≡ Some ((call, e), 10 ∷ behind)) where
+module _ (v : Version) (text behind : List ℕ) (call : Option ℕ) (e : Entry)
+    (read : entry_read true v text ≡ Some ((call, e), 10 ∷ behind)) where
   -- the line says this entry
   pub says : line_read true (AtEntries v) (entry_text call e) ≡ Some (EntryOf call e)
   says = let t = takes_entry v text (10 ∷ behind) (call, e) read in entry_line_read v call e t.1.0 t.1.1

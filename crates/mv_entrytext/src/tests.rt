@@ -110,7 +110,8 @@ fn the_empty_decks_journal(rt: HostRuntime) -> Result<(), Fail> {
 #[test]
 fn exits_and_no_entry(rt: HostRuntime) -> Result<(), Fail> {
     let text =
-        b"JOURNAL 1\nCALLERS 1\nELEMENTS 1\nVOLUMES 1\nLATCHES 1\nQUOTA 16 5\nBUDGET 524287\nECB 0\nECB 0\nECB 0\nEXIT 0 2 1\nEXIT 1 2\nEVENTS\nEND 0\n";
+        b"JOURNAL 1\nCALLERS 1\nELEMENTS 1\nVOLUMES 1\nLATCHES 1\nQUOTA 16 5\nBUDGET 524287\nECB 0\nECB 0\nECB 0\n\
+        EXIT 0 2 1\nEXIT 1 2\nEVENTS\nEND 0\n";
     let journal = check_journal(&rt, rt.alloc(), text, 0)?;
     assert_eq!(rt; journal.config.config().quota, 16);
     assert_eq!(rt; journal.config.config().posted_quota, 5);

@@ -225,7 +225,7 @@ impl JournalWriter {
     ///
     /// # Errors
     ///
-    /// `NoMemory`, as of the other two.
+    /// `NoMemory` where there is no room for the head.
     pub fn open(
         alloc: Global,
         version: Version,
@@ -239,7 +239,11 @@ impl JournalWriter {
     }
 
     /// The line of an entry behind the others, with the number of its call, if it is to have one. Each number is one of its type,
-    /// and that is told.
+    /// and that is told. The memory is of the writer's own allocator, which `open` was given.
+    ///
+    /// # Errors
+    ///
+    /// `NoMemory` where there is no room for the line.
     pub fn push(&mut self, call: Option<u32>, entry: &Entry) -> Result<(), NoMemory>
         ensures text { (v : AnyVersion) (c : Setup) (lines : List Line) → IsWrittenTo v c lines self.old
             → OnOk result (IsWrittenTo v c (lines ++ EntryOf call entry.now ∷ []) self.new) }
@@ -248,7 +252,11 @@ impl JournalWriter {
         push_entry_line(&mut self.out, call, entry)
     }
 
-    /// The text, with the line that ends it behind the others and this number on it.
+    /// The text, with the line that ends it behind the others and this number on it. The memory is of the writer's own allocator.
+    ///
+    /// # Errors
+    ///
+    /// `NoMemory` where there is no room for that line.
     pub fn end(self, count: u64) -> Result<Vec<u8>, NoMemory>
         ensures { (v : AnyVersion) (c : Setup) (lines : List Line) → IsWrittenTo v c lines self
             → IfOk result (λ text. text.items ≡ head_text v c ++ flat_map line lines ++ line (End count)) }
@@ -262,6 +270,10 @@ impl JournalWriter {
 
 /// The journal of a configuration and entries in version 1 of the text, without call numbers; of any entries whose operations and
 /// replies are of their objects' kinds, with numbers in the ranges of `docs/FORMATS.md`.
+///
+/// # Errors
+///
+/// `NoMemory` where there is no room for the text.
 pub fn write_old_journal(
     alloc: Global,
     config: &ValidConfig,

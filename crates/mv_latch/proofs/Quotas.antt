@@ -88,7 +88,8 @@ module _ (first own : ℕ → Request → Bool) (none : (q : Request) → first 
       )
 
   -- so the counts add up
-  pub first_more : (n : ℕ) (lists : List (List Request)) → count_in (first (suc n)) lists ≡ count_in (first n) lists + count_in (own n) lists
+  pub first_more : (n : ℕ) (lists : List (List Request)) → count_in (first (suc n)) lists
+      ≡ count_in (first n) lists + count_in (own n) lists
   first_more n [] = refl
   first_more n (qs ∷ rest) = omega (arith, first_list n qs, first_more n rest)
 
@@ -112,7 +113,8 @@ none_below q = le-ltb q.caller 0 (omega arith)
 below_one : (n : ℕ) (q : Request) → one_if (below (suc n) q) ≡ one_if (below n q) + one_if (of_caller n q)
 below_one n q = grind (arith, nat_tests)
 
-below_more : (n : ℕ) (lists : List (List Request)) → count_in (below (suc n)) lists ≡ count_in (below n) lists + count_in (of_caller n) lists
+below_more : (n : ℕ) (lists : List (List Request)) → count_in (below (suc n)) lists
+    ≡ count_in (below n) lists + count_in (of_caller n) lists
 below_more = first_more below of_caller none_below below_one
 
 below_fit : (lists : List (List Request)) (quota n : ℕ) → ((k : ℕ) → count_in (of_caller k) lists ≤ quota)

@@ -1,7 +1,7 @@
 //! A latch set and its operations. Clauses cite `specs/LatchSet.antt` and `specs/Latch.antt`; what is kept between calls is
 //! `specs/Inside.antt`.
 
-ghost use Rattle.std.specs.Prelude.{◌≡◌, ◌<◌, ◌≤◌, ◌*◌, ◌+◌, ◌^◌, ◌↔◌, ◌++◌, [], map, length, vec_len, vec_capacity};
+ghost use Rattle.std.specs.Prelude.{◌≡◌, ◌<◌, ◌≤◌, ◌*◌, ◌+◌, ◌^◌, ◌↔◌, ◌++◌, map, length, vec_len, vec_capacity};
 ghost use Rattle.std.specs.Prelude.{IsTrue, IsSome, IfSome, OnSome, IfNone, IfOk};
 ghost use Rattle.std.specs.List.{flat_map};
 ghost use Rattle.mv_latch.specs.Request.{of_caller, of_requestor};

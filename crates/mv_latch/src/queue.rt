@@ -2,7 +2,7 @@
 
 ghost use Rattle.std.specs.Prelude.{◌≡◌, ◌+◌, ◌<◌, ◌≤◌, ◌^◌, ◌++◌, not, length, map, filter, take, drop, vec_len, vec_capacity};
 ghost use Rattle.std.specs.List.{list_all, list_any};
-ghost use Rattle.mv_latch.specs.Request.{shared_request, is_own, of_requestor, wake_of};
+ghost use Rattle.mv_latch.specs.Request.{shared_request, is_own, wake_of};
 ghost use Rattle.mv_latch.specs.Latch.{shared_front, granted as granted_of, waiting as waiting_in, grants, first_id};
 ghost use Rattle.mv_latch.specs.Latch.{blocker as blocker_of, obtain_step, confirm_reply, release_step, left_without};
 ghost use Rattle.mv_latch.specs.Latch.{newly_granted, granted_wakes, waiting_of, HasDistinctIds};

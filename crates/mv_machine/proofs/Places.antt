@@ -54,11 +54,6 @@ risen_else p o q h = rw (same_miss q o h)
 risen_up : (p : Places) (o q : Object) → p q ≤ risen p o q
 risen_up p o q = dite (object_discrete q o) (λ e. rw (risen_here p o q e) (omega arith)) (λ n. rw (risen_else p o q n) (le_refl (p q)))
 
-pub risen_low : (p : Places) (o q : Object) (n : ℕ) → p q ≤ n → risen p o q ≤ n + 1
-risen_low p o q n low = dite (object_discrete q o)
-    (λ e. rw (risen_here p o q e) (omega arith))
-    (λ m. rw (risen_else p o q m) (omega arith))
-
 two_rises : (a b : Bool) (n : ℕ) → cond a (cond b (n + 1) n + 1) (cond b (n + 1) n) ≡ cond b (cond a (n + 1) n + 1) (cond a (n + 1) n)
 two_rises true true n = refl
 two_rises true false n = refl

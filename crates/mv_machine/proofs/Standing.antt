@@ -46,11 +46,6 @@ within_both_more latch (x ∷ xs) (t ∷ ts) q (inl w) = inl (w.0, within_both_m
 within_both_more latch (x ∷ xs) (t ∷ ts) q (inr w) = inr (within_both_more latch (x ∷ xs) ts q w)
 
 -- fewer are requested
-within_tail : (latch : ℕ) (q : Request) (qs : List Request) (ts : List StandingRequest) → Within latch (q ∷ qs) ts → Within latch qs ts
-within_tail latch q qs [] w = absurd w
-within_tail latch q qs (t ∷ ts) (inl w) = within_skip latch qs t ts w.1
-within_tail latch q qs (t ∷ ts) (inr w) = within_skip latch qs t ts (within_tail latch q qs ts w)
-
 pub within_left : (latch : ℕ) (p : Request → Bool) (qs : List Request) (ts : List StandingRequest) → Within latch qs ts
     → Within latch (filter p qs) ts
 within_left latch p [] ts w = tt

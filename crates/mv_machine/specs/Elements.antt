@@ -68,13 +68,13 @@ is_accepted Woke = true
 is_accepted _ = false
 
 -- the code of a release that carries g
-abbrev pub release_code : ℕ → ElementOp → Option ℕ
-release_code g (Release h d) = only_if (h == g) d
-release_code g _ = None
+abbrev pub carried_code : ℕ → ElementOp → Option ℕ
+carried_code g (Release h d) = only_if (h == g) d
+carried_code g _ = None
 
 -- the code of a release of generation g that was accepted
 abbrev pub accepted_code : ℕ → ElementEvent → Option ℕ
-accepted_code g v = if is_accepted v.reply then release_code g v.op else None
+accepted_code g v = if is_accepted v.reply then carried_code g v.op else None
 
 -- the codes of the accepted releases of generation g
 abbrev pub releases : ℕ → List ElementEvent → List ℕ

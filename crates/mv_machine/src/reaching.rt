@@ -1,6 +1,6 @@
 //! How many posts one post can lead to over the exits, by specs/Reach.antt and specs/Chains.antt.
 
-ghost use Rattle.std.specs.Prelude.{◌≡◌, ◌<◌, ◌≤◌, ◌^◌, ◌*◌, ℕ, length, map, IfOk, slice_index};
+ghost use Rattle.std.specs.Prelude.{◌≡◌, ◌<◌, ◌≤◌, ◌^◌, ◌*◌, length, map, IfOk, slice_index};
 ghost use Rattle.std.specs.List.{AllByRecursion};
 ghost use Rattle.mv_machine.specs.Chains.{AreChains, AreReaches, HasFewGoodTargets};
 ghost use Rattle.mv_machine.specs.Check.{IsValid};

@@ -1,9 +1,9 @@
 //! The state of the whole machine, and its one step, by specs/System.antt and specs/State.antt.
 
-ghost use Rattle.std.specs.Prelude.{◌≡◌, ◌<◌, ◌≤◌, ◌+◌, ◌^◌, ◌-◌, ℕ, [], length, IfOk, IfSome, IsTrue, ◌↔◌};
+ghost use Rattle.std.specs.Prelude.{◌≡◌, ◌<◌, ◌≤◌, ◌+◌, ◌-◌, [], IfOk, IsTrue, ◌↔◌};
 ghost use Rattle.mv_latch.specs.LatchSet.{list_of};
 ghost use Rattle.mv_machine.specs.Limits.{highest_place, place_limit};
-ghost use Rattle.mv_machine.specs.System.{System, answer, after_step, place_of, volume_step};
+ghost use Rattle.mv_machine.specs.System.{answer, after_step, place_of, volume_step};
 ghost use Rattle.mv_machine.specs.System.{wakes_after, opening as opening_of};
 ghost use Rattle.mv_machine.specs.State.{system_of, wakes_of, IsOpenedWith, IsStep, Exists, HasLatch};
 
@@ -160,6 +160,7 @@ impl State {
     /// and is the number of an obtain's request. There is no answer, and nothing changes, exactly where the operation
     /// is not admitted: there is no such caller or object, or the operation is not for that caller or not within its limits. It
     /// never waits, and needs no memory.
+    // Inlined with its parts: an operation and a reply that are handed on through memory cost more than the step.
     #[inline(always)]
     pub fn step(
         &mut self,

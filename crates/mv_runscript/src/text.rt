@@ -10,7 +10,7 @@ use crate::run::ScriptRun;
 use mv_element::{ElementState, Phase, Token};
 use mv_io::NoMemory;
 use mv_line::push_number;
-use mv_script::{Answer, AnswerList};
+use mv_script::Answer;
 use mv_wait::WaitSlot;
 use std::alloc::Global;
 

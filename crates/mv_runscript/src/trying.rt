@@ -36,7 +36,8 @@ pub(crate) fn try_post(
     requires place { place ≤ highest_place }
     requires code { code < code_limit }
     requires left { 0 < task.old.left }
-    ensures { (table : Option Table) (tokens : List (Option LatchToken)) → MakesCall station.now.config table (call.TryPost ecb place code) result
+    ensures { (table : Option Table) (tokens : List (Option LatchToken)) → MakesCall station.now.config table
+        (call.TryPost ecb place code) result
         tokens tokens task.old task.new }
 {
     let zero = zero_at(place);
@@ -62,7 +63,8 @@ pub(crate) fn try_release_token(
     requires place { place ≤ highest_place }
     requires code { code < release_limit }
     requires left { 0 < task.old.left }
-    ensures { (table : Option Table) (tokens : List (Option LatchToken)) → MakesCall station.now.config table (call.TryRelease token place code) result
+    ensures { (table : Option Table) (tokens : List (Option LatchToken)) → MakesCall station.now.config table
+        (call.TryRelease token place code) result
         tokens tokens task.old task.new }
 {
     let reset = reset_at(token.generation, place);

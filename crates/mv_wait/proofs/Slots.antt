@@ -74,7 +74,8 @@ module _ {F : Type 0} (step : F → ℕ → MutBor HeldRequest → Bool → MutB
     (says : (f : F) (key : ℕ) (shown : MutBor HeldRequest) (keep : Bool) (left : MutBor HeldRequest) (next : F) → P f
     → step f key shown keep left next
     → (keep ≡ not (test (request_of shown.now))) × (left.now ≡ shown.now) × P next) where
-  at_value : (f : F) (key : ℕ) (old : HeldRequest) (keep : Bool) (new : HeldRequest) (next : F) → P f → CalledAt step f key old keep new next
+  at_value : (f : F) (key : ℕ) (old : HeldRequest) (keep : Bool) (new : HeldRequest) (next : F) → P f
+      → CalledAt step f key old keep new next
       → (keep ≡ not (test (request_of old))) × (new ≡ old) × P next
   at_value f key old keep new next p w =
       let s = says f key w.shown keep w.left next p w.called in (

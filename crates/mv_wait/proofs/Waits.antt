@@ -8,6 +8,7 @@ use Rattle.std.specs.List.{AllByRecursion, list_any, Contains}
 use Rattle.std.proofs.lemmas.List.Elements.{Contains-push}
 use Rattle.std.proofs.lemmas.List.Folds.{list_any-append}
 use Rattle.mv_latch.proofs.Members.{Found, found, finds}
+use Rattle.mv_ecb.specs.declared.operation.EcbOp.{EcbOp}
 use Rattle.mv_ecb.specs.declared.operation.EcbOp.TheVariants.{Arm, Settle}
 use Rattle.mv_ecb.specs.declared.operation.EcbReply.TheVariants as ecb_reply
 use Rattle.mv_machine.specs.declared.entry.Object.TheVariants.{Ecb}
@@ -145,19 +146,14 @@ none_is_rest log a = record { armed = a.armed; parked = a.parked; queued = a.que
 pub kept_one : (k : ℕ) (log : List Entry) (x : Entry) → kept_of k (log ++ x ∷ []) ≡ kept_after (kept_of k log) x.object x.op x.reply
 kept_one k log x = kept_from-append (nothing_kept k) log (x ∷ [])
 
-pub arm_keeps : (t u : CallerFace) (e place : ℕ) (reply : Reply) (es : List ℕ) → HappenedAt t (Ecb e) place (op_on.Ecb Arm) reply u
-    → ArePlain t es → ArePlain u es
-arm_keeps t u e place reply es h all = subst (λ held. AllByRecursion (λ n. held n ≡ false) es) (sym same) all where
+pub event_keeps : (t u : CallerFace) (e place : ℕ) (op : EcbOp) (reply : Reply) (es : List ℕ)
+    → HappenedAt t (Ecb e) place (op_on.Ecb op) reply u
+    → ((q : Kept) → (kept_after q (Ecb e) (op_on.Ecb op) reply).extended ≡ q.extended) → ArePlain t es → ArePlain u es
+event_keeps t u e place op reply es h stays all = subst (λ held. AllByRecursion (λ n. held n ≡ false) es) (sym same) all where
   same : (kept_of u.number u.log).extended ≡ (kept_of t.number t.log).extended
   same = (λ i. (kept_of (h.same.number i) (h.logged i)).extended)
-      ∙ ap (λ (q : Kept). q.extended) (kept_one t.number t.log (entry_of t (Ecb e) place (op_on.Ecb Arm) reply))
-
-pub settle_keeps : (t u : CallerFace) (e place : ℕ) (reply : Reply) (es : List ℕ) → HappenedAt t (Ecb e) place (op_on.Ecb Settle) reply u
-    → ArePlain t es → ArePlain u es
-settle_keeps t u e place reply es h all = subst (λ held. AllByRecursion (λ n. held n ≡ false) es) (sym same) all where
-  same : (kept_of u.number u.log).extended ≡ (kept_of t.number t.log).extended
-  same = (λ i. (kept_of (h.same.number i) (h.logged i)).extended)
-      ∙ ap (λ (q : Kept). q.extended) (kept_one t.number t.log (entry_of t (Ecb e) place (op_on.Ecb Settle) reply))
+      ∙ (ap (λ (q : Kept). q.extended) (kept_one t.number t.log (entry_of t (Ecb e) place (op_on.Ecb op) reply))
+      ∙ stays (kept_of t.number t.log))
 
 pub settled_complete : (found : WaitSlot) → is_complete_reply (reply_of.Ecb (settle_reply found)) ≡ true → IsComplete found
 settled_complete (slot.Complete code) e = (code, refl)

@@ -2,8 +2,13 @@
 use Rattle.std.specs.Prelude.{◌≡◌, ℕ, ◌+◌, ◌≤◌, List, ◌++◌, length}
 use Rattle.mv_board.specs.declared.view.Sight.{Sight}
 use Rattle.mv_board.specs.Faces.{CallerFace, IsSame}
+use Rattle.mv_calls.specs.Keeping.{Kept, kept_of}
 use Rattle.mv_calls.specs.Made.{IsMade, told_by, HaveTheirWakes}
 use Rattle.mv_calls.specs.Program.{Program, Call, Heard, Says, left, entries}
+
+-- what a task keeps of its log
+abbrev pub keeps : CallerFace → Kept
+keeps t = kept_of t.number t.log
 
 -- The task made these events, each on the latch set with its wakes. They lengthen its log and what it was told, and lower what
 -- is left to it by their number; what it met before stays.

@@ -1,4 +1,4 @@
-//! A wait for one block. Clauses cite the calls' `Waits.antt` and `Table.antt`, `specs/Run.antt` and `specs/OneBlock.antt`.
+//! A wait for one block. Clauses cite the calls' `Waits.antt` and `Exits.antt`, `specs/Run.antt` and `specs/OneBlock.antt`.
 
 ghost use Rattle.std.specs.Prelude.{◌≡◌, ◌<◌, ◌≤◌, ◌∷◌, [], false, length, Some, Ok};
 ghost use Rattle.mv_ecb.specs.Table.{code_limit};

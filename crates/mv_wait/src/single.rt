@@ -25,7 +25,8 @@ use std::sync::Wait;
 use thiserror::Error;
 
 /// The block or element is another caller's.
-#[derive(Clone, Copy, Debug, PartialEq, Eq)]
+#[derive(Clone, Copy, Debug, PartialEq, Eq, Error)]
+#[error("the block or element is another caller's")]
 pub struct NotOwner;
 
 /// Why a block was not extended.
@@ -105,7 +106,8 @@ impl Station {
     fn refuses_extend(&self, task: &Task, ecb: u32, exit: u32) -> Option<ExtendRefusal>
         requires task { IsOf self.now task.now }
         requires block { ecb < length self.now.config.owners }
-        ensures refusal { option_map extend_refused result ≡ extend_refusal self.now.config ecb exit (kept_of task.now.number task.now.log) }
+        ensures refusal { option_map extend_refused result
+            ≡ extend_refusal self.now.config ecb exit (kept_of task.now.number task.now.log) }
         ensures few { result ≡ None → exit ≤ exits_limit }
     {
         if self.is_others_block(task, ecb) {

@@ -149,7 +149,8 @@ impl Task {
     pub(crate) fn first_extended(&self, ecbs: &[u32]) -> Option<u32>
         requires few { length ecbs.now < 2 ^ 32 }
         requires blocks { (s : Setup) × (self.now.about ≡ s ∷ []) × AllByRecursion (λ e. e < length s.owners) ecbs.now }
-        ensures first { option_map (λ p. ExtendedAt p) result ≡ refused_at ExtendedAt (kept_of self.now.number self.now.log).extended 0 ecbs.now }
+        ensures first { option_map (λ p. ExtendedAt p) result
+            ≡ refused_at ExtendedAt (kept_of self.now.number self.now.log).extended 0 ecbs.now }
         ensures held { IfSome result (λ p. (kept_of self.now.number self.now.log).extended (slice_index ecbs.now p) ≡ true) }
     {
         for p in 0..ecbs.len() {

@@ -8,8 +8,7 @@ ghost use Rattle.mv_calls.specs.Rest.{IsAtRest};
 ghost use Rattle.mv_board.specs.Faces.{IsFresh, IsOf};
 
 use super::*;
-use mv_ecb::EcbOp;
-use mv_machine::{Config, Exit, Object, Op, ValidConfig};
+use mv_machine::{Config, Exit, Object, ValidConfig};
 use std::alloc::Global;
 use std::hint;
 use std::process::Abort;

@@ -13,8 +13,8 @@ ghost use Rattle.mv_calls.specs.Refusal.{Doubled, NotOwnerAt};
 ghost use Rattle.mv_wait.specs.Answers.{wait_answer, wait_refused, slots_of};
 ghost use Rattle.mv_wait.specs.Listed.{is_listed, listed_count, AreSeenBut};
 ghost use Rattle.mv_wait.specs.Run.{Went, IsServed};
-ghost use Rattle.mv_wait.specs.Waiting.{IsArmed, IsArmedFor, ArePlain, AreOwn, AreOwnUpTo, ArmsAll, SettlesEnough, IsBlockSettled, IsComplete};
-ghost use Rattle.mv_wait.specs.Waiting.{NamesSource, HasLowCode};
+ghost use Rattle.mv_wait.specs.Waiting.{IsArmed, IsArmedFor, ArePlain, AreOwn, AreOwnUpTo, ArmsAll, SettlesEnough, IsBlockSettled};
+ghost use Rattle.mv_wait.specs.Waiting.{IsComplete, NamesSource, HasLowCode};
 
 use crate::pausing::Pauses;
 use crate::replies::slot;

@@ -1,6 +1,7 @@
 -- How many posts of a caller may still follow: no more than a counter has room for.
 use Rattle.std.proofs.Common.{◌≡◌, ℕ, zero, suc, ◌+◌, ◌*◌, ◌-◌, ◌<◌, ◌≤◌, ◌==◌, nat_le, nat_lt, Bool, true, false, if◌then◌else◌}
-use Rattle.std.proofs.Common.{List, [], ◌∷◌, ◌++◌, length, take, drop, get_or, Option, None, Some, slice_get, refl, sym, ap, ◌∙◌, subst, arith}
+use Rattle.std.proofs.Common.{List, [], ◌∷◌, ◌++◌, length, take, drop, get_or, Option, None, Some, slice_get, refl, sym, ap, ◌∙◌, subst}
+use Rattle.std.proofs.Common.{arith}
 use Rattle.std.proofs.lemmas.Bool.{eqb-true, and_parts}
 use Rattle.std.proofs.lemmas.Bool.Decides.{nat_tests}
 use Rattle.std.proofs.lemmas.List.{length-append, drop_more, take_more}
@@ -92,7 +93,8 @@ low_fit c [] low = omega arith
 low_fit c (e ∷ ps) low = omega (arith, low.0)
 
 -- blocks are put on top of others
-low_more : (c : Setup) (n : ℕ) (es ps : List ℕ) → AllByRecursion (IsLow c n) es → length es + length ps ≤ n → AreLow c ps → AreLow c (es ++ ps)
+low_more : (c : Setup) (n : ℕ) (es ps : List ℕ) → AllByRecursion (IsLow c n) es → length es + length ps ≤ n
+    → AreLow c ps → AreLow c (es ++ ps)
 low_more c n [] ps each le low = low
 low_more c n (e ∷ es) ps each le low = (omega (arith, each.0, length-append es ps), low_more c n es ps each.1 (omega arith) low)
 

@@ -79,7 +79,8 @@ pub unfit_there : (c : Setup) (es : List Entry) (i : ℕ) (e : Entry) → i < le
 unfit_there c es i e lt at bad l = bad (subst (λ (xs : List Entry). Legal c xs) (one_more es i e lt at) l)
 
 -- the first illegal entry of a front is that of the list
-illegal_front : (c : Setup) (s : System) (es : List Entry) (n : ℕ) (i : Illegal) → IsFirstIllegal c s (take n es) i → IsFirstIllegal c s es i
+illegal_front : (c : Setup) (s : System) (es : List Entry) (n : ℕ) (i : Illegal) → IsFirstIllegal c s (take n es) i
+    → IsFirstIllegal c s es i
 illegal_front c s es n i w = record {
   before = w.before;
   entry = w.entry;

@@ -1,6 +1,6 @@
 //! Worked rows, and each reply and refusal once.
 
-ghost use Rattle.std.specs.Prelude.{◌≡◌, ℕ, ◌*◌, ◌<◌, ◌≤◌, ◌^◌, vec_capacity};
+ghost use Rattle.std.specs.Prelude.{ℕ, ◌*◌, ◌<◌, ◌≤◌, ◌^◌, vec_capacity};
 ghost use Rattle.mv_latch.specs.LatchSet.{IsNewId};
 
 use super::LatchSet;

@@ -28,7 +28,8 @@ loop-entry-preserved c =
     let next = c.in-Some.ensures (take i entries) c.loop-entry.invariant.judged in
     record {
       judged = judged_there config entries i e c.next.new.self lt read next.judged;
-      numbers = numbers_there config entries c.loop-entry.numbers.items i c.in-Some.number e lt read c.loop-entry.invariant.numbers next.number
+      numbers = numbers_there config entries c.loop-entry.numbers.items i c.in-Some.number e lt read
+          c.loop-entry.invariant.numbers next.number
           ∙ sym c.in_ok-push-in-Some.ensures.items;
     }
 

@@ -12,7 +12,8 @@ use Rattle.mv_machine.proofs.reaching.chains_of.Goals as goal
 good_source : (n : ℕ) (exits : List Exit) (i : ℕ) (e : Exit) → i < length exits → e ≡ get_or exits i e
     → AllByRecursion (HasFewGoodTargets n) (map exit_of exits) → e.source < n
 good_source n exits i e lt is good =
-    let h : HasFewGoodTargets n (exit_of e) = all_got (HasFewGoodTargets n) (map exit_of exits) i (exit_of e) (found exits i e lt is) good in
+    let h : HasFewGoodTargets n (exit_of e) = all_got (HasFewGoodTargets n) (map exit_of exits) i (exit_of e)
+    (found exits i e lt is) good in
     h.source
 
 pub index-requires : goal.index-requires

@@ -42,4 +42,5 @@ returns c = λ es h.
     is_next config (system_of old.state) e (sym c.step-machine.ensures.answer ∙ c.is_answer.ensures.0 c.if-not-is_answer.false) in
     judged_more config es old e h _ c.count-number.result next c.step-machine.ensures.after c.step-machine.ensures.wakes
     c.step-machine.ensures.opened
-    (c.count-number.ensures es (judged_countable config es old e h c.wakes.result.now next (c.wakes.ensures ∙ c.step-machine.ensures.wakes)))
+    (c.count-number.ensures es (judged_countable config es old e h c.wakes.result.now next
+    (c.wakes.ensures ∙ c.step-machine.ensures.wakes)))

@@ -1,5 +1,6 @@
 use Rattle.std.proofs.Common.{◌≡◌, false, ◌+◌, ◌≤◌, get_or, take, drop, length, ◌++◌, [], ◌∷◌, refl, sym, subst, arith}
 use Rattle.std.proofs.lemmas.List.{take_more, drop_more, drop_all, take_all}
+use Rattle.mv_ecb.specs.declared.operation.EcbOp.TheVariants.{Arm}
 use Rattle.mv_calls.specs.Keeping.{kept_of}
 use Rattle.mv_calls.specs.Waits.{arm_all, AreDistinct}
 use Rattle.mv_calls.specs.Program.{Wrong}
@@ -9,7 +10,7 @@ use Rattle.mv_wait.proofs.Admits.{may_arm}
 use Rattle.mv_wait.proofs.Answering.{armed_reply}
 use Rattle.mv_wait.proofs.Parts.{still_of, own_one, one_of}
 use Rattle.mv_wait.proofs.Runs.{runs_none, runs_then, runs_within}
-use Rattle.mv_wait.proofs.Waits.{AreIdle, rest_is_none, idle_at_rest, idle_after, armed_more, arm_keeps, arm_step, distinct_rest}
+use Rattle.mv_wait.proofs.Waits.{AreIdle, rest_is_none, idle_at_rest, idle_after, armed_more, event_keeps, arm_step, distinct_rest}
 use Rattle.mv_wait.proofs.station.Station.arm_all.Goals as goal
 
 pub loop-ecb-init : goal.loop-ecb-init
@@ -60,7 +61,7 @@ loop-ecb-preserved g c =
       waits = subst (λ ns. IsArmedFor ns u.log) (sym (take_more es i 0 below))
           (subst (IsArmedFor (take i es ++ e ∷ [])) (sym h.logged)
           (armed_more (take i es) t.log t.number e c.event.ensures.event.0 c.event.result since.waits));
-      plain = arm_keeps t u e c.event.ensures.event.0 c.event.result es h since.plain;
+      plain = event_keeps t u e c.event.ensures.event.0 Arm c.event.result es h (λ q. refl) since.plain;
       idle = idle_after t u e c.event.ensures.event.0 c.event.result (drop (i + 1) es) h distinct.0 idle.1;
     }
 

@@ -22,32 +22,31 @@ take_back-requires c =
       next = omega arith;
     }
 
+-- behind the last task all have come back
+all_back : (c : goal.After-drop-self-inside) → c.loop-task.yielded ≡ c.args.tasks.items
+all_back c =
+    let i = c.loop-task.invariant in
+    let none : into_iter_items c.loop-task.task-iterator ≡ [] =
+    (let gone = c.in-None.ensures.steps in let count = i.count in nil_from_length _ (omega arith)) in
+    sym (append-nil c.loop-task.yielded) ∙ (ap (λ xs. c.loop-task.yielded ++ xs) (sym none) ∙ i.yielded)
+
 pub returns-clause-budgets : goal.returns-clause-budgets
 returns-clause-budgets c = subst (λ (b : BoardFace). KeepsBudgets b.config c.done.result.history.coming) c.loop-task.invariant.board
     c.done.ensures.budgets
 
 pub returns-clause-merged : goal.returns-clause-merged
 returns-clause-merged c =
-    let i = c.loop-task.invariant in
-    let none : into_iter_items c.loop-task.task-iterator ≡ [] =
-    (let gone = c.in-None.ensures.steps in let count = i.count in nil_from_length _ (omega arith)) in
-    let all : c.loop-task.yielded ≡ c.args.tasks.items = sym (append-nil c.loop-task.yielded)
-    ∙ (ap (λ xs. c.loop-task.yielded ++ xs) (sym none) ∙ i.yielded) in
     c.done.ensures.merged
-    ∙ (ap (λ ps. merged (map (λ p. p.log) ps)) i.back
-    ∙ (ap merged (logs_of_parts c.loop-task.yielded) ∙ ap (λ (xs : List CallerFace). merged (map (λ k. k.log) xs)) all))
+    ∙ (ap (λ ps. merged (map (λ p. p.log) ps)) c.loop-task.invariant.back
+    ∙ (ap merged (logs_of_parts c.loop-task.yielded) ∙ ap (λ (xs : List CallerFace). merged (map (λ k. k.log) xs)) (all_back c)))
 
 pub returns-clause-callers : goal.returns-clause-callers
 returns-clause-callers c =
     let i = c.loop-task.invariant in
-    let none : into_iter_items c.loop-task.task-iterator ≡ [] =
-    (let gone = c.in-None.ensures.steps in let count = i.count in nil_from_length _ (omega arith)) in
-    let all : c.loop-task.yielded ≡ c.args.tasks.items = sym (append-nil c.loop-task.yielded)
-    ∙ (ap (λ xs. c.loop-task.yielded ++ xs) (sym none) ∙ i.yielded) in
-    each_in c.args.self.config c.done.result.history.coming c.args.tasks.items
-    (subst (λ ps. AllByRecursion (IsPartIn c.args.self.config c.done.result.history.coming) ps) (i.back ∙ ap (map part_of) all)
-    (subst (λ (b : BoardFace). AllByRecursion (IsPartIn b.config c.done.result.history.coming) c.loop-task.closing.back) i.board
-    c.done.ensures.callers))
+    let history = c.done.result.history.coming in
+    each_in c.args.self.config history c.args.tasks.items
+    (subst (AllByRecursion (IsPartIn c.args.self.config history)) (i.back ∙ ap (map part_of) (all_back c))
+    (subst (λ (b : BoardFace). AllByRecursion (IsPartIn b.config history) c.loop-task.closing.back) i.board c.done.ensures.callers))
 
 pub returns-clause-volumes : goal.returns-clause-volumes
 returns-clause-volumes c =

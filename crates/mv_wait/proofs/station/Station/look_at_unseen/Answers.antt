@@ -11,7 +11,8 @@ use Rattle.mv_wait.proofs.Unseen.{own_still, seen_more}
 use Rattle.mv_wait.proofs.station.Station.look_at_unseen.Goals as goal
 
 pub peek-requires-clause-board : goal.peek-requires-clause-board
-peek-requires-clause-board g c = still_of c.args.self.now c.self.inside.board c.args.caller.now c.loop-open.caller c.loop-open.invariant.went.same
+peek-requires-clause-board g c = still_of c.args.self.now c.self.inside.board c.args.caller.now c.loop-open.caller
+    c.loop-open.invariant.went.same
     c.requires.task c.self.view_is
 
 pub peek-requires-clause-own : goal.peek-requires-clause-own

@@ -7,7 +7,9 @@ use Rattle.mv_board.specs.Faces.{CallerFace}
 use Rattle.mv_calls.specs.Rest.{IsAtRest}
 use Rattle.mv_wait.specs.Task.{blocks_in}
 use Rattle.mv_wait.proofs.Posts.{Underway, begun, going, ended, all_below}
+use Rattle.mv_wait.proofs.station.Station.post.Given as bound
 use Rattle.mv_wait.proofs.station.Station.post.Goals as goal
+use Rattle.mv_wait.proofs.station.Station.post.Goals.{In-Some}
 
 pub loop-next-init : goal.loop-next-init
 loop-next-init g c =
@@ -45,19 +47,20 @@ length_zero (x ∷ xs) e = absurd (omega arith)
 next_first : (pending rest : List ℕ) (n : ℕ) → pending ≡ rest ++ n ∷ [] → reverse pending ≡ n ∷ reverse rest
 next_first pending rest n is = ap reverse is ∙ reverse-append rest (n ∷ [])
 
-pub post_one-requires-clause-block : goal.post_one-requires-clause-block
-post_one-requires-clause-block g c =
+-- the next block is one of the configuration's, and so is each behind it
+are_blocks : (g : bound.Over) (c : In-Some g)
+    → AllByRecursion (λ e. e < length c.args.self.now.config.owners) (c.in-Some.next ∷ reverse c.pop.new.self.items)
+are_blocks g c =
     let w = c.loop-next.invariant.underway.2 in
     let config = c.args.self.now.config in
     let work = next_first c.loop-next.task-inside.pending.items c.pop.new.self.items c.in-Some.next c.in-Some.ensures.items in
-    (subst (AllByRecursion (λ e. e < length config.owners)) (w.flat_is ∙ work) (all_below config c.args.code w.frames w.deep)).0
+    subst (AllByRecursion (λ e. e < length config.owners)) (w.flat_is ∙ work) (all_below config c.args.code w.frames w.deep)
+
+pub post_one-requires-clause-block : goal.post_one-requires-clause-block
+post_one-requires-clause-block g c = (are_blocks g (goal.at.post_one-requires-clause-block g c).In-Some).0
 
 pub post_one-requires-clause-blocks : goal.post_one-requires-clause-blocks
-post_one-requires-clause-blocks g c =
-    let w = c.loop-next.invariant.underway.2 in
-    let config = c.args.self.now.config in
-    let work = next_first c.loop-next.task-inside.pending.items c.pop.new.self.items c.in-Some.next c.in-Some.ensures.items in
-    (subst (AllByRecursion (λ e. e < length config.owners)) (w.flat_is ∙ work) (all_below config c.args.code w.frames w.deep)).1
+post_one-requires-clause-blocks g c = (are_blocks g (goal.at.post_one-requires-clause-blocks g c).In-Some).1
 
 pub loop-next-preserved : goal.loop-next-preserved
 loop-next-preserved g c =
@@ -77,7 +80,8 @@ loop-next-preserved g c =
         u.0,
         u.1,
         subst (Underway config c.args.code c.args.ecb c.args.task.now u.0 c.post_one.new.caller) more
-            (going config c.args.code c.args.ecb c.args.task.now u.0 c.loop-next.task-inside.caller c.in-Some.next (reverse rest) c.post_one.new.caller
+            (going config c.args.code c.args.ecb c.args.task.now u.0 c.loop-next.task-inside.caller c.in-Some.next (reverse rest)
+            c.post_one.new.caller
             one.posted w one.event one.leads one.few),
       );
       told = one.event.1.shown.0 ∙ c.loop-next.invariant.told;

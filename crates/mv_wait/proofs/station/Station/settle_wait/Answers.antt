@@ -3,6 +3,7 @@ use Rattle.std.proofs.Common.{subst, arith, append_assoc, append-nil}
 use Rattle.std.proofs.Math.ListN.{length-set}
 use Rattle.std.specs.List.{AllByRecursion}
 use Rattle.std.proofs.lemmas.List.{drop_more, drop_all, take_all, take_more_set}
+use Rattle.mv_ecb.specs.declared.operation.EcbOp.TheVariants.{Settle}
 use Rattle.mv_machine.specs.declared.entry.Reply.TheVariants as reply_of
 use Rattle.mv_machine.proofs.Lists.{all_push}
 use Rattle.mv_calls.specs.Keeping.{kept_of}
@@ -14,7 +15,7 @@ use Rattle.mv_wait.specs.Run.{Runs}
 use Rattle.mv_wait.specs.Waiting.{IsArmedFor, settle_reply, HasLowCode}
 use Rattle.mv_wait.proofs.Parts.{still_of, own_one, one_of}
 use Rattle.mv_wait.proofs.Runs.{runs_none, runs_then, runs_within}
-use Rattle.mv_wait.proofs.Waits.{settled_less, settle_keeps, settle_step, slots_more, enough_still, distinct_rest, none_is_rest}
+use Rattle.mv_wait.proofs.Waits.{settled_less, event_keeps, settle_step, slots_more, enough_still, distinct_rest, none_is_rest}
 use Rattle.mv_wait.proofs.station.Station.settle_wait.Goals as goal
 
 pub loop-i-init : goal.loop-i-init
@@ -80,7 +81,7 @@ loop-i-preserved g c =
           (settle_step t u e s (drop (i + 1) es) (found ++ slots_of (take i out)) f c.settle.ensures.settled)));
       waits = subst (IsArmedFor (drop (i + 1) es)) (sym h.logged)
           (settled_less (drop (i + 1) es) t.log t.number e place (reply_of.Ecb (settle_reply s)) distinct.0 waits);
-      plain = settle_keeps t u e place (reply_of.Ecb (settle_reply s)) es h since.plain;
+      plain = event_keeps t u e place Settle (reply_of.Ecb (settle_reply s)) es h (λ q. refl) since.plain;
       enough = subst (λ xs. c.args.count ≤ complete_count xs + listed_count u.ready (drop (i + 1) es)) (sym more)
           (subst (λ ws. c.args.count ≤ complete_count (slots_of (take i out) ++ slot_of s ∷ []) + listed_count ws (drop (i + 1) es))
           (sym h.ready)
