@@ -35,7 +35,7 @@ use Rattle.mv_machine.proofs.Histories.{LegalFrom-front, LegalFrom-rest}
 use Rattle.mv_machine.proofs.LatchRuns.{numbers_rise}
 use Rattle.mv_machine.proofs.Lists.{all_at, all_push}
 use Rattle.mv_machine.proofs.Longer.{after_longer}
-use Rattle.mv_machine.proofs.Replies.{latch_reply_is}
+use Rattle.mv_machine.proofs.Replies.{latches_answer}
 use Rattle.mv_machine.proofs.Requests.{all_of_list, all_released, all_purged}
 
 -- ---- the granted requests of a list
@@ -129,7 +129,7 @@ none_moved : (c : Setup) (r : ℕ) (s : System) (k : ℕ) (o : Object) (p : ℕ)
 none_moved c r s k Latches p (op_on.Latch op) reply h none a =
     none_step r k s.latches.place op s.latches.state
     (subst (λ y. obtained_by r (op_on.Latch op) y ≡ false)
-    (latch_reply_is c s (entry_of k Latches p (op_on.Latch op) reply) op h refl refl) none) a
+    (latches_answer c s k p op reply h) none) a
 none_moved c r s k (Ecb n) p (op_on.Ecb op) reply h none a = a
 none_moved c r s k (Element n) p (op_on.Element op) reply h none a = a
 none_moved c r s k (Volume n) p (op_on.Volume op) reply h none a = a

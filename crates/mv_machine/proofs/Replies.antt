@@ -3,6 +3,7 @@ use Rattle.std.proofs.Common.{◌≡◌, ◌∷◌, ℕ, ◌++◌, Bool, true, f
 use Rattle.std.proofs.lemmas.Bool.{false≢true}
 use Rattle.mv_ecb.specs.declared.operation.EcbOp.{EcbOp}
 use Rattle.mv_ecb.specs.Table.{ecb_step}
+use Rattle.mv_ecb.specs.Word.{EcbState}
 use Rattle.mv_element.specs.declared.operation.ElementOp.{ElementOp}
 use Rattle.mv_element.specs.Table.{element_step}
 use Rattle.mv_latch.specs.declared.operation.LatchOp.{LatchOp}
@@ -69,6 +70,20 @@ pub latch_reply_is : (c : Setup) (s : System) (e : Entry) (op : LatchOp) → IsN
     → e.reply ≡ reply_of.Latch (latch_step e.caller s.latches.place op s.latches.state).1
 latch_reply_is c s e op h o x = let r : Some e.reply ≡ Some (reply_of.Latch (latch_step e.caller s.latches.place op s.latches.state).1) =
     h.reply ∙ rw (o, x) refl in cc
+
+-- and of entries by their parts: of a block in a state that is known
+pub ecb_answers : (c : Setup) (s : System) (k n p : ℕ) (op : EcbOp) (r : Reply) (x : EcbState) → (s.ecb n).state ≡ x
+    → IsNext c s (entry_of k (Ecb n) p (op_on.Ecb op) r) → r ≡ reply_of.Ecb (ecb_step op x).1
+ecb_answers c s k n p op r x e h =
+    subst (λ z. r ≡ reply_of.Ecb (ecb_step op z).1) e (ecb_reply_is c s (entry_of k (Ecb n) p (op_on.Ecb op) r) n op h refl refl)
+
+pub volume_answers : (c : Setup) (s : System) (k n p : ℕ) (op : VolumeOp) (r : Reply)
+    → IsNext c s (entry_of k (Volume n) p (op_on.Volume op) r) → r ≡ reply_of.Volume (volume_step op (s.volume n).state).1
+volume_answers c s k n p op r h = volume_reply_is c s (entry_of k (Volume n) p (op_on.Volume op) r) n op h refl refl
+
+pub latches_answer : (c : Setup) (s : System) (k p : ℕ) (op : LatchOp) (r : Reply)
+    → IsNext c s (entry_of k Latches p (op_on.Latch op) r) → r ≡ reply_of.Latch (latch_step k s.latches.place op s.latches.state).1
+latches_answer c s k p op r h = latch_reply_is c s (entry_of k Latches p (op_on.Latch op) r) op h refl refl
 
 -- an obtain's request has the place as its number
 obtained_number : (latch requestor : ℕ) (mode : Mode) (form : LatchForm) (r : Request) (qs : List Request)

@@ -1,9 +1,10 @@
 -- Each move keeps the hands, where no two initiators run one job.
 use Rattle.mv_plan.proofs.Words.{inl, inr, ◌≡◌, ℕ, ◌+◌, ◌<◌, ◌==◌, Bool, true, false, ◌||◌, if◌then◌else◌, List, [], ◌∷◌, length, replicate}
 use Rattle.mv_plan.proofs.Words.{Option, Some, None, refl, sym, ap, ◌∙◌, subst, arith, list_any, LatchOp, LatchReply, Request, list_of}
-use Rattle.mv_plan.proofs.Words.{latch_step, Entry, Object, Element, Volume, Latches, Op, Reply, IsNext, next, Setup, System, moved}
+use Rattle.mv_plan.proofs.Words.{Entry, Object, Element, Volume, Latches, Op, Reply, IsNext, next, Setup, System, moved}
 use Rattle.mv_plan.proofs.Words.{JobData, initiator, ElementReply, LatchForm, VolumeReply, common_steps}
 use Rattle.mv_machine.proofs.EntryRuns.{entry_of}
+use Rattle.mv_machine.proofs.Replies.{latches_answer}
 use Rattle.mv_machine.proofs.StandingRuns.{names_of}
 use Rattle.mv_plan.proofs.deck.{is_held}
 use Rattle.mv_plan.proofs.latches.Hands.{Grip, Works, grip, OwnsBy, IsKnown, Hands, SparesJob, other_owns, obtain_owns, obtain_holds}
@@ -16,15 +17,13 @@ use Rattle.mv_plan.proofs.lists.{all_but}
 
 -- ---- replies of the latch set
 
-pub latch_reply_is : (c : Setup) (s : System) (k p : ℕ) (op : LatchOp) (y : LatchReply)
-    → IsNext c s (entry_of k Latches p (Op.Latch op) (Reply.Latch y)) → y ≡ (latch_step k s.latches.place op s.latches.state).1
-latch_reply_is c s k p op y h = cc h.reply
-
-granted_reply : (b : Bool) (place id : ℕ) → LatchReply.Granted id ≡ (if b then LatchReply.Granted place else LatchReply.Queued place)
+granted_reply : (b : Bool) (place id : ℕ)
+    → Reply.Latch (LatchReply.Granted id) ≡ Reply.Latch (if b then LatchReply.Granted place else LatchReply.Queued place)
     → (b ≡ true) × (place ≡ id)
 granted_reply x place id e = grind (arith, common_steps)
 
-queued_reply : (b : Bool) (place id : ℕ) → LatchReply.Queued id ≡ (if b then LatchReply.Granted place else LatchReply.Queued place)
+queued_reply : (b : Bool) (place id : ℕ)
+    → Reply.Latch (LatchReply.Queued id) ≡ Reply.Latch (if b then LatchReply.Granted place else LatchReply.Queued place)
     → place ≡ id
 queued_reply x place id e = grind (arith, common_steps)
 
@@ -61,7 +60,8 @@ module _ (c : Setup) (s : System) (deck : List JobData) (i : ℕ) where
   own_next (InJob run (Obtaining hand latch mode steps)) p (Reply.Latch (LatchReply.Granted id)) h a w =
       let op = LatchOp.Obtain latch (run.job + 1) mode LatchForm.Waiting in
       let e = granted_reply _ place id
-      (latch_reply_is c s k p op (LatchReply.Granted id) h ∙ obtained_reply k place latch (run.job + 1) mode lists) in
+      (latches_answer c s k p op (Reply.Latch (LatchReply.Granted id)) h
+      ∙ ap (λ y. Reply.Latch y) (obtained_reply k place latch (run.job + 1) mode lists)) in
       subst (λ n. OwnsNext (InJob run (Obtaining hand latch mode steps)) (Reply.Latch (LatchReply.Granted n))) e.1
       (steps_own (after_asks (InJob run (Obtaining hand latch mode steps))) k run _ steps
       (obtain_holds k place run.job latch mode lists hand.holding (names_of c s k op h.admits) e.0 w))
@@ -69,13 +69,14 @@ module _ (c : Setup) (s : System) (deck : List JobData) (i : ℕ) where
       let op = LatchOp.Obtain latch (run.job + 1) mode LatchForm.Waiting in
       subst (λ n. OwnsNext (InJob run (Obtaining hand latch mode steps)) (Reply.Latch (LatchReply.Queued n)))
       (queued_reply _ place id
-      (latch_reply_is c s k p op (LatchReply.Queued id) h ∙ obtained_reply k place latch (run.job + 1) mode lists))
+      (latches_answer c s k p op (Reply.Latch (LatchReply.Queued id)) h
+      ∙ ap (λ y. Reply.Latch y) (obtained_reply k place latch (run.job + 1) mode lists)))
       (obtain_owns k place run.job latch mode lists hand.holding (names_of c s k op h.admits) w)
   own_next (InJob run (Confirming hand latch mode id steps)) p (Reply.Latch (LatchReply.Granted same)) h a w =
+      let said = latches_answer c s k p (LatchOp.Confirm latch id) (Reply.Latch (LatchReply.Granted same)) h in
       steps_own lists k run _ steps
       (confirm_owns lists k run.job hand.holding (record { latch = latch; mode = mode; id = id }) a.sound.1
-      (confirm_granted k id same (list_of lists latch)
-      (sym (latch_reply_is c s k p (LatchOp.Confirm latch id) (LatchReply.Granted same) h))) w)
+      (confirm_granted k id same (list_of lists latch) (cc said)) w)
   own_next (InJob run (Freeing hand latch id steps)) p (Reply.Latch (LatchReply.Released count)) h a w =
       steps_own (after_asks (InJob run (Freeing hand latch id steps))) k run _ steps
       (free_owns k place run.job latch id lists hand.holding hand.requests

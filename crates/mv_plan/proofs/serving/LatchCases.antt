@@ -1,13 +1,13 @@
 -- No reply leads an initiator astray at a latch or a volume, where the hands are right and the sum is small.
 use Rattle.mv_plan.proofs.Words.{◌≡◌, ℕ, ◌+◌, ◌<◌, ◌^◌, nat_lt, Bool, true, false, if◌then◌else◌, List, ◌∷◌, Some, refl, sym, ap, ◌∙◌}
-use Rattle.mv_plan.proofs.Words.{subst, list_any, lt-ltb, false≢true, LatchOp, grants, granted, list_of, latch_step, is_own, Volume}
-use Rattle.mv_plan.proofs.Words.{Latches, Reply, Request, IsNext, Setup, System, JobData, Step, Print, initiator, Free, LatchReply}
-use Rattle.mv_plan.proofs.Words.{LatchForm, Op, VolumeOp, rules}
-use Rattle.mv_machine.specs.System.{volume_step}
+use Rattle.mv_plan.proofs.Words.{subst, list_any, lt-ltb, false≢true, LatchOp, grants, granted, list_of, is_own}
+use Rattle.mv_plan.proofs.Words.{Reply, Request, Setup, System, JobData, Step, Print, initiator, Free, LatchReply}
+use Rattle.mv_plan.proofs.Words.{LatchForm, VolumeOp, rules}
 use Rattle.mv_machine.specs.declared.entry.VolumeOp.{VolumeOp}
-use Rattle.mv_machine.proofs.EntryRuns.{entry_of}
+use Rattle.mv_machine.proofs.Replies.{latches_answer, volume_answers}
 use Rattle.mv_plan.proofs.deck.{ArePlannedSteps}
-use Rattle.mv_plan.proofs.latches.{has_latch, grip, OwnsBy, confirm_stands, free_stands, new_request, obtained_reply, released_reply}
+use Rattle.mv_plan.proofs.latches.{has_latch, grip, OwnsBy, confirm_stands, free_stands, new_request, obtained_reply}
+use Rattle.mv_plan.proofs.latches.{released_reply}
 use Rattle.mv_plan.proofs.points.{held_of, IsHand, IsInitiatorAt, held_request, obtained_stand, freed_stand, Point, At, Astray, Running}
 use Rattle.mv_plan.proofs.points.{Hand, hand_with, hand_without, InitiatorAt, Obtaining, Confirming, Freeing, Reading, Writing, Scanning}
 use Rattle.mv_plan.proofs.points.{Rescanning, initiator_goes, freeing_at, steps_at, InJob, IsOfRounds}
@@ -40,14 +40,6 @@ module _ (c : Setup) (s : System) (deck : List JobData) (i : ℕ) where
   abbrev WellAfter : InitiatorAt → Reply → Type 0
   WellAfter x r = IsWell (initiator_goes deck x r)
 
-  latch_says : (p : ℕ) (op : LatchOp) (r : Reply) → IsNext c s (entry_of (initiator i) Latches p (Op.Latch op) r)
-      → r ≡ Reply.Latch (latch_step (initiator i) s.latches.place op s.latches.state).1
-  latch_says p op r h = cc h.reply
-
-  volume_says : (v p : ℕ) (op : VolumeOp) (r : Reply) → IsNext c s (entry_of (initiator i) (Volume v) p (Op.Volume op) r)
-      → r ≡ Reply.Volume (volume_step op (s.volume v).state).1
-  volume_says v p op r h = cc h.reply
-
   -- No reply is unforeseen: an Obtain is granted or queued, a Confirm does not find its request gone, a Release lets it go; and
   -- where a COUNT's sum has 32 bits, it is written.
   pub serves : (x : InitiatorAt) (p : ℕ) (r : Reply) → (IsOfRounds x → ⊥) → NextAt c s deck i x p r → IsInitiatorAt deck (At x)
@@ -56,7 +48,7 @@ module _ (c : Setup) (s : System) (deck : List JobData) (i : ℕ) where
       → (s.volume volume).state + amount < 2 ^ 32) → WellAfter x r
   serves (InJob run (Obtaining hand latch mode steps)) p r on h a w small =
       subst (WellAfter (InJob run (Obtaining hand latch mode steps)))
-      (sym (latch_says p (LatchOp.Obtain latch (run.job + 1) mode LatchForm.Waiting) r h
+      (sym (latches_answer c s k p (LatchOp.Obtain latch (run.job + 1) mode LatchForm.Waiting) r h
       ∙ ap (λ y. Reply.Latch y) (obtained_reply k place latch (run.job + 1) mode lists)))
       (go (grants (list_of lists latch) (new_request k place (run.job + 1) mode))) where
         go : (b : Bool) → WellAfter (InJob run (Obtaining hand latch mode steps))
@@ -66,7 +58,7 @@ module _ (c : Setup) (s : System) (deck : List JobData) (i : ℕ) where
         go false e = absurd (cc e)
   serves (InJob run (Confirming hand latch mode id steps)) p r on h a w small =
       subst (WellAfter (InJob run (Confirming hand latch mode id steps)))
-      (sym (latch_says p (LatchOp.Confirm latch id) r h))
+      (sym (latches_answer c s k p (LatchOp.Confirm latch id) r h))
       (go (list_any (is_own k id) (granted (list_of lists latch)))
       (list_any (is_own k id) (list_of lists latch))
       (confirm_stands lists k run.job hand.holding (record { latch = latch; mode = mode; id = id }) w)) where
@@ -82,17 +74,17 @@ module _ (c : Setup) (s : System) (deck : List JobData) (i : ℕ) where
       let stand = freed_stand deck run hand latch steps a.0 in
       steps_well run (hand_without hand latch) steps stand.holds stand.sound
       (subst (λ y. initiator_goes deck (InJob run (Freeing hand latch id steps)) y ≡ Astray)
-      (latch_says p (LatchOp.Release latch id false) r h ∙ ap (λ y. Reply.Latch y) it.1) e)
+      (latches_answer c s k p (LatchOp.Release latch id false) r h ∙ ap (λ y. Reply.Latch y) it.1) e)
   serves (InJob run (Reading hand volume amount steps)) p r on h a w small =
       subst (WellAfter (InJob run (Reading hand volume amount steps)))
-      (sym (volume_says volume p VolumeOp.Read r h))
+      (sym (volume_answers c s k volume p VolumeOp.Read r h))
       (go (nat_lt ((s.volume volume).state + amount) (2 ^ 32))
       (lt-ltb ((s.volume volume).state + amount) (2 ^ 32) (small run hand volume amount steps refl))) where
         go : (b : Bool) → b ≡ true → IsWell (if b then At (InJob run (Writing hand volume amount (s.volume volume).state steps)) else
             Astray)
         go true t e = absurd (cc e)
         go false t e = absurd (false≢true t)
-  serves (InJob run (Writing hand volume amount number steps)) p r on h a w small = search (rules, volume_says, steps_well)
-  serves (InJob run (Scanning hand volume steps)) p r on h a w small = search (rules, volume_says)
-  serves (InJob run (Rescanning hand volume number steps)) p r on h a w small = search (rules, volume_says, steps_well)
+  serves (InJob run (Writing hand volume amount number steps)) p r on h a w small = search (rules, volume_answers, steps_well)
+  serves (InJob run (Scanning hand volume steps)) p r on h a w small = search (rules, volume_answers)
+  serves (InJob run (Rescanning hand volume number steps)) p r on h a w small = search (rules, volume_answers, steps_well)
   serves x p r on h a w small = absurd (on tt)
