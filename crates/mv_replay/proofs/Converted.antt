@@ -1,5 +1,5 @@
 -- What a legal text is in its version, and what it is converted to.
-use Rattle.std.proofs.Common.{◌≡◌, ℕ, ◌≤◌, List, length, refl, ap, ◌∙◌}
+use Rattle.std.proofs.Common.{◌≡◌, ℕ, ◌≤◌, List, length, Option, Some, None, refl, ap, ◌∙◌}
 use Rattle.mv_machine.specs.declared.entry.Entry.{Entry}
 use Rattle.mv_machine.specs.Legal.{Legal}
 use Rattle.mv_machine.specs.Setup.{Setup}
@@ -11,6 +11,8 @@ use Rattle.mv_entrytext.specs.Journal.{text_of, journal_text}
 use Rattle.mv_entrytext.specs.Lines.{Draft}
 use Rattle.mv_entrytext.proofs.CallNumbers.{calls_are_numbers}
 use Rattle.mv_entrytext.proofs.LinesAgain.{reads_back}
+use Rattle.mv_replay.specs.declared.command.JournalCommand.TheVariants.{Convert}
+use Rattle.mv_replay.specs.Course.{is_copied, made_of, IsMade}
 use Rattle.mv_replay.specs.Judgement.{calls_in, IsLegalJournal}
 use Rattle.mv_replay.specs.Outcome.{converted}
 
@@ -36,3 +38,11 @@ pub is_converted : (v : Version) (bytes : List ℕ) (c : Setup) (es : List Entry
 is_converted v bytes c es h text =
     let back = reads_back v c es (calls_in v c es) h (right_calls v c es h.count) in
     ap converted text ∙ told_text (journal_of (text_of v c es (calls_in v c es))) c es back.1 back.2
+
+-- and what was made of it for a conversion is that text
+pub made_so : (v : Version) (bytes : List ℕ) (c : Setup) (es : List Entry) (made : Option (List ℕ)) → bytes ≡ text_of v c es (calls_in v c es)
+    → IsMade (is_copied Convert v) c es made → made_of bytes made ≡ journal_text c es
+made_so One bytes c es (Some text) is m = m
+made_so One bytes c es None is m = absurd m
+made_so Two bytes c es (Some text) is m = absurd m
+made_so Two bytes c es None is m = is

@@ -1,7 +1,7 @@
 -- One entry further in the judgement of a text, and its end.
 use Rattle.std.proofs.Common.{◌≡◌, ℕ, ◌+◌, Bool, true, false, List, [], ◌∷◌, ◌++◌, length, Option, Some, None}
 use Rattle.std.proofs.Common.{Result, Ok, Err, subst, refl, sym, ap, ◌∙◌}
-use Rattle.std.specs.Prelude.{OnOk, IfOk, IfErr, MatchResult, option_map}
+use Rattle.std.specs.Prelude.{OnOk, option_map}
 use Rattle.std.specs.List.{flat_map}
 use Rattle.std.proofs.lemmas.Option.{same_Some}
 use Rattle.mv_machine.specs.declared.entry.Entry.{Entry}
@@ -14,18 +14,14 @@ use Rattle.mv_entrytext.specs.declared.version.Version.{Version}
 use Rattle.mv_entrytext.specs.declared.version.Version.TheVariants.{One, Two}
 use Rattle.mv_entrytext.specs.declared.writing.JournalWriter.{JournalWriter}
 use Rattle.mv_entrytext.specs.Fault.{AreCallsIn, HasJournal, IsTextIn}
-use Rattle.mv_entrytext.specs.Journal.{Line, EntryOf, End, line, first_line, entry_lines, head_text, journal_text, number_of, text_of}
+use Rattle.mv_entrytext.specs.Journal.{Line, EntryOf, End, line, first_line, entry_lines, head_text, number_of, text_of}
 use Rattle.mv_entrytext.specs.Lines.{with_call}
 use Rattle.mv_entrytext.specs.Writer.{IsWrittenTo}
 use Rattle.mv_entrytext.proofs.OnePass.{call_line_more}
-use Rattle.mv_replay.specs.Course.{is_copied, made_of, IsCopied, IsRightTo, IsWrongAt, IsCourse, IsMade, IsWhole}
+use Rattle.mv_replay.specs.Course.{is_copied, IsCopied, IsRightTo, IsWrongAt, IsCourse, IsMade, IsJudged}
 use Rattle.mv_replay.specs.declared.command.JournalCommand.{JournalCommand}
-use Rattle.mv_replay.specs.declared.command.JournalCommand.TheVariants.{Convert}
 use Rattle.mv_replay.specs.declared.judging.Judged.{Judged}
-use Rattle.mv_replay.specs.declared.status.ReplayStatus.{ReplayStatus}
-use Rattle.mv_replay.specs.Judgement.{calls_in, IsFirstWrong, IsLegalJournal, IsIllegalAt, IsRefused}
-use Rattle.mv_replay.specs.Outcome.{converted}
-use Rattle.mv_replay.proofs.Converted.{is_converted}
+use Rattle.mv_replay.specs.Judgement.{IsFirstWrong, IsIllegalAt}
 use Rattle.mv_replay.proofs.Wrong.{still_wrong, wrong_now, right_now, not_right}
 
 -- ---- what is copied
@@ -173,70 +169,22 @@ ends_wrong v bytes c es ns line h t w =
     }
 
 -- without one
-pub ends_right : (v : Version) (copied : Bool) (bytes : List ℕ) (c : Setup) (es : List Entry) (ns : List ℕ) (count : ℕ) (j : Judge)
-    (copy : Option JournalWriter) (made : Option (List ℕ)) → IsRightTo v copied c es ns j copy → HasJournal c es
-    → IsTextIn (number_of v) bytes c es ns → count ≡ length es → IsMade copied c es made → IsWhole v copied bytes c es count made
-ends_right v copied bytes c es ns count j copy made h journal t number is =
+pub ends_right : (command : JournalCommand) (v : Version) (bytes : List ℕ) (c : Setup) (es : List Entry) (ns : List ℕ) (judged : Judged)
+    (j : Judge) (copy : Option JournalWriter) → IsRightTo v (is_copied command v) c es ns j copy → HasJournal c es
+    → IsTextIn (number_of v) bytes c es ns → judged.count ≡ length es
+    → IsMade (is_copied command v) c es (option_map (λ t. t.items) judged.second) → IsJudged command bytes judged
+ends_right command v bytes c es ns judged j copy h journal t number is =
     let same = same_version v t.version t.number in
     record {
-      journal = journal;
-      text = subst (λ (x : Version). bytes ≡ text_of x c es ns) (sym same) t.text
-          ∙ ap (λ (ms : List ℕ). text_of v c es ms) h.right.numbers;
-      legal = h.right.legal;
-      number = number;
+      legal = record {
+        version = v;
+        setup = c;
+        entries = es;
+        journal = journal;
+        text = subst (λ (x : Version). bytes ≡ text_of x c es ns) (sym same) t.text
+            ∙ ap (λ (ms : List ℕ). text_of v c es ms) h.right.numbers;
+        legal = h.right.legal;
+        number = number;
+      };
       made = is;
     }
-
--- so the text is a legal journal
-pub whole_is_legal : (v : Version) (copied : Bool) (bytes : List ℕ) (c : Setup) (es : List Entry) (count : ℕ) (made : Option (List ℕ))
-    → IsWhole v copied bytes c es count made → IsLegalJournal bytes count
-whole_is_legal v copied bytes c es count made w = record {
-  version = v;
-  setup = c;
-  entries = es;
-  journal = w.journal;
-  text = w.text;
-  legal = w.legal;
-  number = w.number;
-}
-
-made_so : (v : Version) (bytes : List ℕ) (c : Setup) (es : List Entry) (made : Option (List ℕ)) → bytes ≡ text_of v c es (calls_in v c es)
-    → IsMade (is_copied Convert v) c es made → made_of bytes made ≡ journal_text c es
-made_so One bytes c es (Some text) is m = m
-made_so One bytes c es None is m = absurd m
-made_so Two bytes c es (Some text) is m = absurd m
-made_so Two bytes c es None is m = is
-
--- and its conversion is what was made of it
-pub whole_is_converted : (v : Version) (command : JournalCommand) (bytes : List ℕ) (c : Setup) (es : List Entry) (count : ℕ)
-    (made : Option (List ℕ)) → IsWhole v (is_copied command v) bytes c es count made → command ≡ Convert
-    → made_of bytes made ≡ converted bytes
-whole_is_converted v command bytes c es count made w asked =
-    made_so v bytes c es made w.text (subst (λ (k : JournalCommand). IsMade (is_copied k v) c es made) asked w.made)
-    ∙ sym (is_converted v bytes c es w.journal w.text)
-
--- ---- as the judgement ends
-
--- on a legal journal
-pub ended_legal : (v : Version) (copied : Bool) (bytes : List ℕ) (c : Setup) (es : List Entry) (r : Result Judged ReplayStatus)
-    → MatchResult r (λ j. IsWhole v copied bytes c es j.count (option_map (λ t. t.items) j.second)) (λ s. IsRefused bytes s)
-    → IfOk r (λ j. IsLegalJournal bytes j.count)
-ended_legal v copied bytes c es (Ok j) m = whole_is_legal v copied bytes c es j.count (option_map (λ t. t.items) j.second) m
-ended_legal v copied bytes c es (Err s) m = tt
-
--- with its conversion
-pub ended_converted : (v : Version) (command : JournalCommand) (bytes : List ℕ) (c : Setup) (es : List Entry)
-    (r : Result Judged ReplayStatus) → command ≡ Convert
-    → MatchResult r (λ j. IsWhole v (is_copied command v) bytes c es j.count (option_map (λ t. t.items) j.second))
-    (λ s. IsRefused bytes s)
-    → IfOk r (λ j. made_of bytes (option_map (λ t. t.items) j.second) ≡ converted bytes)
-ended_converted v command bytes c es (Ok j) asked m =
-    whole_is_converted v command bytes c es j.count (option_map (λ t. t.items) j.second) m asked
-ended_converted v command bytes c es (Err s) asked m = tt
-
--- or on any other text
-pub ended_refused : (v : Version) (copied : Bool) (bytes : List ℕ) (c : Setup) (es : List Entry) (r : Result Judged ReplayStatus)
-    → MatchResult r (λ j. IsWhole v copied bytes c es j.count (option_map (λ t. t.items) j.second)) (λ s. IsRefused bytes s)
-    → IfErr r (λ s. IsRefused bytes s)
-ended_refused v copied bytes c es (Ok j) m = tt
-ended_refused v copied bytes c es (Err s) m = m

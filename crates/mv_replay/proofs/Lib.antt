@@ -1,7 +1,7 @@
 -- the first entry that is wrong, and how far a text has been judged
 pub mod Wrong
 pub mod Courses
--- judge, legal_lists_are_done
+-- judge_journal, legal_lists_are_done
 pub mod Converted
 -- how long a text is: clause within of legal_lists_are_done
 pub mod EventLengths

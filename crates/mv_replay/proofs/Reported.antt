@@ -1,6 +1,6 @@
 -- What a command has written is its report on the input, as far as it came.
-use Rattle.std.proofs.Common.{◌≡◌, ℕ, ◌≤◌, List, [], length, Option, Some, None, refl, subst}
-use Rattle.std.specs.Prelude.{IfSome}
+use Rattle.std.proofs.Common.{◌≡◌, ℕ, ◌≤◌, List, [], length, Option, Some, None, refl, sym, ◌∙◌, subst}
+use Rattle.std.specs.Prelude.{IfSome, option_map}
 use Rattle.mv_ending.specs.Written.{Nothing, PartOfReport}
 use Rattle.mv_replay.specs.declared.command.JournalCommand.{JournalCommand}
 use Rattle.mv_replay.specs.declared.command.JournalCommand.TheVariants.{Replay, Convert}
@@ -8,14 +8,22 @@ use Rattle.mv_replay.specs.declared.reading.LegalText.{LegalText}
 use Rattle.mv_replay.specs.declared.status.ReplayStatus.{ReplayStatus}
 use Rattle.mv_replay.specs.declared.status.ReplayStatus.TheVariants.{Done, ReadFailed, ReportFailed}
 use Rattle.mv_replay.specs.Judgement.{journal_limit, IsLegalJournal}
-use Rattle.mv_replay.specs.Course.{conversion_of, report_text}
-use Rattle.mv_replay.specs.Outcome.{converted, InputOf, ReportAfter, Writes, extent_of, reports_of}
+use Rattle.mv_replay.specs.Course.{report_text, IsJudged}
+use Rattle.mv_replay.specs.Outcome.{InputOf, ReportAfter, Writes, extent_of, reports_of}
+use Rattle.mv_replay.proofs.Converted.{is_converted, made_so}
 
 -- what a command writes of a legal text is its report on it
-pub is_report : (command : JournalCommand) (l : LegalText) → IsLegalJournal l.text.items l.judged.count
-    → (command ≡ Convert → conversion_of l ≡ converted l.text.items) → reports_of command l.text.items (report_text command l)
-is_report Replay l legal same = record { count = l.judged.count; legal = legal; reported = refl }
-is_report Convert l legal same = record { count = l.judged.count; legal = legal; reported = same refl }
+pub is_report : (command : JournalCommand) (l : LegalText) → IsJudged command l.text.items l.judged
+    → reports_of command l.text.items (report_text command l)
+is_report Replay l judged = record { count = l.judged.count; legal = judged.legal; reported = refl }
+is_report Convert l judged =
+    let x = judged.legal in
+    record {
+      count = l.judged.count;
+      legal = x;
+      reported = made_so x.version l.text.items x.setup x.entries (option_map (λ t. t.items) l.judged.second) x.text judged.made
+          ∙ sym (is_converted x.version l.text.items x.setup x.entries x.journal x.text);
+    }
 
 -- what was written of the report on a text, which is the input where that is told
 pub reported : (Reports : List ℕ → List ℕ → Type 0) (s : ReplayStatus) (input old new : Option (List ℕ)) (text report : List ℕ)

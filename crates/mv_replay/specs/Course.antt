@@ -1,7 +1,6 @@
 -- How far a text has been judged, what is made of it on the way, and what is written of it then.
-use Rattle.std.specs.Prelude.{◌≡◌, ℕ, ◌+◌, Bool, true, false, List, length, Option, Some, None, option_map}
+use Rattle.std.specs.Prelude.{◌≡◌, ℕ, ◌+◌, Bool, true, false, List, Option, Some, None, option_map}
 use Rattle.mv_machine.specs.declared.entry.Entry.{Entry}
-use Rattle.mv_machine.specs.Legal.{Legal}
 use Rattle.mv_machine.specs.Setup.{Setup}
 use Rattle.mv_calls.specs.declared.judge.Judge.{Judge}
 use Rattle.mv_calls.specs.Judge.{HasJudged}
@@ -9,13 +8,13 @@ use Rattle.mv_calls.specs.Numbers.{calls}
 use Rattle.mv_entrytext.specs.declared.version.Version.{Version}
 use Rattle.mv_entrytext.specs.declared.version.Version.TheVariants.{One, Two}
 use Rattle.mv_entrytext.specs.declared.writing.JournalWriter.{JournalWriter}
-use Rattle.mv_entrytext.specs.Fault.{HasJournal}
-use Rattle.mv_entrytext.specs.Journal.{first_line, entry_lines, journal_text, text_of}
+use Rattle.mv_entrytext.specs.Journal.{first_line, entry_lines, journal_text}
 use Rattle.mv_entrytext.specs.Writer.{IsWrittenTo}
 use Rattle.mv_replay.specs.declared.command.JournalCommand.{JournalCommand}
 use Rattle.mv_replay.specs.declared.command.JournalCommand.TheVariants.{Replay, Convert}
+use Rattle.mv_replay.specs.declared.judging.Judged.{Judged}
 use Rattle.mv_replay.specs.declared.reading.LegalText.{LegalText}
-use Rattle.mv_replay.specs.Judgement.{calls_in, AreRight, IsFirstWrong}
+use Rattle.mv_replay.specs.Judgement.{AreRight, IsFirstWrong, IsLegalJournal}
 use Rattle.mv_replay.specs.Outcome.{legal_text}
 
 -- whether a text is copied in version 2, as a conversion asks: one that is in version 2 is its own conversion
@@ -63,14 +62,10 @@ IsMade true c es (Some text) = text ≡ journal_text c es
 IsMade false c es None = Unit {0}
 IsMade _ c es copy = ⊥
 
--- the text is a legal journal of so many entries, and this was made of it
-pub record IsWhole (v : Version) (copied : Bool) (bytes : List ℕ) (c : Setup) (es : List Entry) (count : ℕ) (copy : Option (List ℕ))
-    : Type 0 where
-  pub journal : HasJournal c es
-  pub text : bytes ≡ text_of v c es (calls_in v c es)
-  pub legal : Legal c es
-  pub number : count ≡ length es
-  pub made : IsMade copied c es copy
+-- the text is a legal journal, and this was kept of it, with what the command has made of it
+pub record IsJudged (command : JournalCommand) (bytes : List ℕ) (j : Judged) : Type 0 where
+  pub legal : IsLegalJournal bytes j.count
+  pub made : IsMade (is_copied command legal.version) legal.setup legal.entries (option_map (λ t. t.items) j.second)
 
 -- ---- what is written of it
 

@@ -1,7 +1,7 @@
 //! The judgement of a text, line by line. Its clauses cite specs/Judgement and specs/Course.
 
 ghost use Rattle.std.specs.Prelude.{◌≡◌, ◌≤◌, ◌<◌, ◌+◌, ◌-◌, ◌^◌, ◌∷◌, ◌++◌, [], ℕ, Bool, List, Some, length};
-ghost use Rattle.std.specs.Prelude.{IfOk, IfErr, OnOk, IsTrue, ◌↔◌, MatchResult, option_map};
+ghost use Rattle.std.specs.Prelude.{IfOk, OnOk, IsTrue, ◌↔◌, MatchResult};
 ghost use Rattle.mv_machine.specs.declared.entry.Entry.{Entry as AnyEntry};
 ghost use Rattle.mv_machine.specs.Limits.{highest_place};
 ghost use Rattle.mv_machine.specs.Setup.{Setup};
@@ -10,9 +10,9 @@ ghost use Rattle.mv_entrytext.specs.declared.version.Version.{Version as AnyVers
 ghost use Rattle.mv_entrytext.specs.Fault.{AreCallsIn, HasJournal, IsTextIn};
 ghost use Rattle.mv_entrytext.specs.Journal.{first_line, number_of};
 ghost use Rattle.mv_entrytext.specs.Lines.{with_call};
-ghost use Rattle.mv_replay.specs.Course.{is_copied, made_of, IsCopied, IsCourse, IsWhole};
-ghost use Rattle.mv_replay.specs.Judgement.{journal_limit, IsLegalJournal, IsRefused};
-ghost use Rattle.mv_replay.specs.Outcome.{converted};
+ghost use Rattle.mv_replay.specs.declared.command.JournalCommand.{JournalCommand as AnyCommand};
+ghost use Rattle.mv_replay.specs.Course.{is_copied, IsCopied, IsCourse, IsJudged};
+ghost use Rattle.mv_replay.specs.Judgement.{journal_limit, IsRefused};
 
 use crate::command::JournalCommand;
 use crate::status::ReplayStatus;
@@ -127,11 +127,10 @@ impl Course {
 
     // All entries of the text were taken, so many.
     fn end(self, count: u32) -> Result<Judged, ReplayStatus>
-        ensures { (v : AnyVersion) (copied : Bool) (bytes : List ℕ) (c : Setup) (es : List AnyEntry) (ns : List ℕ)
-            → IsCourse v copied c es ns self.wrong self.judge self.copy → HasJournal c es → IsTextIn (number_of v) bytes c es ns
-            → count ≡ length es → MatchResult result
-            (λ j. IsWhole v copied bytes c es j.count (option_map (λ t. t.items) j.second))
-            (λ s. IsRefused bytes s) }
+        ensures { (command : AnyCommand) (v : AnyVersion) (bytes : List ℕ) (c : Setup) (es : List AnyEntry) (ns : List ℕ)
+            → IsCourse v (is_copied command v) c es ns self.wrong self.judge self.copy → HasJournal c es
+            → IsTextIn (number_of v) bytes c es ns → count ≡ length es
+            → MatchResult result (λ j. IsJudged command bytes j) (λ s. IsRefused bytes s) }
     {
         let Course { wrong, copy, .. } = self;
         if let Some(line) = wrong {
@@ -161,10 +160,7 @@ pub(crate) fn judge(
     bytes: &[u8],
 ) -> Result<Judged, ReplayStatus>
     requires { length bytes.now ≤ journal_limit }
-    ensures legal { IfOk result (λ j. IsLegalJournal bytes.now j.count) }
-    ensures converted { command ≡ JournalCommand.Convert
-        → IfOk result (λ j. made_of bytes.now (option_map (λ t. t.items) j.second) ≡ converted bytes.now) }
-    ensures refused { IfErr result (λ status. IsRefused bytes.now status) }
+    ensures { MatchResult result (λ j. IsJudged command bytes.now j) (λ status. IsRefused bytes.now status) }
 {
     let OpenJournal {
         version,

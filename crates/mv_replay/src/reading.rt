@@ -1,12 +1,10 @@
-//! What a command begins with: the input is read whole, and then judged. Its clauses cite specs/Judgement,
-//! specs/Course and specs/Outcome.
+//! What a command begins with: the input is read whole, and then judged. Its clauses cite specs/Course and specs/Outcome.
 
 ghost use Rattle.std.specs.Prelude.{◌≡◌, ◌≤◌, Err, IfOk, IfErr, IfSome};
 ghost use Rattle.mv_io.specs.Fault.{Rose};
 ghost use Rattle.mv_ending.specs.Written.{Nothing};
-ghost use Rattle.mv_replay.specs.Course.{conversion_of};
-ghost use Rattle.mv_replay.specs.Judgement.{IsLegalJournal};
-ghost use Rattle.mv_replay.specs.Outcome.{converted, InputOf, extent_of};
+ghost use Rattle.mv_replay.specs.Course.{conversion_of, IsJudged};
+ghost use Rattle.mv_replay.specs.Outcome.{InputOf, extent_of};
 
 use crate::command::JournalCommand;
 use crate::judging::{Judged, judge};
@@ -44,8 +42,7 @@ pub(crate) fn read_legal<D: Source>(
     command: JournalCommand,
     input: &mut D,
 ) -> Result<LegalText, ReplayStatus>
-    ensures legal { IfOk result (λ l. IsLegalJournal l.text.items l.judged.count) }
-    ensures converted { command ≡ JournalCommand.Convert → IfOk result (λ l. conversion_of l ≡ converted l.text.items) }
+    ensures judged { IfOk result (λ l. IsJudged command l.text.items l.judged) }
     ensures text { IfOk result (λ l. IfSome (D.left input.old) (λ bytes. l.text.items ≡ bytes)) }
     ensures whole { IfOk result (λ _. InputOf ReplayStatus.Done (D.left input.old) (D.left input.new)) }
     ensures input { IfErr result (λ status. InputOf status (D.left input.old) (D.left input.new)) }

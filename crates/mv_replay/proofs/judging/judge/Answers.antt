@@ -5,7 +5,6 @@ use Rattle.mv_machine.specs.Setup.{Setup}
 use Rattle.mv_entrytext.specs.Lines.{with_call}
 use Rattle.mv_entrytext.specs.Reader.{IsReadTo, IsNextOf}
 use Rattle.mv_replay.specs.Course.{is_copied, IsCourse}
-use Rattle.mv_replay.proofs.Courses.{ended_legal, ended_converted, ended_refused}
 use Rattle.mv_replay.proofs.judging.judge.Goals as goal
 
 pub take-requires-clause-place : goal.take-requires-clause-place
@@ -36,38 +35,12 @@ entries-preserved c =
           course,
     )
 
-pub returns-in-Ok-None-clause-legal : goal.returns-in-Ok-None-clause-legal
-returns-in-Ok-None-clause-legal c =
-    let bytes = c.args.bytes.now in
-    let config = c.entries.course.config in
-    let w = c.entries.invariant in
-    let copied = is_copied c.args.command w.0 in
-    let whole =
-    subst (λ (o : Option (Option ℕ × Entry)). IsNextOf w.0 bytes config w.1 w.2 o c.next.new.self) c.in-Ok-None.field-0-is
-    (c.in-Ok-None.ensures.read w.0 bytes config w.1 w.2 w.3) in
-    ended_legal w.0 copied bytes config w.1 c.end.result
-    (c.end.ensures w.0 copied bytes config w.1 w.2 w.4 whole.journal whole.text (c.count.ensures w.0 bytes config w.1 w.2 whole.read))
-
-pub returns-in-Ok-None-clause-converted : goal.returns-in-Ok-None-clause-converted
-returns-in-Ok-None-clause-converted c = λ asked.
+pub returns-in-Ok-None : goal.returns-in-Ok-None
+returns-in-Ok-None c =
     let bytes = c.args.bytes.now in
     let config = c.entries.course.config in
     let w = c.entries.invariant in
     let whole =
     subst (λ (o : Option (Option ℕ × Entry)). IsNextOf w.0 bytes config w.1 w.2 o c.next.new.self) c.in-Ok-None.field-0-is
     (c.in-Ok-None.ensures.read w.0 bytes config w.1 w.2 w.3) in
-    ended_converted w.0 c.args.command bytes config w.1 c.end.result asked
-    (c.end.ensures w.0 (is_copied c.args.command w.0) bytes config w.1 w.2 w.4 whole.journal whole.text
-    (c.count.ensures w.0 bytes config w.1 w.2 whole.read))
-
-pub returns-in-Ok-None-clause-refused : goal.returns-in-Ok-None-clause-refused
-returns-in-Ok-None-clause-refused c =
-    let bytes = c.args.bytes.now in
-    let config = c.entries.course.config in
-    let w = c.entries.invariant in
-    let copied = is_copied c.args.command w.0 in
-    let whole =
-    subst (λ (o : Option (Option ℕ × Entry)). IsNextOf w.0 bytes config w.1 w.2 o c.next.new.self) c.in-Ok-None.field-0-is
-    (c.in-Ok-None.ensures.read w.0 bytes config w.1 w.2 w.3) in
-    ended_refused w.0 copied bytes config w.1 c.end.result
-    (c.end.ensures w.0 copied bytes config w.1 w.2 w.4 whole.journal whole.text (c.count.ensures w.0 bytes config w.1 w.2 whole.read))
+    c.end.ensures c.args.command w.0 bytes config w.1 w.2 w.4 whole.journal whole.text (c.count.ensures w.0 bytes config w.1 w.2 whole.read)

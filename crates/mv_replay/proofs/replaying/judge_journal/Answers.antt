@@ -34,4 +34,4 @@ returns-clause-report g c =
     let wrote = c.write_report-status in
     reported (reports_of c.args.command) wrote.result (g.D.Source.left c.args.input.now) (g.R.Sink.taken c.args.report.now)
     (g.R.Sink.taken wrote.new.report) c.in-Ok.legal.text.items (report_text c.args.command c.in-Ok.legal) c.in-Ok.ensures.text
-    (is_report c.args.command c.in-Ok.legal c.in-Ok.ensures.legal c.in-Ok.ensures.converted) wrote.ensures.written
+    (is_report c.args.command c.in-Ok.legal c.in-Ok.ensures.judged) wrote.ensures.written

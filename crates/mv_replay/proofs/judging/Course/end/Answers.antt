@@ -1,14 +1,24 @@
 -- A copy has its last line, and the text is a legal journal.
 use Rattle.std.proofs.Common.{◌∙◌}
 use Rattle.mv_entrytext.specs.declared.version.Version.TheVariants.{Two}
-use Rattle.mv_replay.proofs.Courses.{right_so, made_now, ends_right}
+use Rattle.mv_replay.specs.Course.{is_copied}
+use Rattle.mv_replay.proofs.Courses.{right_so, made_now, none_made, ends_right}
 use Rattle.mv_replay.proofs.judging.Course.end.Goals as goal
 
 pub returns-in-Ok : goal.returns-in-Ok
-returns-in-Ok c = λ v copied bytes setup es ns h journal text number.
+returns-in-Ok c = λ command v bytes setup es ns h journal text number.
     let x = c.args.self in
+    let copied = is_copied command v in
     let right = right_so v copied setup es ns x.wrong x.judge x.copy c.in_default.is h in
-    ends_right v copied bytes setup es ns c.args.count x.judge x.copy _ right journal text number
+    ends_right command v bytes setup es ns _ x.judge x.copy right journal text number
     (made_now copied setup es c.from.result x.copy c.in-Some-copy.writer c.in-Ok.text.items c.in-Some-copy.is right.copy_is
     (c.from.ensures ∙ number)
     (λ lines w. c.in-Ok.ensures Two setup lines w))
+
+pub returns : goal.returns
+returns c = λ command v bytes setup es ns h journal text number.
+    let x = c.args.self in
+    let copied = is_copied command v in
+    let right = right_so v copied setup es ns x.wrong x.judge x.copy c.in_default.is h in
+    ends_right command v bytes setup es ns _ x.judge x.copy right journal text number
+    (none_made copied setup es x.copy c.in-None.is right.copy_is)
