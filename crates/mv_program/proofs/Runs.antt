@@ -1,6 +1,6 @@
 -- The text of a run's configuration and entries is the journal of a run, of a deck's or of a script's; it is legal, and within the
 -- limit.
-use Rattle.std.proofs.Common.{◌≡◌, ℕ, ◌≤◌, List, length, refl, ap, ◌∙◌, arith}
+use Rattle.std.proofs.Common.{◌≡◌, ℕ, ◌≤◌, List, length, refl, ap, sym, subst, ◌∙◌, arith}
 use Rattle.std.specs.Prelude.{All}
 use Rattle.mv_deck.specs.Deck.{JobData}
 use Rattle.mv_deck.specs.Sound.{IsSound}
@@ -33,6 +33,10 @@ use Rattle.mv_machine.specs.Check.{IsValid}
 use Rattle.mv_replay.specs.Judgement.{journal_limit, IsLegalJournal}
 use Rattle.mv_replay.proofs.Lengths.{text_fits}
 use Rattle.mv_program.specs.Texts.{TellsHistory, IsJournalOfRun, IsRunOfScript}
+
+-- entries that are legal are so in the same configuration
+pub legal_so : (c d : Setup) (es : List Entry) → d ≡ c → Legal c es → Legal d es
+legal_so c d es same legal = subst (λ (x : Setup). Legal x es) (sym same) legal
 
 -- the text of a configuration and of legal entries that have one tells them
 told_by : (c : Setup) (es : List Entry) (text : List ℕ) → HasJournal c es → text ≡ journal_text c es → Legal c es

@@ -3,7 +3,6 @@ use Rattle.std.proofs.Common.{◌≡◌, ℕ, List, length, ap, sym, subst, ◌�
 use Rattle.std.specs.Prelude.{All}
 use Rattle.std.proofs.lemmas.List.{length-map}
 use Rattle.mv_deck.specs.Deck.{deck_data, job_data}
-use Rattle.mv_machine.specs.Legal.{Legal}
 use Rattle.mv_machine.specs.Setup.{Setup}
 use Rattle.mv_entrytext.specs.Journal.{journal_text}
 use Rattle.mv_report.specs.EndCode.{IsEndCode}
@@ -11,7 +10,7 @@ use Rattle.mv_report.specs.Outcome.{ends, lines, totals}
 use Rattle.mv_report.specs.Report.{report_text}
 use Rattle.mv_report.proofs.Lengths.{one_end_per_job, one_lines_per_job, eight_totals}
 use Rattle.mv_report.proofs.SoundDecks.{sound_ends}
-use Rattle.mv_program.proofs.Runs.{journal_of_run}
+use Rattle.mv_program.proofs.Runs.{legal_so, journal_of_run}
 use Rattle.mv_program.proofs.texts.texts_of_deck.Goals as goal
 
 pub write_report-requires-clause-one_end_per_job : goal.write_report-requires-clause-one_end_per_job
@@ -41,15 +40,9 @@ write_report-requires-clause-end_codes g c =
     subst (λ (xs : List ℕ). All IsEndCode xs) (sym (c.deref.ensures.value ∙ c.in_ok-run.ensures.ends))
     (sound_ends (deck_data c.args.deck.now) c.args.initiators c.requires.sound)
 
--- the history is legal, and short enough for its text
-pub open-requires : goal.open-requires
-open-requires g c =
-    let run = c.in_ok-run.ensures in
-    record {
-      whole = run.whole;
-      legal = subst (λ (x : Setup). Legal x c.in_ok-run.run'.history.coming) (sym run.config) run.run.follow.legal;
-      few = omega (arith, run.few);
-    }
+pub open-requires-clause-legal : goal.open-requires-clause-legal
+open-requires-clause-legal g c =
+    let run = c.in_ok-run.ensures in legal_so _ _ _ run.config run.run.follow.legal
 
 pub returns-clause-report : goal.returns-clause-report
 returns-clause-report g c =

@@ -7,7 +7,6 @@ use Rattle.mv_deck.specs.Sound.{IsSound}
 use Rattle.mv_deck.proofs.LoadJobs.{count_of_jobs}
 use Rattle.mv_deck.proofs.Loads.{no_fault, stated_jobs}
 use Rattle.mv_deck.proofs.Sounds.{sound}
-use Rattle.mv_machine.specs.Legal.{Legal}
 use Rattle.mv_machine.specs.Setup.{Setup}
 use Rattle.mv_entrytext.specs.Journal.{journal_text}
 use Rattle.mv_report.specs.EndCode.{IsEndCode}
@@ -16,7 +15,7 @@ use Rattle.mv_report.specs.Summary.{summary_of, summary_text}
 use Rattle.mv_report.proofs.Lengths.{one_end_per_job, eight_totals}
 use Rattle.mv_report.proofs.SoundDecks.{sound_ends}
 use Rattle.mv_program.specs.Texts.{IsJournalOfRun}
-use Rattle.mv_program.proofs.Runs.{journal_of_run}
+use Rattle.mv_program.proofs.Runs.{legal_so, journal_of_run}
 use Rattle.mv_program.proofs.texts.texts_of_load.Goals as goal
 
 -- the deck that was read can be run
@@ -49,15 +48,9 @@ write_summary-requires-clause-end_codes g c =
     (sound (load_text c.args.jobs) c.args.initiators
     (no_fault c.args.jobs c.args.initiators c.requires.jobs.0 c.requires.jobs.1 c.requires.initiators.1))))
 
--- the history is legal, and short enough for its text
-pub open-requires : goal.open-requires
-open-requires g c =
-    let run = c.in_ok-run.ensures in
-    record {
-      whole = run.whole;
-      legal = subst (λ (x : Setup). Legal x c.in_ok-run.run'.history.coming) (sym run.config) run.run.follow.legal;
-      few = omega (arith, run.few);
-    }
+pub open-requires-clause-legal : goal.open-requires-clause-legal
+open-requires-clause-legal g c =
+    let run = c.in_ok-run.ensures in legal_so _ _ _ run.config run.run.follow.legal
 
 pub returns-clause-report : goal.returns-clause-report
 returns-clause-report g c =

@@ -1,21 +1,14 @@
 -- What the run of a script came to is what its answers and its journal tell.
-use Rattle.std.proofs.Common.{ap, sym, subst, ◌∙◌, arith}
-use Rattle.mv_machine.specs.Legal.{Legal}
+use Rattle.std.proofs.Common.{ap, ◌∙◌, arith}
 use Rattle.mv_machine.specs.Setup.{Setup}
 use Rattle.mv_entrytext.specs.Journal.{journal_text}
 use Rattle.mv_script.specs.Script.{script_data}
-use Rattle.mv_program.proofs.Runs.{run_of_script}
+use Rattle.mv_program.proofs.Runs.{legal_so, run_of_script}
 use Rattle.mv_program.proofs.texts.texts_of_run.Goals as goal
 
--- the history is legal, and short enough for its text
-pub open-requires : goal.open-requires
-open-requires g c =
-    let run = c.in_ok-run.ensures in
-    record {
-      whole = run.whole;
-      legal = subst (λ (x : Setup). Legal x c.in_ok-run.run'.history.coming) (sym run.config) run.run.finish.follow.legal;
-      few = omega (arith, run.few);
-    }
+pub open-requires-clause-legal : goal.open-requires-clause-legal
+open-requires-clause-legal g c =
+    let run = c.in_ok-run.ensures in legal_so _ _ _ run.config run.run.finish.follow.legal
 
 pub returns : goal.returns
 returns g c =
