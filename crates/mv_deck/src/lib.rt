@@ -13,8 +13,6 @@ mod names;
 mod operand;
 mod parts;
 mod reading;
-#[cfg(test)]
-mod tests;
 mod weight;
 
 pub use deck::{After, Deck, Job, Name, Step, Text};

@@ -28,8 +28,3 @@ pub use reader::{EntryReader, OpenJournal, open_journal};
 pub use reading::{Journal, read_journal};
 pub use version::Version;
 pub use writing::{JournalWriter, write_journal, write_old_journal};
-
-#[cfg(test)]
-mod faulty_texts;
-#[cfg(test)]
-mod tests;

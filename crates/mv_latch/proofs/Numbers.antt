@@ -1,14 +1,13 @@
 -- Which numbers of requests an operation can bring.
-use Rattle.std.proofs.Common.{◌≡◌, ℕ, ◌+◌, ◌≤◌, zero, suc, Bool, List, [], ◌∷◌}
-use Rattle.std.proofs.Common.{length, filter, set, Option, Some, None, IfSome, IfNone, ap, arith}
+use Rattle.std.proofs.Common.{◌≡◌, ℕ, ◌≤◌, zero, suc, Bool, List, [], ◌∷◌}
+use Rattle.std.proofs.Common.{length, filter, set, arith}
 use Rattle.std.proofs.lemmas.Bool.{ne_eqb}
 use Rattle.mv_latch.specs.declared.request.Request.{Request}
 use Rattle.mv_latch.specs.declared.operation.LatchOp.{LatchOp}
 use Rattle.mv_latch.specs.declared.operation.LatchOp.TheVariants.{Obtain, Confirm, Release, Purge}
-use Rattle.mv_latch.specs.declared.operation.LatchReply.{LatchReply}
 use Rattle.mv_latch.specs.Request.{has_id}
 use Rattle.mv_latch.specs.Latch.{obtain_step}
-use Rattle.mv_latch.specs.LatchSet.{LatchLists, list_of, count_in, latch_step, IsNewId}
+use Rattle.mv_latch.specs.LatchSet.{list_of, count_in, latch_step, IsNewId}
 use Rattle.mv_latch.proofs.Quotas.{count_obtained, count_released, count_purged}
 
 count_set_within : (t : Request → Bool) (lists : List (List Request)) (i : ℕ) (qs : List Request)
@@ -38,12 +37,3 @@ still_new caller id other (Release latch old conditional) lists ne new =
       count_set_within (has_id other) lists latch _ (count_released (has_id other) caller old conditional (list_of lists latch)),
     )
 still_new caller id other (Purge requestor) lists ne new = omega (arith, new, count_purged (has_id other) requestor lists)
-
--- numbers that are counted up stay new
-pub counted_up : (caller id : ℕ) (op : LatchOp) (old new : LatchLists) (reply : Option LatchReply)
-    → IfSome reply (λ r. (new.lists, r) ≡ latch_step caller id op old.lists) → IfNone reply (new ≡ old)
-    → ((other : ℕ) → id ≤ other → IsNewId other old.lists) → (other : ℕ) → id + 1 ≤ other → IsNewId other new.lists
-counted_up caller id op old new None some none h other le = rw none (h other (omega arith))
-counted_up caller id op old new (Some reply) some none h other le =
-    rw (ap (λ (z : List (List Request) × LatchReply). z.0) some)
-    (still_new caller id other op old.lists (λ e. omega arith) (h other (omega arith)))

@@ -260,6 +260,3 @@ impl LatchSet {
         Some(self.step(caller, id, op, wakes))
     }
 }
-
-#[cfg(test)]
-mod tests;

@@ -20,6 +20,3 @@ pub use line::{
 pub use number::{is_digits, number_within, push_number, wide_number_within};
 pub use part::split_part;
 pub use reading::{LineReader, read_lines};
-
-#[cfg(test)]
-mod tests;

@@ -14,6 +14,9 @@ use std::test::Fail;
 use std::thread::Threads;
 
 mod failing_streams;
+mod faulty_decks;
+mod faulty_journals;
+mod faulty_scripts;
 mod forged_journals;
 mod held_tasks;
 mod journal_rows;
@@ -358,6 +361,73 @@ fn assert_rows<X: Abort + AllocGlobal + Threads + Wait + Sync>(
     Ok(())
 }
 
+// A kind of text: the words of a command that reads it, how its faults are told, and the exit then.
+struct Format {
+    words: &'static str,
+    name: &'static str,
+    exit: u8,
+}
+
+const DECK: Format = Format {
+    words: "polled 1 0",
+    name: "DECK",
+    exit: 3,
+};
+
+const SCRIPT: Format = Format {
+    words: "script",
+    name: "SCRIPT",
+    exit: 9,
+};
+
+const JOURNAL: Format = Format {
+    words: "replay",
+    name: "JOURNAL",
+    exit: 11,
+};
+
+// A text with its first fault, the line and the kind, and a space behind each; `0 0` where it has none. It stands between a front and
+// what is behind.
+fn assert_fault<X: Abort + AllocGlobal + Threads + Wait + Sync>(
+    rt: &X,
+    format: &Format,
+    front: &str,
+    row: &str,
+    behind: &str,
+) -> Result<(), Fail> {
+    let (line, told) = row.split_once(' ').ok_or("no line")?;
+    let (kind, text) = told.split_once(' ').ok_or("no kind")?;
+    let text = format!(in rt.alloc(); "{front}{text}{behind}")?;
+    let mut on = streams_over(rt.alloc(), text.as_bytes())?;
+    let status = run(rt, format.words, &mut on)?;
+    if kind == "0" {
+        assert_eq!(rt; status, Status::Done, "{row}");
+        return Ok(());
+    }
+    let name = format.name;
+    let note = format!(in rt.alloc(); "{name} LINE {line} KIND {kind}\n")?;
+    assert_eq!(rt; status.exit(), format.exit, "{row}");
+    assert_eq!(rt; on.notes.bytes(), note.as_bytes(), "{row}");
+    Ok(())
+}
+
+// Texts by such rows, parted by semicolons, so that a test is as short to prove with many as with one. A row that begins with `#` says
+// what those behind it have in common.
+fn assert_faults<X: Abort + AllocGlobal + Threads + Wait + Sync>(
+    rt: &X,
+    format: &Format,
+    front: &str,
+    rows: &str,
+    behind: &str,
+) -> Result<(), Fail> {
+    for row in rows.split(';') {
+        if !row.starts_with('#') {
+            assert_fault(rt, format, front, row, behind)?;
+        }
+    }
+    Ok(())
+}
+
 #[test]
 fn decks(rt: HostRuntime) -> Result<(), Fail> {
     assert_run(&rt, "spool 2", PAYROLL, 0, PAYROLL_REPORT, "= PURGED 0 0\n")?;
@@ -392,16 +462,16 @@ fn words_that_are_no_command(rt: HostRuntime) -> Result<(), Fail> {
     Ok(())
 }
 
-// A null statement and empty lines, 1,048,576 bytes in all, and then one more.
+// Comments and the null statement, 1,048,576 bytes in all, and then one more.
 #[test]
 fn a_deck_at_the_limit_and_one_byte_more(rt: HostRuntime) -> Result<(), Fail> {
-    let mut deck = vec![in rt.alloc(); b'\n'; 1_048_574]?;
-    deck.insert(0, b'/')?;
-    deck.insert(0, b'/')?;
-    let mut on = streams_over(rt.alloc(), &deck)?;
+    let mut deck = "//*\n".repeat(rt.alloc(), 262_142)?;
+    deck.push_str("//**\n//\n")?;
+    assert_eq!(rt; deck.len(), 1_048_576);
+    let mut on = streams_over(rt.alloc(), deck.as_bytes())?;
     assert_eq!(rt; run(&rt, "spool 1", &mut on)?, Status::Done);
-    deck.push(b'\n')?;
-    let mut on = streams_over(rt.alloc(), &deck)?;
+    deck.push_str("\n")?;
+    let mut on = streams_over(rt.alloc(), deck.as_bytes())?;
     assert_ends(&rt, "spool 1", &mut on, 4, "", "INPUT TOO LONG\n")?;
     assert_journal(&rt, on.journal.bytes(), "")
 }

@@ -31,8 +31,3 @@ pub use mv_line::{TextFault as ScriptFault, TextRefusal as ScriptRefusal};
 pub use numbers::{Numbers, Slots};
 pub use reading::read_script;
 pub use script::Script;
-
-#[cfg(test)]
-mod faulty_texts;
-#[cfg(test)]
-mod tests;

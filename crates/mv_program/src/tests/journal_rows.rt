@@ -3,12 +3,13 @@
 
 ghost use Rattle.std.specs.Prelude.{◌≤◌, IsTrue, All};
 ghost use Rattle.mv_machine.specs.Limits.{highest_place};
+ghost use Rattle.mv_entrytext.specs.Fault.{HasJournal};
 
 use super::forged_journals::{assert_forged, unnumbered};
 use super::*;
 use mv_calls::{number_calls, replay_calls};
-use mv_entrytext::{Journal, read_journal};
-use mv_machine::{CheckRefusal, Config, Entry, Exit, HIGHEST_PLACE};
+use mv_entrytext::{Journal, read_journal, write_journal, write_old_journal};
+use mv_machine::{Entry, HIGHEST_PLACE, replay};
 
 // Two callers, three blocks of callers 0, 0 and 1, and an exit from block 0 to block 1. The events stand from line 14 on: on block 0 each
 // operation in each state; on element 1 each operation in each phase, and with a generation that is not the current one; on a volume; and
@@ -170,10 +171,102 @@ EVENTS
 END 11
 ";
 
+// Exits, and no event.
+const EXITS: &str = "\
+JOURNAL 2
+CALLERS 1
+ELEMENTS 1
+VOLUMES 1
+LATCHES 1
+QUOTA 16 5
+BUDGET 524287
+ECB 0
+ECB 0
+ECB 0
+EXIT 0 2 1
+EXIT 1 2
+EVENTS
+END 0
+";
+
+// Each operation and each reply, with numbers at the ends of their ranges. The machine gives none to the first, so far from what it has.
+const RANGES: &str = "\
+JOURNAL 1
+CALLERS 1
+ELEMENTS 1
+VOLUMES 1
+LATCHES 1
+QUOTA 1 0
+BUDGET 524287
+EVENTS
+4294967295 E4294967295 524286 ARM = ARMED
+0 E0 0 EXTEND 1 = LINKED 1
+0 E0 0 EXTEND 1073741823 = LINKED 1073741823
+0 E0 0 SETTLE = COMPLETE 1073741823
+0 E0 0 CLEAR = WORD 4294967295
+0 E0 0 POST 1073741823 = POSTED
+0 E0 0 POST 0 = WOKE 1073741823
+0 E0 0 POST 1 = ALREADY 1073741823
+0 E0 0 TEST = WAITING
+0 E0 0 TEST = OPEN
+0 P4294967295 0 OPEN = OPENED 262143
+0 P0 0 OPEN = INUSE
+0 P0 0 PAUSE 4294967295 = PARKED
+0 P0 0 PAUSE 0 = GIVEN 16777215 262143
+0 P0 0 RESUME 4294967295 = NOTYET
+0 P0 0 RESUME 1 = SPENT 262143
+0 P0 0 RELEASE 4294967295 16777215 = EARLY
+0 P0 0 RELEASE 0 1 = WOKE
+0 P0 0 RELEASE 1 0 = ALREADY
+0 P0 0 CLOSE 4294967295 = CLOSED
+0 P0 0 CLOSE 0 = BUSY
+0 P0 0 TEST = STATE 262143 FREE 0
+0 P0 0 TEST = STATE 0 RESET 0
+0 P0 0 TEST = STATE 1 PRERELEASED 16777215
+0 P0 0 TEST = STATE 2 PAUSED 0
+0 P0 0 TEST = STATE 3 RELEASED 0
+0 V4294967295 0 READ = VALUE 4294967295
+0 V0 0 WRITE 4294967295 = STORED
+0 L 0 OBTAIN 4294967295 18446744073709551615 S C = GRANTED 4294967295
+0 L 0 OBTAIN 0 0 X W = QUEUED 4294967295
+0 L 0 OBTAIN 0 1 S P4294967295 = NOTNOW 4294967295
+0 L 0 CONFIRM 4294967295 0 = WAITING
+0 L 0 CONFIRM 0 4294967295 = GONE
+0 L 0 RELEASE 0 4294967295 C = RELEASED 4294967295
+0 L 0 RELEASE 4294967295 0 U = RELEASED 0
+0 L 0 PURGE 18446744073709551615 = PURGED 4294967295 0
+END 36
+";
+
 fn are_low(entries: &[Entry]) -> bool
     ensures { IsTrue result → All (λ e. e.place ≤ highest_place) entries.now }
 {
     entries.iter().all(|e| e.place <= HIGHEST_PLACE)
+}
+
+// The text in version 2 of what was read, where it is legal.
+fn converted(rt: &impl Abort, alloc: Global, journal: &Journal) -> Result<Vec<u8>, Fail> {
+    assert!(rt; are_low(&journal.entries));
+    assert!(rt; journal.entries.len() < 4_294_967_296);
+    replay(alloc, &journal.config, &journal.entries)?;
+    Ok(write_journal(alloc, &journal.config, &journal.entries)?)
+}
+
+// The text in version 1 of what was read.
+fn written_again(alloc: Global, journal: &Journal) -> Result<Vec<u8>, NoMemory>
+    requires { HasJournal journal.now.config journal.now.entries.items }
+{
+    write_old_journal(alloc, &journal.config, &journal.entries)
+}
+
+// A text of version 1 is read, and written again.
+fn assert_read_back(rt: &impl Abort, alloc: Global, text: &[u8]) -> Result<(), Fail> {
+    assert!(rt; text.len() < 10_000);
+    let Ok(journal) = read_journal(alloc, text) else {
+        panic!(rt; "no journal")
+    };
+    assert_eq!(rt; written_again(alloc, &journal)?.as_slice(), text);
+    Ok(())
 }
 
 // The numbers that were read are those of the calls, as mv_calls has them for those who have no text.
@@ -194,49 +287,19 @@ fn entries_of_one_call_have_one_number(rt: HostRuntime) -> Result<(), Fail> {
     let text = CALLS.as_bytes();
     assert!(rt; text.len() < 1000);
     let journal = read_journal(rt.alloc(), text).ok().ok_or("a fault")?;
+    assert_eq!(rt; converted(&rt, rt.alloc(), &journal)?.as_slice(), text);
     assert_numbered(&rt, rt.alloc(), &journal)
 }
 
-// ---- configurations
-
-// One caller and two blocks of its own.
-fn one_caller(alloc: Global) -> Result<Config, AllocError> {
-    Ok(Config {
-        callers: 1,
-        elements_per_caller: 1,
-        volumes: 1,
-        latches: 1,
-        quota: 1,
-        posted_quota: 0,
-        budgets: vec![in alloc; 1]?,
-        owners: vec![in alloc; 0, 0]?,
-        exits: Vec::new(alloc),
-    })
-}
-
-fn refusal(alloc: Global, config: Config) -> Option<CheckRefusal> {
-    config.check(alloc).err()
-}
-
-// An exit that posts its own source, budgets that are one event too many, and a block of a caller that is not there.
 #[test]
-fn refused_configurations(rt: HostRuntime) -> Result<(), Fail> {
-    let mut config = one_caller(rt.alloc())?;
-    config.exits.push(Exit {
-        source: 1,
-        targets: vec![in rt.alloc(); 1]?,
-    })?;
-    assert_eq!(rt; refusal(rt.alloc(), config), Some(CheckRefusal::BadExit(1)));
-    let mut config = one_caller(rt.alloc())?;
-    config.callers = 2;
-    config.budgets = vec![in rt.alloc(); 524_287, 1]?;
-    let many = refusal(rt.alloc(), config);
-    assert_eq!(rt; many, Some(CheckRefusal::Budget(524_288)));
-    let mut config = one_caller(rt.alloc())?;
-    config.owners = vec![in rt.alloc(); 0, 1]?;
-    assert_eq!(rt;
-        refusal(rt.alloc(), config),
-        Some(CheckRefusal::BadOwner(1))
-    );
-    Ok(())
+fn exits_and_no_event(rt: HostRuntime) -> Result<(), Fail> {
+    let old = unnumbered(rt.alloc(), EXITS)?;
+    assert_run(&rt, "convert", &old, 0, EXITS, "")?;
+    assert_run(&rt, "replay", &old, 0, "LEGAL 0 EVENTS\n", "")
+}
+
+#[test]
+fn entries_at_the_ends_of_their_ranges(rt: HostRuntime) -> Result<(), Fail> {
+    assert_run(&rt, "replay", RANGES, 10, "ILLEGAL AT LINE 9\n", "")?;
+    assert_read_back(&rt, rt.alloc(), RANGES.as_bytes())
 }

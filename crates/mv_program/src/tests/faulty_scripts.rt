@@ -1,0 +1,374 @@
+//! Scripts by their texts: the first fault of each, worked out by hand; `0 0` where there is none. Each kind, and each two kinds that
+//! can meet in a line.
+
+use super::*;
+
+// How a text is cut, and where END is missing.
+const CUTS: &str = "\
+    1 9 ;\
+    3 9 \n\n;\
+    2 9 \r;\
+    2 9 SCRIPT 1;\
+    4 9 SCRIPT 1\nTASK\n \n;\
+    0 0 SCRIPT 1\nTASK\nEND;\
+    0 0 \nSCRIPT  1 \r\n\r\nTASK\r\nEND\r\n  \n\r;\
+    0 0 SCRIPT 8\nTASK\nTASK\nTASK\nTASK\nTASK\nTASK\nTASK\nTASK\nEND;\
+    0 0 SCRIPT 1\nECB 0\nECB 0\nEXIT 0 1\nEXIT 0 1 1 1 1\nTASK\nEND";
+
+// What may stand before SCRIPT: nothing, and a line that names what is not there is told for that.
+const BEFORE_THE_SCRIPT: &str = "\
+    1 5 TASK;\
+    1 5 END;\
+    1 5 ALLOC;\
+    1 5 READ 0;\
+    1 5 WAIT 0;\
+    1 5 CHECK 0;\
+    1 5 EOT 1 - 0;\
+    1 4 ECB 0;\
+    1 4 EXIT 0 0;\
+    1 4 TEST 0;\
+    1 4 PAUSE 0.0;\
+    1 4 TESTP 0;\
+    1 4 READ 8;\
+    1 4 TABLE 0 0 0 0 0 1";
+
+// A second SCRIPT, and lines behind later ones.
+const OUT_OF_ORDER: &str = "\
+    2 5 SCRIPT 1\nSCRIPT 1;\
+    5 5 SCRIPT 1\nECB 0\nECB 0\nEXIT 0 1\nECB 0;\
+    3 5 SCRIPT 1\nTASK\nECB 0;\
+    5 5 SCRIPT 1\nECB 0\nECB 0\nTASK\nEXIT 0 1;\
+    2 5 SCRIPT 1\nALLOC;\
+    4 5 SCRIPT 1\nTASK\nEND\nEND;\
+    4 5 SCRIPT 1\nTASK\nEND\nALLOC;\
+    4 5 SCRIPT 1\nTASK\nEND\nECB 0;\
+    4 5 SCRIPT 1\nTASK\nEND\nSCRIPT 1";
+
+// The kinds of a line by its bytes, and counts, exits and OBTAINs.
+const BYTES_AND_COUNTS: &str = "\
+    1 1 SCRIPT 1\r\r;\
+    1 1 SCRIPT\t1;\
+    1 1 X\x7f;\
+    1 1 \u{80};\
+    1 2                                                                                  ;\
+    2 9                                                                                 \r;\
+    3 6 SCRIPT 1\nTASK\nTASK;\
+    3 6 SCRIPT 2\nTASK\nEND;\
+    2 6 SCRIPT 1\nEND;\
+    3 7 SCRIPT 1\nECB 0\nEXIT 0 0;\
+    4 7 SCRIPT 1\nECB 0\nECB 0\nEXIT 1 0;\
+    5 7 SCRIPT 1\nECB 0\nECB 0\nECB 0\nEXIT 1 2 1;\
+    3 8 SCRIPT 1\nTASK\nCHECK 0;\
+    3 8 SCRIPT 1\nTASK\nFREE 0 U;\
+    5 8 SCRIPT 2\nTASK\nOBTAIN 0 1 S COND\nTASK\nCHECK 1;\
+    4 8 SCRIPT 1\nTASK\nOBTAIN 8 1 S COND\nFREE 2 U;\
+    0 0 SCRIPT 1\nTASK\nOBTAIN 0 1 S COND\nFREE 1 C\nCHECK 1\nEND";
+
+// Two kinds meet in a line, and the lower is told. In the last two rows a later line has a kind that is lower or not, and the first
+// line is told.
+const MEETING: &str = "\
+    1 1 \t                                                                                ;\
+    1 1 ALLOC\t;\
+    1 2 XXXXXXXXXXXXXXXXXXXXXXXXXXXXXXXXXXXXXXXXXXXXXXXXXXXXXXXXXXXXXXXXXXXXXXXXXXXXXXXXX;\
+    2 4 SCRIPT 1\nSCRIPT 9;\
+    3 4 SCRIPT 1\nTASK\nECB 1;\
+    3 4 SCRIPT 1\nTASK\nEXIT 0 1;\
+    4 4 SCRIPT 1\nTASK\nEND\nREAD 8;\
+    3 4 SCRIPT 1\nECB 0\nEXIT 0 0 1;\
+    3 4 SCRIPT 1\nTASK\nCHECK 00;\
+    3 4 SCRIPT 1\nTASK\nFREE 4294967296 C;\
+    4 5 SCRIPT 1\nTASK\nEND\nTASK;\
+    4 5 SCRIPT 1\nECB 0\nTASK\nEXIT 0 0;\
+    2 5 SCRIPT 1\nCHECK 1;\
+    4 5 SCRIPT 1\nTASK\nEND\nFREE 1 U;\
+    2 4 SCRIPT 1\nECB 1\n\t;\
+    3 6 SCRIPT 1\nTASK\nTASK\nX";
+
+#[test]
+fn scripts_whose_lines_are_out_of_order(rt: HostRuntime) -> Result<(), Fail> {
+    assert_faults(&rt, &SCRIPT, "", CUTS, "")?;
+    assert_faults(&rt, &SCRIPT, "", BEFORE_THE_SCRIPT, "")?;
+    assert_faults(&rt, &SCRIPT, "", OUT_OF_ORDER, "")?;
+    assert_faults(&rt, &SCRIPT, "", BYTES_AND_COUNTS, "")?;
+    assert_faults(&rt, &SCRIPT, "", MEETING, "")
+}
+
+// Eighty spaces: a line that ends with them is ignored or too long.
+const SPACES: &str =
+    "                                                                                ";
+
+// A line of eighty spaces is ignored. One that is too long has no other kind in the second row and the last, and each that can
+// meet it between them.
+const TOO_LONG: &str = "\
+    2 9 ;\
+    1 2  ;\
+    1 1 \t;\
+    1 2 X;\
+    1 2 SCRIPT 9;\
+    1 2 TASK;\
+    2 2 SCRIPT 1\nEND;\
+    3 2 SCRIPT 1\nECB 0\nEXIT 0 0;\
+    3 2 SCRIPT 1\nTASK\nCHECK 1;\
+    3 2 SCRIPT 1\nTASK\nEND";
+
+#[test]
+fn scripts_whose_lines_are_too_long(rt: HostRuntime) -> Result<(), Fail> {
+    assert_faults(&rt, &SCRIPT, "", TOO_LONG, SPACES)
+}
+
+// A head of three lines.
+const HEAD: &str = "SCRIPT 1\nECB 0\nTASK\n";
+
+// Calls with the lowest and the highest of their numbers: the fault is that of the line behind them.
+const GOOD_CALLS: &str = "\
+    5 3 WAIT 0;\
+    5 3 WAIT 99 0 0 0 0 0 0 0 0;\
+    5 3 POST  0  1073741823;\
+    5 3 TRYPOST 0 524286 0;\
+    5 3 EXTEND 0 4294967295;\
+    5 3 WRITE 7 4294967295;\
+    5 3 PAUSE 3.262142;\
+    5 3 RELEASE 0.0 16777215;\
+    5 3 TRANSFER - 0.0 0;\
+    5 3 OBTAIN 99 18446744073709551615 X ECB 0;\
+    5 3 EOT 0 - 0;\
+    5 3 EOT 0 0 1073741823";
+
+// Words that fit no form; in the last rows a number is bad too.
+const NO_FORMS: &str = "\
+    4 3  ALLOC;\
+    4 3 alloc;\
+    4 3 ALLOC 0;\
+    4 3 TASK 0;\
+    4 3 END 0;\
+    4 3 WAIT;\
+    4 3 WAIT X;\
+    4 3 WAIT 9 0 0 0 0 0 0 0 0 0;\
+    4 3 POST 0;\
+    4 3 POST 0 1 2;\
+    4 3 POST 0 -1;\
+    4 3 TRYPOST 0 0;\
+    4 3 PAUSE 0;\
+    4 3 PAUSE 0.;\
+    4 3 PAUSE .0;\
+    4 3 PAUSE 0.0.0;\
+    4 3 DEALLOC -;\
+    4 3 TRANSFER 0.0 - 1;\
+    4 3 OBTAIN 0 1 S;\
+    4 3 OBTAIN 0 1 s COND;\
+    4 3 OBTAIN 0 1 S COND 0;\
+    4 3 OBTAIN 0 1 S ECB;\
+    4 3 OBTAIN 0 1 S ECB 0 0;\
+    4 3 FREE 1;\
+    4 3 FREE 1 S;\
+    4 3 EOT 1 -;\
+    4 3 EOT - - 0;\
+    4 3 EVNEXT;\
+    4 3 EVPOST 0;\
+    4 3 EVPOST 0 X;\
+    4 3 TABLE 0 0 0 0 0;\
+    4 3 TABLE 0 0 0 0 0 1 1;\
+    4 3 TABLE 1 100 8 1 1 X;\
+    4 3 POST 01 X;\
+    4 3 WAIT 01 0 X;\
+    4 3 WAIT X 1;\
+    4 3 EXIT 0 1 1 1 1 1;\
+    4 3 TRANSFER 4.0 0.0 X;\
+    4 3 OBTAIN 100 1 Y COND";
+
+// Numbers with a zero in front, out of their ranges, or of what is not there.
+const BAD_NUMBERS: &str = "\
+    4 4 SCRIPT 01;\
+    4 4 ECB 00;\
+    4 4 WAIT 100;\
+    4 4 WAIT 1 0 1;\
+    4 4 WAIT 1 00;\
+    4 4 POST 1 0;\
+    4 4 POST 0 1073741824;\
+    4 4 POST 0 00000000000000000000000000000;\
+    4 4 TRYPOST 0 524287 0;\
+    4 4 EXTEND 0 4294967296;\
+    4 4 READ 8;\
+    4 4 WRITE 0 4294967296;\
+    4 4 PAUSE 4.0;\
+    4 4 PAUSE 0.262143;\
+    4 4 PAUSE 00.0;\
+    4 4 RELEASE 0.0 16777216;\
+    4 4 TRANSFER 4.0 0.0 0;\
+    4 4 TESTP 4;\
+    4 4 OBTAIN 100 1 S COND;\
+    4 4 OBTAIN 0 18446744073709551616 S COND;\
+    4 4 OBTAIN 0 1 S ECB 1;\
+    4 4 PURGE 99999999999999999999999999;\
+    4 4 EOT 1 1 0;\
+    4 4 CHECK 4294967296;\
+    4 4 EVPOST 0 0;\
+    4 4 EVNEXT 0;\
+    4 4 TABLE 1 0 0 0 0 1;\
+    4 4 TABLE 0 100 0 0 0 1;\
+    4 4 TABLE 0 0 8 0 0 1;\
+    4 4 TABLE 0 0 0 1 0 1;\
+    4 4 TABLE 0 0 0 0 1 1;\
+    4 4 TABLE 0 0 0 0 0 100";
+
+// The same of the lines that are no calls.
+const OTHER_LINES: &str = "\
+    1 4 SCRIPT 0;\
+    1 4 SCRIPT 9;\
+    1 3 SCRIPT;\
+    1 3 SCRIPT 1 1;\
+    1 3 SCRIPT X;\
+    2 4 SCRIPT 1\nECB 1;\
+    2 3 SCRIPT 1\nECB;\
+    3 3 SCRIPT 1\nECB 0\nEXIT 0;\
+    3 3 SCRIPT 1\nECB 0\nEXIT 0 1 1 1 1 1";
+
+#[test]
+fn scripts_with_calls_that_are_none(rt: HostRuntime) -> Result<(), Fail> {
+    assert_faults(&rt, &SCRIPT, HEAD, GOOD_CALLS, "\nX\nEND\n")?;
+    assert_faults(&rt, &SCRIPT, HEAD, NO_FORMS, "\nEND\n")?;
+    assert_faults(&rt, &SCRIPT, HEAD, BAD_NUMBERS, "\nEND\n")?;
+    assert_faults(&rt, &SCRIPT, "", OTHER_LINES, "")
+}
+
+// As many blocks as there may be, and one more, which may name no task.
+const MANY_BLOCKS: &str = "\
+    0 0 TASK\nEND;\
+    66 6 ECB 0;\
+    66 4 ECB 1;\
+    67 5 TASK\nECB 0";
+
+// The same of exits, of which one more may lead down.
+const MANY_EXITS: &str = "\
+    0 0 TASK\nEND;\
+    20 6 EXIT 0 1;\
+    20 6 EXIT 1 0;\
+    20 4 EXIT 0 2;\
+    21 5 TASK\nEXIT 0 1";
+
+// The same of calls, of which one more may have no OBTAIN. Each task may make as many.
+const MANY_CALLS: &str = "\
+    0 0 TASK\nREAD 0\nEND;\
+    131 6 READ 0;\
+    131 6 CHECK 1;\
+    131 4 READ 8;\
+    131 6 END";
+
+// Behind a line that stands so many times.
+fn assert_behind<X: Abort + AllocGlobal + Threads + Wait + Sync>(
+    rt: &X,
+    front: &str,
+    line: &str,
+    times: usize,
+    rows: &str,
+) -> Result<(), Fail> {
+    let lines = line.repeat(rt.alloc(), times)?;
+    let all = format!(in rt.alloc(); "{front}{lines}")?;
+    assert_faults(rt, &SCRIPT, &all, rows, "")
+}
+
+#[test]
+fn scripts_with_one_too_many(rt: HostRuntime) -> Result<(), Fail> {
+    assert_behind(&rt, "SCRIPT 1\n", "ECB 0\n", 64, MANY_BLOCKS)?;
+    assert_behind(
+        &rt,
+        "SCRIPT 1\nECB 0\nECB 0\n",
+        "EXIT 0 1\n",
+        16,
+        MANY_EXITS,
+    )?;
+    assert_behind(&rt, "SCRIPT 2\nTASK\n", "READ 0\n", 128, MANY_CALLS)
+}
+
+// Exits from each of the blocks 7 to 15 to four times the next one. So block 16 reaches 1, block 15 reaches 5, and so on up to
+// block 8 with 87,381 and block 7 with 349,525. The lines are 27.
+const CHAIN: &str = "\
+    SCRIPT 1\n\
+    ECB 0\nECB 0\nECB 0\nECB 0\nECB 0\nECB 0\nECB 0\nECB 0\nECB 0\n\
+    ECB 0\nECB 0\nECB 0\nECB 0\nECB 0\nECB 0\nECB 0\nECB 0\n\
+    EXIT 7 8 8 8 8\nEXIT 8 9 9 9 9\nEXIT 9 10 10 10 10\n\
+    EXIT 10 11 11 11 11\nEXIT 11 12 12 12 12\nEXIT 12 13 13 13 13\n\
+    EXIT 13 14 14 14 14\nEXIT 14 15 15 15 15\nEXIT 15 16 16 16 16\n";
+
+// What calls cost: 349,525 and twice 87,381 are 524,287, and a PURGE costs more than that. Where a call costs too much and has
+// another fault, the other is told.
+const COSTS: &str = "\
+    0 0 TASK\nPOST 7 0\nPOST 8 0\nPOST 8 0\nEND;\
+    32 10 TASK\nPOST 7 0\nPOST 8 0\nPOST 8 0\nREAD 0\nEND;\
+    0 0 TASK\nPOST 7 0\nPOST 8 0\nPOST 8 0\nWAIT 0\nEND;\
+    32 1 TASK\nPOST 7 0\nPOST 8 0\nPOST 8 0\nREAD\t0\nEND;\
+    32 3 TASK\nPOST 7 0\nPOST 8 0\nPOST 8 0\nREAD\nEND;\
+    32 4 TASK\nPOST 7 0\nPOST 8 0\nPOST 8 0\nREAD 8\nEND;\
+    32 8 TASK\nPOST 7 0\nPOST 8 0\nPOST 8 0\nCHECK 1\nEND;\
+    32 6 TASK\nPOST 7 0\nPOST 8 0\nPOST 8 0\nTASK\nEND;\
+    33 10 TABLE 0 0 0 0 3 3\nTASK\nPOST 7 0\nPOST 8 0\nPOST 8 0\nPOST 0 0;\
+    30 10 TABLE 0 0 0 0 3 3\nTASK\nEVPOST 0 0;\
+    29 10 TASK\nPURGE 1\nEND;\
+    30 10 TASK\nPOST 7 0\nEOT 1 - 0\nEND;\
+    30 5 TASK\nEND\nPURGE 1";
+
+// A call that costs too much, on a line that is too long.
+const LONG_COSTS: &str = "32 2 TASK\nPOST 7 0\nPOST 8 0\nPOST 8 0\nREAD 0";
+
+// Behind three calls that cost all there is, and 125 more that cost nothing: one more is one too many and costs too much.
+const MANY_COSTS: &str = "\
+    0 0 END;\
+    157 6 READ 0;\
+    157 6 WAIT 0";
+
+#[test]
+fn scripts_whose_calls_cost_too_much(rt: HostRuntime) -> Result<(), Fail> {
+    assert_faults(&rt, &SCRIPT, CHAIN, COSTS, "")?;
+    assert_faults(&rt, &SCRIPT, CHAIN, LONG_COSTS, SPACES)?;
+    let front = format!(in rt.alloc(); "{CHAIN}TASK\nPOST 7 0\nPOST 8 0\nPOST 8 0\n")?;
+    assert_behind(&rt, &front, "WAIT 0\n", 125, MANY_COSTS)
+}
+
+// Four blocks of task 0, and one of task 1. The lines are six.
+const BLOCKS: &str = "SCRIPT 2\nECB 0\nECB 0\nECB 0\nECB 0\nECB 1\n";
+
+// Tables where they may not stand, and each refusal of a table but that of a volume that there is not.
+const TABLES: &str = "\
+    7 12 TABLE 0 0 0 0 2 0;\
+    7 12 TABLE 0 0 0 0 2 33;\
+    7 12 TABLE 0 0 0 0 2 3;\
+    7 12 TABLE 0 0 0 0 1 2;\
+    7 12 TABLE 1 0 0 0 2 2;\
+    7 12 TABLE 0 0 0 1 3 2;\
+    7 12 TABLE 0 8 0 0 2 2;\
+    8 12 EXIT 0 4\nTABLE 0 0 0 0 2 2;\
+    8 6 TABLE 0 0 0 2 0 2\nTABLE 0 0 0 0 2 2;\
+    8 6 TABLE 0 0 0 2 0 2\nTABLE 0 0 0 0 2 0;\
+    8 5 TABLE 0 0 0 2 0 2\nECB 0;\
+    8 5 TABLE 0 0 0 2 0 2\nEXIT 0 1;\
+    8 5 TASK\nTABLE 0 0 0 0 2 0;\
+    9 5 TABLE 0 0 0 2 0 2\nTASK\nTABLE 0 0 0 2 0 2";
+
+// Behind a table with latch 3 and volume 4, calls on it, and others that use what is the table's or not: then the fault is that of the
+// line behind them.
+const USES: &str = "\
+    9 4 EVPOST 2 0;\
+    9 4 EVPOST 0 1073741824;\
+    9 4 EVNEXT 100;\
+    9 11 WAIT 1 4 3;\
+    9 11 POST 0 1;\
+    9 11 TRYPOST 1 0 0;\
+    9 11 CLEAR 2;\
+    9 11 EXTEND 3 1;\
+    9 11 WRITE 4 0;\
+    9 11 OBTAIN 3 1 S COND;\
+    9 11 OBTAIN 0 9223372036854775808 S COND;\
+    9 11 OBTAIN 0 1 S ECB 3;\
+    9 11 PURGE 9223372036854775808;\
+    9 11 EOT 9223372036854775808 - 0;\
+    9 11 EOT 1 2 0;\
+    11 3 EVPOST 1 1073741823\nEVNEXT 99\nX;\
+    14 3 WAIT 1 4\nPOST 4 0\nTEST 0\nREAD 4\nWRITE 3 0\nX;\
+    13 3 OBTAIN 2 9223372036854775807 X ECB 4\nFREE 1 U\nPURGE 9223372036854775807\nEOT 0 4 0\nX";
+
+#[test]
+fn scripts_with_a_table(rt: HostRuntime) -> Result<(), Fail> {
+    assert_faults(&rt, &SCRIPT, BLOCKS, TABLES, "\nTASK\nTASK\nEND\n")?;
+    let front = format!(in rt.alloc(); "{BLOCKS}TABLE 0 3 4 0 2 2\nTASK\n")?;
+    assert_faults(&rt, &SCRIPT, &front, USES, "\nTASK\nEND\n")
+}
