@@ -24,7 +24,7 @@ use Rattle.mv_machine.specs.Setup.{Setup}
 use Rattle.mv_machine.proofs.EntryRuns.{entry_of}
 use Rattle.mv_board.specs.Faces.{BoardFace, CallerFace}
 use Rattle.mv_calls.specs.Keeping.{kept_of}
-use Rattle.mv_calls.specs.LatchCalls.{Obtained, obtain, release_latch, let_go}
+use Rattle.mv_calls.specs.LatchCalls.{Requested, obtain, release_latch, let_go}
 use Rattle.mv_calls.specs.Program.{Program, Done, Call, Heard, on_latch, on_volume}
 use Rattle.mv_calls.specs.Refusal.{Refusal}
 use Rattle.mv_calls.specs.Waits.{read_volume, write_volume, the_value, stored}
@@ -45,7 +45,7 @@ use Rattle.mv_cache.proofs.Logs.{still_holds, holds_at_once, holds_confirmed, as
 
 -- ---- calls that are calm
 
-pub obtain_grown : (c : Setup) (requestor most : ℕ) (mode : Mode) (Is : Result Obtained Refusal → Type 0) (t u : CallerFace)
+pub obtain_grown : (c : Setup) (requestor most : ℕ) (mode : Mode) (Is : Result Requested Refusal → Type 0) (t u : CallerFace)
     → IsServed most (obtain c 0 requestor mode Waiting) Is t u → Grown IsCalm t u
 obtain_grown c requestor most mode Is t u s = served_grown IsCalm most (obtain c 0 requestor mode Waiting) Is t u s
     (always_obtain IsCalm c 0 requestor mode (kept_of t.number t.log) tt (λ id. tt))

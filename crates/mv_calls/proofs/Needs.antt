@@ -310,7 +310,7 @@ event_posted_asks c t index id (posts.Woke x) kept sound low =
     (once_asks (IsHeard c) _ (read_volume_once t.volume kept)) (λ k now. counted_asks c t index id k now sound low))
 
 -- what follows the obtain
-with_latch_asks : (c : Setup) (t : Table) (index code : ℕ) (got : Result latches.Obtained Refusal) (kept : Kept) → IsSoundTable c t
+with_latch_asks : (c : Setup) (t : Table) (index code : ℕ) (got : Result latches.Requested Refusal) (kept : Kept) → IsSoundTable c t
     → index < t.size → release_cost c ≤ 524287 → Asks (IsHeard c) (4 + release_cost c) (events.with_latch c t index code got kept)
 with_latch_asks c t index code (Ok (latches.GrantedAs id)) kept sound lt low =
     wider (IsHeard c) (1 + (3 + release_cost c)) (4 + release_cost c) _ (omega arith)

@@ -67,7 +67,7 @@ by_settle P ends f each r = ends Wrong tt
 
 -- behind the close of an element of a task that ends
 pub by_close : {A : Type 0} (P : Program A → Type 0) → HoldsAtEnds P → (p : Program A) → P p
-    → (r : Reply) → P (on_element r (endings.closed p))
+    → (r : Reply) → P (on_element r (endings.behind_close p))
 by_close P ends p rest (reply_of.Element element_reply.Closed) = rest
 by_close P ends p rest r = ends Wrong tt
 

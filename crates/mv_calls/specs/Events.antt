@@ -6,7 +6,7 @@ use Rattle.mv_machine.specs.Check.{or_else}
 use Rattle.mv_machine.specs.Setup.{Setup}
 use Rattle.mv_calls.specs.declared.table.Table.{Table}
 use Rattle.mv_calls.specs.Keeping.{Kept}
-use Rattle.mv_calls.specs.LatchCalls.{Obtained, GrantedAs, PendingAs, obtain, release_latch}
+use Rattle.mv_calls.specs.LatchCalls.{Requested, GrantedAs, PendingAs, obtain, release_latch}
 use Rattle.mv_calls.specs.Posts.{Posting, Already, post}
 use Rattle.mv_calls.specs.Program.{Call, followed, finished, wrong, unless_refused}
 use Rattle.mv_calls.specs.Refusal.{Refusal}
@@ -55,7 +55,7 @@ event_posted c t index id (Already code) = freed c t id (Ok (WasComplete code))
 event_posted c t index id posting = followed (read_volume t.volume) (counted c t index id)
 
 -- with the latch, the event's block is posted; without it nothing is
-abbrev pub with_latch : Setup → Table → ℕ → ℕ → Result Obtained Refusal → Call (Result Entering Refusal)
+abbrev pub with_latch : Setup → Table → ℕ → ℕ → Result Requested Refusal → Call (Result Entering Refusal)
 with_latch c t index code (Ok (GrantedAs id)) = followed (post c (event_block t index) code) (event_posted c t index id)
 with_latch c t index code (Ok (PendingAs id)) = wrong
 with_latch c t index code (Err why) = finished (Err why)

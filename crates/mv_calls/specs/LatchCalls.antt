@@ -21,15 +21,15 @@ use Rattle.mv_calls.specs.Refusal as refusal
 use Rattle.mv_calls.specs.Waits.{refused_if}
 
 -- a request of this number holds its latch, or waits for it and a block is posted then
-pub data Obtained : Type 0 where
-  GrantedAs : (id : ℕ) → Obtained
-  PendingAs : (id : ℕ) → Obtained
+pub data Requested : Type 0 where
+  GrantedAs : (id : ℕ) → Requested
+  PendingAs : (id : ℕ) → Requested
 
 -- how a request stands: it holds its latch, it waits for it, or it is in no list
-pub data Standing : Type 0 where
-  Holds : Standing
-  Waits : Standing
-  IsOut : Standing
+pub data RequestState : Type 0 where
+  Holds : RequestState
+  Waits : RequestState
+  IsOut : RequestState
 
 -- how many requests a purge took out, and how many others were granted by that
 pub record Counts : Type 0 where
@@ -46,14 +46,14 @@ obtain_refusal c latch requestor mode form kept =
     (refused_if (not (keeps_quotas c kept.requests form)) refusal.Quota))
 
 -- a wait for a latch that ends before its grant has ended too soon
-abbrev pub confirmed : ℕ → LatchReply → Program (Result Obtained Refusal)
+abbrev pub confirmed : ℕ → LatchReply → Program (Result Requested Refusal)
 confirmed id (latch_reply.Granted same) = Done (Ok (GrantedAs id))
 confirmed id latch_reply.Waiting = Early
 confirmed id latch_reply.Gone = Done (Err refusal.Purged)
 confirmed id reply = Wrong
 
 -- what the reply to an obtain of this form leads to
-abbrev pub obtained : ℕ → LatchForm → LatchReply → Program (Result Obtained Refusal)
+abbrev pub obtained : ℕ → LatchForm → LatchReply → Program (Result Requested Refusal)
 obtained latch form (latch_reply.Granted id) = Done (Ok (GrantedAs id))
 obtained latch form_of.Conditional (latch_reply.NotNow id) = Done (Err (refusal.NotNow id))
 obtained latch form_of.Waiting (latch_reply.Queued id) =
@@ -62,7 +62,7 @@ obtained latch (form_of.Posted e) (latch_reply.Queued id) = Done (Ok (PendingAs 
 obtained latch form reply = Wrong
 
 -- obtain: a request for a latch. One of the Waiting form that is queued waits until it is confirmed
-abbrev pub obtain : Setup → ℕ → ℕ → Mode → LatchForm → Call (Result Obtained Refusal)
+abbrev pub obtain : Setup → ℕ → ℕ → Mode → LatchForm → Call (Result Requested Refusal)
 obtain c latch requestor mode form kept =
     unless_refused (obtain_refusal c latch requestor mode form kept)
     (Do Latches (op_on.Latch (latch_op.Obtain latch requestor mode form)) (λ h. on_latch h.entry.reply (obtained latch form)))
@@ -70,14 +70,14 @@ obtain c latch requestor mode form kept =
 -- ---- check
 
 -- what the reply to a confirm says of a request
-abbrev pub checked : LatchReply → Program Standing
+abbrev pub checked : LatchReply → Program RequestState
 checked (latch_reply.Granted id) = Done Holds
 checked latch_reply.Waiting = Done Waits
 checked latch_reply.Gone = Done IsOut
 checked reply = Wrong
 
 -- check: how the request of this number stands at its latch
-abbrev pub check_latch : ℕ → ℕ → Call Standing
+abbrev pub check_latch : ℕ → ℕ → Call RequestState
 check_latch latch id kept = Do Latches (op_on.Latch (latch_op.Confirm latch id)) (λ h. on_latch h.entry.reply checked)
 
 -- ---- release

@@ -13,7 +13,7 @@ use Rattle.mv_calls.specs.Events as events
 use Rattle.mv_calls.specs.Events.{Entering, Finding}
 use Rattle.mv_calls.specs.Keeping.{Kept}
 use Rattle.mv_calls.specs.LatchCalls as latches
-use Rattle.mv_calls.specs.LatchCalls.{Obtained, Standing, Counts}
+use Rattle.mv_calls.specs.LatchCalls.{Requested, RequestState, Counts}
 use Rattle.mv_calls.specs.Pauses as pauses
 use Rattle.mv_calls.specs.Pauses.{Gift, Reached}
 use Rattle.mv_calls.specs.Posts as posts
@@ -66,8 +66,8 @@ Answer (TryRelease token expected code) = Result Reached Refusal
 Answer (Transfer current target code) = Result (Option Gift) Refusal
 Answer (Deallocate token) = Result (Unit {0}) Refusal
 Answer (TestElement element) = ElementState
-Answer (Obtain latch requestor mode form) = Result Obtained Refusal
-Answer (CheckLatch latch id) = Standing
+Answer (Obtain latch requestor mode form) = Result Requested Refusal
+Answer (CheckLatch latch id) = RequestState
 Answer (ReleaseLatch latch id conditional) = Result ℕ Refusal
 Answer (Purge requestor) = Counts
 Answer (EndOfJob requestor block code) = Counts

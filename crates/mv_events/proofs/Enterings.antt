@@ -12,7 +12,7 @@ use Rattle.mv_calls.specs.declared.table.Table.{Table}
 use Rattle.mv_calls.specs.Events.{Entering, EnteredAt, WasComplete, event_requestor, freed, entered, counted, event_posted, with_latch}
 use Rattle.mv_calls.specs.Events.{post_event}
 use Rattle.mv_calls.specs.Keeping.{nothing_kept}
-use Rattle.mv_calls.specs.LatchCalls.{Obtained, GrantedAs, obtain, release_latch}
+use Rattle.mv_calls.specs.LatchCalls.{Requested, GrantedAs, obtain, release_latch}
 use Rattle.mv_calls.specs.Posts.{Posting, post}
 use Rattle.mv_calls.specs.Posts as posting
 use Rattle.mv_calls.specs.Program.{Program, Done, Call, followed}
@@ -140,15 +140,15 @@ module _ (c : Setup) (t : Table) (index : ℕ) where
   own_obtain f =
       ap (λ k. obtain c t.latch (event_requestor k) Exclusive Waiting) (sym (kept_caller (nothing_kept f.number) f.log))
 
-  abbrev IsOf : CallerFace → ℕ → (Result Obtained Refusal → Type 0) → CallerFace → Type 0
+  abbrev IsOf : CallerFace → ℕ → (Result Requested Refusal → Type 0) → CallerFace → Type 0
   IsOf f most Is g = IsServed most (obtain c t.latch (event_requestor f.number) Exclusive Waiting) Is f g
 
   -- a program whose obtain was made
-  first_part : (code most j : ℕ) (Is : Result Obtained Refusal → Type 0) (q : Program (Result Entering Refusal)) (f g h : CallerFace)
+  first_part : (code most j : ℕ) (Is : Result Requested Refusal → Type 0) (q : Program (Result Entering Refusal)) (f g h : CallerFace)
       → (s : IsOf f most Is g) → Runs j (with_latch c t index code s.answer (keeps g)) q g h
       → Runs (most + j) (post_event c t index code (keeps f)) q f h
   first_part code most j Is q f g h s y =
-      subst (λ (o : Call (Result Obtained Refusal)). Runs (most + j) (followed o (with_latch c t index code) (keeps f)) q f h)
+      subst (λ (o : Call (Result Requested Refusal)). Runs (most + j) (followed o (with_latch c t index code) (keeps f)) q f h)
       (own_obtain f)
       (served_first most j (obtain c t.latch (event_requestor f.number) Exclusive Waiting) (with_latch c t index code) Is q f g h s y)
 
@@ -159,7 +159,7 @@ module _ (c : Setup) (t : Table) (index : ℕ) where
       serves (6 + release_cost c) (post_event c t index code) (λ a. a ≡ Err why) f g (Err why) s.made.began refl
       (runs_within (2 + 0) (6 + release_cost c) (post_event c t index code (keeps f)) (Done (Err why)) f g (omega arith)
       (first_part code 2 0 (λ a. a ≡ Err why) (Done (Err why)) f g g s
-      (subst (λ (a : Result Obtained Refusal). Runs 0 (with_latch c t index code a (keeps g)) (Done (Err why)) g g) (sym s.is)
+      (subst (λ (a : Result Requested Refusal). Runs 0 (with_latch c t index code a (keeps g)) (Done (Err why)) g g) (sym s.is)
       (runs_none (Done (Err why)) g))))
       s.made.rest
 
@@ -173,7 +173,7 @@ module _ (c : Setup) (t : Table) (index : ℕ) where
       let last = freed c t id a (keeps h) in
       let front : Runs (2 + 4) p last f h =
       first_part code 2 4 (λ b. b ≡ Ok (GrantedAs id)) last f g h s
-      (subst (λ (b : Result Obtained Refusal). Runs 4 (with_latch c t index code b (keeps g)) last g h) (sym s.is) (enters id)) in
+      (subst (λ (b : Result Requested Refusal). Runs 4 (with_latch c t index code b (keeps g)) last g h) (sym s.is) (enters id)) in
       serves (6 + release_cost c) (post_event c t index code) (λ b. b ≡ a) f j a s.made.began refl
       (runs_then 6 (release_cost c) p last (Done a) f h j front
       (served_last (release_cost c) (release_latch c t.latch id false) a IsFreed h j released))
@@ -181,13 +181,13 @@ module _ (c : Setup) (t : Table) (index : ℕ) where
 
 -- ---- the requestor of an obtain is the task's own
 
-pub own_served : (c : Setup) (t u : Table) (k : ℕ) (a b : Result Obtained Refusal) (f g : CallerFace) → u ≡ t → k ≡ f.number → a ≡ b
+pub own_served : (c : Setup) (t u : Table) (k : ℕ) (a b : Result Requested Refusal) (f g : CallerFace) → u ≡ t → k ≡ f.number → a ≡ b
     → IsServed 2 (obtain c u.latch (event_requestor k) Exclusive Waiting) (λ x. x ≡ a) f g
     → IsServed 2 (obtain c t.latch (event_requestor f.number) Exclusive Waiting) (λ x. x ≡ b) f g
 own_served c t u k a b f g table same is s =
     subst (λ n. IsServed 2 (obtain c t.latch (event_requestor n) Exclusive Waiting) (λ x. x ≡ b) f g) same
     (subst (λ (v : Table). IsServed 2 (obtain c v.latch (event_requestor k) Exclusive Waiting) (λ x. x ≡ b) f g) table
-    (subst (λ (r : Result Obtained Refusal). IsServed 2 (obtain c u.latch (event_requestor k) Exclusive Waiting) (λ x. x ≡ r) f g) is s))
+    (subst (λ (r : Result Requested Refusal). IsServed 2 (obtain c u.latch (event_requestor k) Exclusive Waiting) (λ x. x ≡ r) f g) is s))
 
 -- what is so of the latch and the requestor that were computed is so of the table's latch and the task's own requestor
 pub own_cause : (P : ℕ → ℕ → Type 0) (t u : Table) (k number : ℕ) → u ≡ t → k ≡ number → P u.latch (event_requestor k)

@@ -7,8 +7,7 @@ use Rattle.mv_machine.specs.declared.entry.Object.TheVariants.{Latches}
 use Rattle.mv_machine.specs.declared.entry.Op.TheVariants as op_on
 use Rattle.mv_machine.specs.declared.entry.Reply.{Reply}
 use Rattle.mv_board.specs.Faces.{CallerFace, Happened}
-use Rattle.mv_calls.specs.LatchCalls as called
-use Rattle.mv_calls.specs.LatchCalls.{check_latch, checked}
+use Rattle.mv_calls.specs.LatchCalls.{RequestState, Holds, Waits, IsOut, check_latch, checked}
 use Rattle.mv_calls.specs.Program.{Done}
 use Rattle.mv_calls.specs.Rest.{IsAtRest}
 use Rattle.mv_wait.specs.Run.{IsServed}
@@ -21,7 +20,7 @@ use Rattle.mv_latchset.specs.Obtaining.{IsAnswered}
 use Rattle.mv_latchset.specs.Replies.{HasStanding}
 use Rattle.mv_latchset.proofs.Resting.{confirm_rests}
 
-checked_by : (latch id : ℕ) (t u : CallerFace) (r : LatchReply) (s : called.Standing) → IsAnswered (Confirm latch id) r t u
+checked_by : (latch id : ℕ) (t u : CallerFace) (r : LatchReply) (s : RequestState) → IsAnswered (Confirm latch id) r t u
     → checked r ≡ Done s → IsAtRest t.log → IsServed 1 (check_latch latch id) (λ a. a ≡ s) t u
 checked_by latch id t u r s h goes rest =
     serves 1 (check_latch latch id) (λ a. a ≡ s) t u s rest refl
@@ -31,11 +30,11 @@ pub check_served : (latch id : ℕ) (t u : CallerFace) (reply : Reply) (s : Stan
     → Happened t Latches (op_on.Latch (Confirm latch id)) reply u → HasStanding reply s → IsAtRest t.log
     → IsServed 1 (check_latch latch id) (λ a. a ≡ standing_as s) t u
 check_served latch id t u reply standing.Granted h has rest =
-    checked_by latch id t u (latch_reply.Granted has.0) called.Holds
+    checked_by latch id t u (latch_reply.Granted has.0) Holds
     (subst (λ r. Happened t Latches (op_on.Latch (Confirm latch id)) r u) has.1 h) refl rest
 check_served latch id t u reply standing.Waiting h has rest =
-    checked_by latch id t u latch_reply.Waiting called.Waits
+    checked_by latch id t u latch_reply.Waiting Waits
     (subst (λ r. Happened t Latches (op_on.Latch (Confirm latch id)) r u) has h) refl rest
 check_served latch id t u reply standing.Gone h has rest =
-    checked_by latch id t u latch_reply.Gone called.IsOut
+    checked_by latch id t u latch_reply.Gone IsOut
     (subst (λ r. Happened t Latches (op_on.Latch (Confirm latch id)) r u) has h) refl rest

@@ -12,7 +12,7 @@ use Rattle.mv_machine.specs.Setup.{Setup}
 use Rattle.mv_machine.specs.System.{posts_own_ecb}
 use Rattle.mv_board.specs.Faces.{CallerFace}
 use Rattle.mv_calls.specs.Keeping.{kept_of}
-use Rattle.mv_calls.specs.LatchCalls.{Obtained, GrantedAs, PendingAs, obtain, obtain_refusal, obtained, confirmed}
+use Rattle.mv_calls.specs.LatchCalls.{Requested, GrantedAs, PendingAs, obtain, obtain_refusal, obtained, confirmed}
 use Rattle.mv_calls.specs.Program.{Program, Do, Done, on_latch, unless_refused}
 use Rattle.mv_calls.specs.Refusal.{Refusal}
 use Rattle.mv_calls.specs.Refusal as refusal
@@ -45,7 +45,7 @@ few_events (form_of.Posted e) = omega arith
 -- what is asked for, and the requestor, the mode and the form of the request
 module _ (c : Setup) (latch requestor : ℕ) (mode : Mode) (form : LatchForm) where
   -- the program behind the refusals
-  abbrev asked : Program (Result Obtained Refusal)
+  abbrev asked : Program (Result Requested Refusal)
   asked = Do Latches (op_on.Latch (Obtain latch requestor mode form)) (λ h. on_latch h.entry.reply (obtained latch form))
 
   -- nothing refuses the task's request before its event
@@ -53,14 +53,14 @@ module _ (c : Setup) (latch requestor : ℕ) (mode : Mode) (form : LatchForm) wh
   IsAllowed t = obtain_refusal c latch requestor mode form (kept_of t.number t.log) ≡ None
 
   -- a program that was run to its end behind them
-  obtain_served : (Is : Result Obtained Refusal → Type 0) (t u : CallerFace) (a : Result Obtained Refusal) → IsAllowed t
+  obtain_served : (Is : Result Requested Refusal → Type 0) (t u : CallerFace) (a : Result Requested Refusal) → IsAllowed t
       → Runs (obtain_events form) asked (Done a) t u → IsAtRest t.log → IsAtRest u.log → Is a
       → IsServed (obtain_events form) (obtain c latch requestor mode form) Is t u
   obtain_served Is t u a none runs began rest is = served_by (obtain_events form) (obtain c latch requestor mode form) Is t u asked a
       (ap (λ r. unless_refused r asked) none) runs began rest is
 
   -- refused before its event
-  pub stopped : (Is : Result Obtained Refusal → Type 0) (t : CallerFace) (why : Refusal)
+  pub stopped : (Is : Result Requested Refusal → Type 0) (t : CallerFace) (why : Refusal)
       → obtain_refusal c latch requestor mode form (kept_of t.number t.log) ≡ Some why → IsAtRest t.log → Is (Err why)
       → IsServed (obtain_events form) (obtain c latch requestor mode form) Is t t
   stopped Is t why some rest is =
@@ -81,7 +81,7 @@ module _ (c : Setup) (latch requestor : ℕ) (mode : Mode) (form : LatchForm) wh
       (keeps_quotas c (kept_of t.number t.log).requests form) some)
 
   -- granted at once
-  pub granted_served : (Is : Result Obtained Refusal → Type 0) (t u : CallerFace) (id : ℕ) → IsAllowed t
+  pub granted_served : (Is : Result Requested Refusal → Type 0) (t u : CallerFace) (id : ℕ) → IsAllowed t
       → IsAnswered (Obtain latch requestor mode form) (latch_reply.Granted id) t u → IsAtRest t.log → Is (Ok (GrantedAs id))
       → IsServed (obtain_events form) (obtain c latch requestor mode form) Is t u
   granted_served Is t u id none h began is =
@@ -91,7 +91,7 @@ module _ (c : Setup) (latch requestor : ℕ) (mode : Mode) (form : LatchForm) wh
       h refl)) began (unqueued_rests t u latch requestor mode form (latch_reply.Granted id) (λ w. refl) h began) is
 
   -- not made, since another stands in its way
-  pub not_now_served : (Is : Result Obtained Refusal → Type 0) (t u : CallerFace) (id : ℕ) → IsAllowed t → form ≡ form_of.Conditional
+  pub not_now_served : (Is : Result Requested Refusal → Type 0) (t u : CallerFace) (id : ℕ) → IsAllowed t → form ≡ form_of.Conditional
       → IsAnswered (Obtain latch requestor mode form) (latch_reply.NotNow id) t u → IsAtRest t.log → Is (Err (refusal.NotNow id))
       → IsServed (obtain_events form) (obtain c latch requestor mode form) Is t u
   not_now_served Is t u id none is_form h began is =
@@ -102,7 +102,7 @@ module _ (c : Setup) (latch requestor : ℕ) (mode : Mode) (form : LatchForm) wh
       began (unqueued_rests t u latch requestor mode form (latch_reply.NotNow id) (λ w. refl) h began) is
 
   -- queued, and a block is to be posted
-  pub pending_served : (Is : Result Obtained Refusal → Type 0) (t u : CallerFace) (id : ℕ) → IsAllowed t → IsPosted form
+  pub pending_served : (Is : Result Requested Refusal → Type 0) (t u : CallerFace) (id : ℕ) → IsAllowed t → IsPosted form
       → IsAnswered (Obtain latch requestor mode form) (latch_reply.Queued id) t u → IsAtRest t.log → Is (Ok (PendingAs id))
       → IsServed (obtain_events form) (obtain c latch requestor mode form) Is t u
   pending_served Is t u id none posted h began is =
@@ -113,7 +113,7 @@ module _ (c : Setup) (latch requestor : ℕ) (mode : Mode) (form : LatchForm) wh
       began (pending_rests t u latch requestor mode form posted.0 id posted.1 h began) is
 
   -- what a confirm of one that no longer waits comes to
-  abbrev pub found_as : ℕ → Bool → Result Obtained Refusal
+  abbrev pub found_as : ℕ → Bool → Result Requested Refusal
   found_as id true = Ok (GrantedAs id)
   found_as id false = Err refusal.Purged
 
@@ -122,13 +122,13 @@ module _ (c : Setup) (latch requestor : ℕ) (mode : Mode) (form : LatchForm) wh
   found_is id false = refl
 
   -- queued, waited for and confirmed
-  pub settled_served : (Is : Result Obtained Refusal → Type 0) (t u : CallerFace) (id : ℕ) (granted : Bool) → IsAllowed t
+  pub settled_served : (Is : Result Requested Refusal → Type 0) (t u : CallerFace) (id : ℕ) (granted : Bool) → IsAllowed t
       → form ≡ form_of.Waiting → IsQueuedAndSettled (Obtain latch requestor mode form) latch id t granted u → IsAtRest t.log
       → Is (found_as id granted) → IsServed (obtain_events form) (obtain c latch requestor mode form) Is t u
   settled_served Is t u id granted none waits q began is =
       let v = q.waiting in
       let s = q.settled in
-      let confirm : Program (Result Obtained Refusal) =
+      let confirm : Program (Result Requested Refusal) =
       Do Latches (op_on.Latch (Confirm latch id)) (λ h. on_latch h.entry.reply (confirmed id)) in
       obtain_served Is t u (found_as id granted) none
       (runs_within 2 (obtain_events form) asked (Done (found_as id granted)) t u

@@ -21,7 +21,7 @@ use Rattle.mv_wait.proofs.LatchSteps.{latch_runs}
 use Rattle.mv_wait.proofs.Runs.{runs_then, runs_within, serves}
 use Rattle.mv_latchset.specs.declared.releasing.ReleaseLatchRefusal.{ReleaseLatchRefusal}
 use Rattle.mv_latchset.specs.declared.releasing.ReleaseLatchRefusal.TheVariants as refused
-use Rattle.mv_latchset.specs.Answers.{release_answer}
+use Rattle.mv_latchset.specs.Answers.{freed_answer}
 use Rattle.mv_latchset.specs.Obtaining.{IsAnswered}
 use Rattle.mv_latchset.specs.Releasing.{IsReleasedBy}
 use Rattle.mv_latchset.specs.Replies.{release_reply}
@@ -93,11 +93,11 @@ module _ (c : Setup) (latch id : ℕ) (conditional : Bool) where
   -- why a release was refused is its reply
   pub refusal_served : (t u : CallerFace) (why : ReleaseLatchRefusal) (result : Result ℕ ReleaseLatchRefusal) → result ≡ Err why
       → IsAnswered (Release latch id conditional) (release_reply (Err why)) t u → IsPossible c u.number u.log u.told → IsAtRest t.log
-      → IsServed (release_cost c) (release_latch c latch id conditional) (λ a. a ≡ release_answer result) t u
-  refusal_served t u refused.Gone result is h may began = gone_served (λ a. a ≡ release_answer result) t u h began
-      (sym (ap release_answer is))
-  refusal_served t u refused.StillWaiting result is h may began = waiting_served (λ a. a ≡ release_answer result) t u
-      (waits_conditionally c t u latch id conditional h may) h began (sym (ap release_answer is))
+      → IsServed (release_cost c) (release_latch c latch id conditional) (λ a. a ≡ freed_answer result) t u
+  refusal_served t u refused.Gone result is h may began = gone_served (λ a. a ≡ freed_answer result) t u h began
+      (sym (ap freed_answer is))
+  refusal_served t u refused.StillWaiting result is h may began = waiting_served (λ a. a ≡ freed_answer result) t u
+      (waits_conditionally c t u latch id conditional h may) h began (sym (ap freed_answer is))
 
   pub refusal_is_by : (t u : CallerFace) (why : ReleaseLatchRefusal) (result : Result ℕ ReleaseLatchRefusal) → result ≡ Err why
       → IsAnswered (Release latch id conditional) (release_reply (Err why)) t u → IsPossible c u.number u.log u.told

@@ -7,7 +7,7 @@ ghost use Rattle.mv_board.specs.Faces.{IsOf};
 ghost use Rattle.mv_calls.specs.LatchCalls.{release_latch};
 ghost use Rattle.mv_calls.specs.Rest.{IsAtRest};
 ghost use Rattle.mv_wait.specs.Run.{IsServed};
-ghost use Rattle.mv_latchset.specs.Answers.{release_answer};
+ghost use Rattle.mv_latchset.specs.Answers.{freed_answer};
 ghost use Rattle.mv_latchset.specs.Releasing.{IsReleasedBy};
 
 use crate::replies::released_in;
@@ -50,7 +50,7 @@ pub fn release_latch<R: Wait>(
     requires latch { token.latch < station.now.config.latches }
     requires left { release_cost station.now.config ≤ task.old.left }
     ensures served { IsServed (release_cost station.now.config)
-        (release_latch station.now.config token.latch token.id conditional) (λ a. a ≡ release_answer result) task.old task.new }
+        (release_latch station.now.config token.latch token.id conditional) (λ a. a ≡ freed_answer result) task.old task.new }
     ensures causes { IsReleasedBy station.now.config token.latch token.id conditional task.old result task.new }
 {
     let reply = station.event(

@@ -15,14 +15,13 @@ use Rattle.mv_machine.specs.Replies.{NamesUpTo}
 use Rattle.mv_machine.specs.Setup.{Setup, element_owner}
 use Rattle.mv_board.specs.Faces.{CallerFace, Happened, IsSame, is_given as gives}
 use Rattle.mv_calls.specs.Keeping.{kept_of}
-use Rattle.mv_calls.specs.Pauses.{Gift, paused, resumed, is_others_token}
-use Rattle.mv_calls.specs.Pauses as program
+use Rattle.mv_calls.specs.Pauses.{Gift, gift_of, paused, resumed, is_others_token}
 use Rattle.mv_calls.specs.Program.{Done}
 use Rattle.mv_calls.specs.Rest.{no_waits, waits_from, waits_after}
 use Rattle.mv_wait.specs.Run.{Went, Runs}
 use Rattle.mv_wait.proofs.Runs.{same_then, went_log, went_none, went_then, runs_then}
 use Rattle.mv_wait.proofs.Steps.{element_runs, looked_runs, waits_one}
-use Rattle.mv_pause.specs.Answers.{gift_of}
+use Rattle.mv_pause.specs.Answers.{gift_as}
 use Rattle.mv_pause.specs.Pausing.{pause_own, resume_own, IsPausedOwn, IsPauseMade, IsPausing, MayPause}
 use Rattle.mv_pause.specs.Replies.{HappenedOn, SaysGiven}
 use Rattle.mv_pause.specs.declared.pausing.Given.{Given}
@@ -68,14 +67,14 @@ says_given r e = absurd (false≢true e)
 pub pausing_ends : (c : Setup) (token : Token) (t0 t u : CallerFace) (code next : ℕ) (result : Given) → IsPausing c token t0 t
     → Happened t (Element token.element) (op_on.Element (Resume token.generation)) (reply_of.Element (element_reply.Given code next)) u
     → IsPossible c u.number u.log u.told → NamesUpTo 262143 (reply_of.Element (element_reply.Given code next))
-    → gift_of result ≡ program.gift_of token.element code next
+    → gift_as result ≡ gift_of token.element code next
     → IsPausedOwn token t0 (Ok result) u
 pausing_ends c token t0 t u code next result p h possible low e =
     let n = token.element in
     let op = op_on.Element (Pause token.generation) in
     let resume = op_on.Element (Resume token.generation) in
     let reply = reply_of.Element (element_reply.Given code next) in
-    let whole = Done (Ok (program.gift_of n code next)) in
+    let whole = Done (Ok (gift_of n code next)) in
     let is : next ≡ token.generation + 1 =
     gives_next c t u n token.generation (Resume token.generation) code next (resume_gives token.generation code next) h possible in
     record {

@@ -26,8 +26,8 @@ allocate_answer (Ok t) = Ok t
 allocate_answer (Err why) = Err refusal.NoElement
 
 -- what a pause is given: the release code, and the next token
-abbrev pub gift_of : Given → Gift
-gift_of g = record { code = g.code; next = g.next }
+abbrev pub gift_as : Given → Gift
+gift_as g = record { code = g.code; next = g.next }
 
 -- why a pause is refused
 abbrev pub pause_refused : PauseRefusal → Refusal
@@ -36,7 +36,7 @@ pause_refused (pause_refusal.Spent now) = refusal.Spent now
 
 -- a pause's answer: what it is given, or why it did not pause
 abbrev pub pause_answer : Result Given PauseRefusal → Result Gift Refusal
-pause_answer (Ok g) = Ok (gift_of g)
+pause_answer (Ok g) = Ok (gift_as g)
 pause_answer (Err why) = Err (pause_refused why)
 
 -- a release says whether it came before its pause or woke it
@@ -71,7 +71,7 @@ transfer_refused transfer_refusal.TargetAlready = refusal.TargetAlready
 -- a transfer's answer: with a current token what its pause is given, without one nothing
 abbrev pub transfer_answer : Result (Option Given) TransferRefusal → Result (Option Gift) Refusal
 transfer_answer (Ok None) = Ok None
-transfer_answer (Ok (Some g)) = Ok (Some (gift_of g))
+transfer_answer (Ok (Some g)) = Ok (Some (gift_as g))
 transfer_answer (Err why) = Err (transfer_refused why)
 
 -- why a deallocate is refused

@@ -9,11 +9,10 @@ ghost use Rattle.mv_machine.specs.Limits.{highest_generation};
 ghost use Rattle.mv_board.specs.Faces.{CallerFace, IsOf};
 ghost use Rattle.mv_board.specs.declared.watch.Watch.TheVariants as watch;
 ghost use Rattle.mv_calls.specs.Keeping.{kept_of};
-ghost use Rattle.mv_calls.specs.Pauses.{pause, is_others_token};
-ghost use Rattle.mv_calls.specs.Pauses as program;
+ghost use Rattle.mv_calls.specs.Pauses.{gift_of, pause, is_others_token};
 ghost use Rattle.mv_calls.specs.Rest.{IsAtRest};
 ghost use Rattle.mv_wait.specs.Run.{IsServed};
-ghost use Rattle.mv_pause.specs.Answers.{gift_of, pause_answer, IsLow};
+ghost use Rattle.mv_pause.specs.Answers.{gift_as, pause_answer, IsLow};
 ghost use Rattle.mv_pause.specs.Pausing.{IsCurrent, IsGiven, IsPauseCause, IsPausedOwn, IsPauseMade, IsPausing, MayPause};
 ghost use Rattle.mv_pause.specs.Replies.{HappenedOn};
 
@@ -175,7 +174,7 @@ fn begin_own<R: Wait>(
 
 // What a pause with this element answers.
 fn with_token(element: u32, gift: Gift) -> Given
-    ensures { gift_of result ≡ program.gift_of element gift.code gift.next }
+    ensures { gift_as result ≡ gift_of element gift.code gift.next }
 {
     Given {
         code: gift.code,

@@ -14,7 +14,7 @@ use Rattle.mv_deck.specs.declared.deck.Step.TheVariants.{Print, Use, Free, Count
 use Rattle.mv_plan.specs.Jobs.{job_at}
 use Rattle.mv_deck.specs.EndCode.{not_run}
 use Rattle.mv_calls.specs.Keeping.{nothing_kept}
-use Rattle.mv_calls.specs.LatchCalls.{Obtained, GrantedAs, PendingAs, Counts, obtain, release_latch}
+use Rattle.mv_calls.specs.LatchCalls.{Requested, GrantedAs, PendingAs, Counts, obtain, release_latch}
 use Rattle.mv_calls.specs.Pauses.{token_of, allocate, pause, release, deallocate}
 use Rattle.mv_calls.specs.Posts.{post}
 use Rattle.mv_calls.specs.Program.{Program, Call, followed, accepted, for_each, finished, wrong}
@@ -96,7 +96,7 @@ scheduling c initiators deck =
 -- ---- an initiator runs the jobs that it is given
 
 -- the number of a request that is granted. A request that waits for a post is not foreseen
-abbrev pub granted_as : {A : Type 0} → (ℕ → Call A) → Obtained → Call A
+abbrev pub granted_as : {A : Type 0} → (ℕ → Call A) → Requested → Call A
 granted_as f (GrantedAs id) = f id
 granted_as f (PendingAs id) = wrong
 

@@ -2,7 +2,7 @@
 use Rattle.std.proofs.Common.{◌≡◌, ℕ, List, [], ◌∷◌, map, Option, Some, None, Result, Ok, Err, false, refl, ap}
 use Rattle.mv_calls.specs.declared.table.Table.{Table}
 use Rattle.mv_calls.specs.Events.{Entering, EnteredAt, WasComplete}
-use Rattle.mv_calls.specs.LatchCalls.{Obtained, GrantedAs, PendingAs, Standing, Holds, Waits, IsOut}
+use Rattle.mv_calls.specs.LatchCalls.{Requested, GrantedAs, PendingAs, RequestState, Holds, Waits, IsOut}
 use Rattle.mv_calls.specs.Pauses.{Gift, Reached, CameEarly, WokeIt}
 use Rattle.mv_calls.specs.Posts.{Posting}
 use Rattle.mv_calls.specs.Posts as posting
@@ -22,7 +22,7 @@ use Rattle.mv_script.specs.Costs.{Asked, service_of}
 use Rattle.mv_script.specs.Run.{word_in}
 use Rattle.mv_script.specs.Script.{is_obtain}
 use Rattle.mv_script.specs.Tasks.{requests_with}
-use Rattle.mv_runscript.specs.Answered as answered
+use Rattle.mv_runscript.specs.Answered.{posted_as}
 
 -- slots are those that their codes are
 pub slots_again : (slots : List WaitSlot) → map slot_with (slots_of slots) ≡ slots
@@ -31,7 +31,7 @@ slots_again (slot.Complete code ∷ slots) = ap (λ rest. slot.Complete code ∷
 slots_again (slot.Open ∷ slots) = ap (λ rest. slot.Open ∷ rest) (slots_again slots)
 
 -- a post's answer does not depend on the exit that it started
-pub posted_is : (p : Posting) → posted p ≡ answered.posted (post_answer p)
+pub posted_is : (p : Posting) → posted p ≡ posted_as (post_answer p)
 posted_is posting.Posted = refl
 posted_is (posting.Woke exit) = refl
 posted_is (posting.Already code) = refl
@@ -79,11 +79,11 @@ reached_none : (r : Reached) → word_in (reached r) ≡ None
 reached_none CameEarly = refl
 reached_none WokeIt = refl
 
-obtained_none : (got : Obtained) → word_in (obtained got) ≡ None
+obtained_none : (got : Requested) → word_in (obtained got) ≡ None
 obtained_none (GrantedAs id) = refl
 obtained_none (PendingAs id) = refl
 
-standing_none : (s : Standing) → word_in (standing s) ≡ None
+standing_none : (s : RequestState) → word_in (standing s) ≡ None
 standing_none Holds = refl
 standing_none Waits = refl
 standing_none IsOut = refl

@@ -10,7 +10,7 @@ use Rattle.mv_script.specs.declared.answer.Answer.{Answer}
 use Rattle.mv_script.specs.Answered.{posted}
 use Rattle.mv_wait.specs.declared.posting.PostAnswer.{PostAnswer}
 use Rattle.mv_wait.specs.Answers.{post_answer}
-use Rattle.mv_runscript.specs.Answered as answered
+use Rattle.mv_runscript.specs.Answered.{posted_as}
 use Rattle.mv_runscript.proofs.Answers.{posted_is}
 use Rattle.mv_wait.proofs.Compose.{runs_followed}
 use Rattle.mv_wait.proofs.Runs.{runs_none, runs_within, serves, served_runs}
@@ -55,8 +55,8 @@ served_with {A} {most} {call} {f} {a} {reply} {t} {u} is s =
 
 -- a post, whichever exit it started
 pub served_post : {most : ℕ} {call : Call Posting} {outcome : PostAnswer} {reply : Answer} {t u : CallerFace}
-    → reply ≡ answered.posted outcome → IsServed most call (λ p. post_answer p ≡ outcome) t u
+    → reply ≡ posted_as outcome → IsServed most call (λ p. post_answer p ≡ outcome) t u
     → IsServed most call (λ p. posted p ≡ reply) t u
 served_post {most} {call} {outcome} {reply} {t} {u} is s =
     served_so most most call (λ p. post_answer p ≡ outcome) (λ p. posted p ≡ reply) t u (omega arith)
-    (λ p same. posted_is p ∙ ap answered.posted same ∙ sym is) s
+    (λ p same. posted_is p ∙ ap posted_as same ∙ sym is) s

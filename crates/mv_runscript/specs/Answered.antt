@@ -5,7 +5,7 @@ use Rattle.mv_script.specs.declared.answer.Answer.{Answer}
 use Rattle.mv_script.specs.declared.answer.Answer.TheVariants as answer
 
 -- the answer of a POST
-abbrev pub posted : PostAnswer → Answer
-posted post_answer.Posted = answer.Posted
-posted post_answer.Woke = answer.Woke
-posted (post_answer.Already code) = answer.AlreadyPosted code
+abbrev pub posted_as : PostAnswer → Answer
+posted_as post_answer.Posted = answer.Posted
+posted_as post_answer.Woke = answer.Woke
+posted_as (post_answer.Already code) = answer.AlreadyPosted code

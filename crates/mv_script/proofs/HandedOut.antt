@@ -15,7 +15,7 @@ use Rattle.mv_machine.proofs.Lists.{all_append, all_push, all_front, all_back}
 use Rattle.mv_calls.specs.declared.table.Table.{Table}
 use Rattle.mv_calls.specs.Events.{Entering, EnteredAt, WasComplete, Finding, first_event_requestor}
 use Rattle.mv_calls.specs.Keeping.{Kept, kept_from, nothing_kept}
-use Rattle.mv_calls.specs.LatchCalls.{Obtained, GrantedAs, PendingAs}
+use Rattle.mv_calls.specs.LatchCalls.{Requested, GrantedAs, PendingAs}
 use Rattle.mv_calls.specs.Program.{Program, Heard, IsDoneOn, followed, finished, entries}
 use Rattle.mv_calls.specs.Refusal.{Refusal}
 use Rattle.mv_calls.specs.Refusal as refusal
@@ -58,7 +58,7 @@ use Rattle.mv_script.proofs.Tries.{calls_good}
 abbrev AreOthers : Table → List (Option Asked) → Type 0
 AreOthers t requests = AllByRecursion (IfThere (λ (a : Asked). IsOther t a.latch)) requests
 
-obtained_other : (t : Table) (latch : ℕ) (a : Result Obtained Refusal) → IsOther t latch
+obtained_other : (t : Table) (latch : ℕ) (a : Result Requested Refusal) → IsOther t latch
     → IfThere (λ (b : Asked). IsOther t b.latch) (request_in latch a)
 obtained_other t latch (Ok (GrantedAs id)) o = o
 obtained_other t latch (Ok (PendingAs id)) o = o

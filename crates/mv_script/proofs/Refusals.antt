@@ -17,7 +17,7 @@ use Rattle.mv_calls.specs.declared.table.Table.{Table}
 use Rattle.mv_calls.specs.Events.{Entering, Finding, EnteredAt, WasComplete, event_requestor, freed, entered, counted, event_posted}
 use Rattle.mv_calls.specs.Events.{with_latch, post_event, handed_out, indexed, slot_found, next_event}
 use Rattle.mv_calls.specs.Keeping.{Kept}
-use Rattle.mv_calls.specs.LatchCalls.{Obtained, GrantedAs, PendingAs, confirmed, obtained, obtain, release_latch}
+use Rattle.mv_calls.specs.LatchCalls.{Requested, GrantedAs, PendingAs, confirmed, obtained, obtain, release_latch}
 use Rattle.mv_calls.specs.Posts.{Posting, post}
 use Rattle.mv_calls.specs.Posts as posting
 use Rattle.mv_calls.specs.Program.{Do, Done, Heard, IsDoneOn, on_latch, unless_refused, followed, finished}
@@ -56,7 +56,7 @@ answers_so P a answer hs w h = subst P (done_is a hs answer w).1 h
 
 module _ (c : Setup) (t : Table) where
   -- the latch, which there is
-  module _ (requestor : ℕ) (answer : Result Obtained Refusal) where
+  module _ (requestor : ℕ) (answer : Result Requested Refusal) where
     by_confirm : (id : ℕ) (reply : Reply) (hs : List Heard) → IsDoneOn (on_latch reply (confirmed id)) hs answer
         → IfRefused RefusesPost answer
     by_confirm id (reply_of.Latch (latch_reply.Granted same)) hs w = answers_so (IfRefused RefusesPost) (Ok (GrantedAs id)) answer hs w tt
@@ -135,7 +135,7 @@ module _ (c : Setup) (t : Table) where
     when_posted index id posting.Posted kept hs w = when_read index id kept hs w
     when_posted index id (posting.Woke exit) kept hs w = when_read index id kept hs w
 
-    when_obtained : (index code : ℕ) (o : Result Obtained Refusal) (kept : Kept) (hs : List Heard)
+    when_obtained : (index code : ℕ) (o : Result Requested Refusal) (kept : Kept) (hs : List Heard)
         → IsDoneOn (with_latch c t index code o kept) hs answer → IfRefused RefusesPost o → IfRefused RefusesPost answer
     when_obtained index code (Ok (GrantedAs id)) kept hs w h =
         let cut = cut_followed (post c (event_block t index) code) (event_posted c t index id) kept hs answer w in

@@ -1,7 +1,7 @@
 -- What a call of a script answers, by what the service answered.
 use Rattle.std.specs.Prelude.{ℕ, map, Option, Some, None, Result, Ok, Err}
 use Rattle.mv_calls.specs.Events.{Entering, EnteredAt, WasComplete, Finding}
-use Rattle.mv_calls.specs.LatchCalls.{Obtained, GrantedAs, PendingAs, Standing, Holds, Waits, IsOut, Counts}
+use Rattle.mv_calls.specs.LatchCalls.{Requested, GrantedAs, PendingAs, RequestState, Holds, Waits, IsOut, Counts}
 use Rattle.mv_calls.specs.Pauses.{Gift, Reached, CameEarly, WokeIt}
 use Rattle.mv_calls.specs.Posts.{Posting}
 use Rattle.mv_calls.specs.Posts as posting
@@ -72,12 +72,12 @@ reached CameEarly = answer.Early
 reached WokeIt = answer.Woke
 
 -- an obtain; its number is not told
-abbrev pub obtained : Obtained → Answer
+abbrev pub obtained : Requested → Answer
 obtained (GrantedAs id) = answer.Granted
 obtained (PendingAs id) = answer.Pending
 
 -- how a request stands
-abbrev pub standing : Standing → Answer
+abbrev pub standing : RequestState → Answer
 standing Holds = answer.Granted
 standing Waits = answer.Waiting
 standing IsOut = answer.Gone

@@ -4,7 +4,7 @@ use Rattle.std.specs.Prelude.{option_and_then, unwrap_or, Result, Ok, Err, if◌
 use Rattle.mv_machine.specs.Setup.{Setup}
 use Rattle.mv_calls.specs.declared.table.Table.{Table}
 use Rattle.mv_calls.specs.Keeping.{nothing_kept}
-use Rattle.mv_calls.specs.LatchCalls.{Obtained, GrantedAs, PendingAs}
+use Rattle.mv_calls.specs.LatchCalls.{Requested, GrantedAs, PendingAs}
 use Rattle.mv_calls.specs.Program.{Program, followed, finished}
 use Rattle.mv_calls.specs.Program as program
 use Rattle.mv_calls.specs.Refusal.{Refusal}
@@ -43,7 +43,7 @@ lacks_request requests (Some k) = is_none (request_at requests k)
 -- ---- one call
 
 -- the request that an obtain of this latch got
-abbrev pub request_in : ℕ → Result Obtained Refusal → Option Asked
+abbrev pub request_in : ℕ → Result Requested Refusal → Option Asked
 request_in latch (Ok (GrantedAs id)) = Some (record { latch = latch; id = id })
 request_in latch (Ok (PendingAs id)) = Some (record { latch = latch; id = id })
 request_in latch (Err why) = None

@@ -15,7 +15,7 @@ use Rattle.mv_machine.specs.declared.entry.Op.TheVariants as op_on
 use Rattle.mv_machine.specs.declared.entry.Reply.TheVariants as reply_of
 use Rattle.mv_machine.specs.Setup.{Setup, element_owner}
 use Rattle.mv_board.specs.Faces.{CallerFace, Happened}
-use Rattle.mv_calls.specs.Endings.{close_all, closed, used_elements}
+use Rattle.mv_calls.specs.Endings.{behind_close, close_all, used_elements}
 use Rattle.mv_calls.specs.Keeping.{Kept, kept_of, kept_after, nothing_kept}
 use Rattle.mv_calls.specs.LatchCalls.{Counts}
 use Rattle.mv_calls.specs.Pauses.{is_others_token}
@@ -34,7 +34,7 @@ pub closes_used : (n : ℕ) (t u : CallerFace) → (keeps t).in_use n ≡ true
     → Happened t (Element n) (op_on.Element (Close ((keeps t).generation n))) (reply_of.Element Closed) u → ClosesOne n t u
 closes_used n t u is h = λ p.
     subst (λ (b : Bool). Runs (length (cond b (n ∷ []) [])) (close_all (keeps t) (cond b (n ∷ []) []) p) p t u) (sym is)
-    (element_runs (closed p) p t u n (Close ((keeps t).generation n)) Closed h refl)
+    (element_runs (behind_close p) p t u n (Close ((keeps t).generation n)) Closed h refl)
 
 -- its token is the task's own, and current
 pub own_token : (c : Setup) (t : CallerFace) (token : Token) → element_owner c token.element ≡ t.number
@@ -64,7 +64,7 @@ one_more : (kept then : Kept) (n : ℕ) (ns : List ℕ) (p : Program Counts) (b 
     → close_all then (cond d (n ∷ []) []) (close_all kept ns p) ≡ close_all kept (cond b (n ∷ ns) ns) p
 one_more kept then n ns p true d is same =
     ap (λ (x : Bool). close_all then (cond x (n ∷ []) []) (close_all kept ns p)) is
-    ∙ ap (λ g. Do (Element n) (op_on.Element (Close g)) (λ h. on_element h.entry.reply (closed (close_all kept ns p)))) same
+    ∙ ap (λ g. Do (Element n) (op_on.Element (Close g)) (λ h. on_element h.entry.reply (behind_close (close_all kept ns p)))) same
 one_more kept then n ns p false d is same = ap (λ (x : Bool). close_all then (cond x (n ∷ []) []) (close_all kept ns p)) is
 
 -- how many those are

@@ -6,7 +6,7 @@ use Rattle.mv_calls.specs.LatchCalls.{obtain}
 use Rattle.mv_calls.specs.Pauses.{Gift, pause}
 use Rattle.mv_calls.specs.Program.{Call, accepted, finished, wrong}
 use Rattle.mv_calls.specs.Waits.{wait}
-use Rattle.mv_pause.specs.Answers.{gift_of}
+use Rattle.mv_pause.specs.Answers.{gift_as}
 use Rattle.mv_plan.specs.SpoolTasks.{granted_as}
 use Rattle.mv_wait.specs.Answers.{slots_of}
 use Rattle.mv_work.specs.declared.need.Blocks.{Blocks}
@@ -51,7 +51,7 @@ need_events (need.Latch latch requestor mode) = 2
 abbrev pub answer_of : Got → Answer
 answer_of (got.Slots s) = Slots (slots_of (take s.len s.of))
 answer_of (got.Code code) = Slots (Some code ∷ [])
-answer_of (got.Given given) = Gave (gift_of given)
+answer_of (got.Given given) = Gave (gift_as given)
 answer_of (got.Granted token) = Holds token.id
 
 -- what follows how blocks were found; any other answer is foreseen nowhere

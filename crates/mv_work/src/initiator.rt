@@ -3,7 +3,7 @@
 ghost use Rattle.std.specs.Prelude.{◌≡◌, ◌<◌, ◌≤◌, ◌+◌, ◌-◌, suc, [], false, length, option_map, IfOk};
 ghost use Rattle.std.specs.List.{AllByRecursion};
 ghost use Rattle.mv_deck.specs.EndCode.{not_run};
-ghost use Rattle.mv_pause.specs.Answers.{gift_of};
+ghost use Rattle.mv_pause.specs.Answers.{gift_as};
 ghost use Rattle.mv_plan.specs.Jobs.{job_at};
 ghost use Rattle.mv_plan.specs.SpoolSetup.{jobs_limit, initiator as plan_initiator};
 ghost use Rattle.mv_plan.specs.SpoolTasks.{job_named as named_by};
@@ -214,7 +214,7 @@ fn on_given<R: Wait, G: Gate>(
     requires token { IsOwn index given.next }
     requires rests { IsResting station.now (initiator_due (jobs_of deck.now) notes.old.given.items (stage.Pause round)) task.old }
     ensures { InitiatorComes station.now (jobs_of deck.now) index notes.new
-        (initiator_left station.now.config (jobs_of deck.now) index notes.old (stage.Pause round) (Gave (gift_of given)))
+        (initiator_left station.now.config (jobs_of deck.now) index notes.old (stage.Pause round) (Gave (gift_as given)))
         task.old result task.new }
 {
     if given.code == NO_JOB {

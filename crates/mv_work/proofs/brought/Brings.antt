@@ -14,7 +14,7 @@ use Rattle.mv_machine.specs.declared.entry.VolumeOp.TheVariants as volume_op
 use Rattle.mv_machine.specs.declared.entry.VolumeReply.TheVariants as volume_reply
 use Rattle.mv_machine.specs.Setup.{Setup}
 use Rattle.mv_calls.specs.Keeping.{Kept, kept_after}
-use Rattle.mv_calls.specs.LatchCalls.{Obtained, GrantedAs, PendingAs, release_latch}
+use Rattle.mv_calls.specs.LatchCalls.{Requested, GrantedAs, PendingAs, release_latch}
 use Rattle.mv_calls.specs.Pauses.{Gift, gift_of, pause, paused, resumed, is_others_token}
 use Rattle.mv_calls.specs.Program.{Program, Do, Done, Early, Wrong, Heard, Call, Says, left, entries, going_on, unrefused, followed}
 use Rattle.mv_calls.specs.Program.{accepted, wrong, on_element, on_volume, unless_refused}
@@ -126,7 +126,7 @@ module _ {B : Type 0} (S : Past → B → Type 0) where
 
   -- ---- the calls of steps
 
-  pub granted_then : (t : Past) (f : ℕ → Call B) (o : Obtained) (k : Kept) → ((id : ℕ) → Brings S t (f id k))
+  pub granted_then : (t : Past) (f : ℕ → Call B) (o : Requested) (k : Kept) → ((id : ℕ) → Brings S t (f id k))
       → Brings S t (granted_as f o k)
   granted_then t f (GrantedAs id) k each = each id
   granted_then t f (PendingAs id) k each = tt

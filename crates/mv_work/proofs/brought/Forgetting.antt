@@ -8,7 +8,7 @@ use Rattle.mv_machine.specs.Setup.{Setup}
 use Rattle.mv_machine.specs.System.{with_at}
 use Rattle.mv_calls.specs.Endings.{end_of_job}
 use Rattle.mv_calls.specs.Keeping.{Kept, kept_after}
-use Rattle.mv_calls.specs.LatchCalls.{Obtained, GrantedAs, PendingAs, Counts, obtain, release_latch}
+use Rattle.mv_calls.specs.LatchCalls.{Requested, GrantedAs, PendingAs, Counts, obtain, release_latch}
 use Rattle.mv_calls.specs.Pauses.{Gift, allocate, pause, deallocate}
 use Rattle.mv_calls.specs.Posts.{post}
 use Rattle.mv_calls.specs.Program.{Program, Do, Done, Early, Wrong, Heard, Says, left, Call, going_on, followed, accepted, finished, wrong}
@@ -61,7 +61,7 @@ module _ {X Y B : Type 0} (f : X → Call B) (g : Y → Call B) where
       → ((a : A) → followed (x a) f ≡ followed (y a) g) → followed (accepted call x) f ≡ followed (accepted call y) g
   accepted_both call x y each = accepted_by f call x (λ a. followed (y a) g) each ∙ sym (accepted-assoc call y g)
 
-  granted_both : (x : ℕ → Call X) (y : ℕ → Call Y) → ((id : ℕ) → followed (x id) f ≡ followed (y id) g) → (o : Obtained)
+  granted_both : (x : ℕ → Call X) (y : ℕ → Call Y) → ((id : ℕ) → followed (x id) f ≡ followed (y id) g) → (o : Requested)
       → followed (granted_as x o) f ≡ followed (granted_as y o) g
   granted_both x y each (GrantedAs id) = each id
   granted_both x y each (PendingAs id) = refl

@@ -20,7 +20,7 @@ use Rattle.mv_machine.specs.declared.entry.VolumeReply.TheVariants as volume_rep
 use Rattle.mv_machine.specs.Setup.{Setup}
 use Rattle.mv_calls.specs.Endings.{end_of_job}
 use Rattle.mv_calls.specs.Keeping.{Kept}
-use Rattle.mv_calls.specs.LatchCalls.{Obtained, obtain, obtain_refusal, obtained, confirmed, release_latch, let_go, purge, purged}
+use Rattle.mv_calls.specs.LatchCalls.{Requested, obtain, obtain_refusal, obtained, confirmed, release_latch, let_go, purge, purged}
 use Rattle.mv_calls.specs.Pauses.{allocate, open_lowest, lowest_free, opened, deallocate, closed, is_others_token}
 use Rattle.mv_calls.specs.Posts.{Posting, Posted, Woke, Already, posting, posted_next, each_posted, post_within, post, wake_posted}
 use Rattle.mv_calls.specs.Posts.{wakes_posted}
@@ -125,7 +125,7 @@ confirmed_quiet id r = tt
 
 pub obtain_quiet : (c : Setup) (latch requestor : ℕ) (mode : Mode) (kept : Kept) → Quiet (obtain c latch requestor mode Waiting kept)
 obtain_quiet c latch requestor mode kept =
-    let p : Program (Result Obtained Refusal) =
+    let p : Program (Result Requested Refusal) =
     Do Latches (op_on.Latch (latch_op.Obtain latch requestor mode Waiting)) (λ h. on_latch h.entry.reply (obtained latch Waiting)) in
     let q : Quiet p = (tt, λ h. by_reply h.entry.reply) in
     quiet_unless (obtain_refusal c latch requestor mode Waiting kept) p q where

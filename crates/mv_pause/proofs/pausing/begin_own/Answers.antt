@@ -12,7 +12,7 @@ use Rattle.mv_calls.specs.Refusal as refusal
 use Rattle.mv_calls.specs.Rest.{no_waits, waits_from, waits_after}
 use Rattle.mv_wait.proofs.Runs.{runs_within}
 use Rattle.mv_wait.proofs.Steps.{element_runs, waits_one, still_at_rest}
-use Rattle.mv_pause.specs.Answers.{gift_of}
+use Rattle.mv_pause.specs.Answers.{gift_as}
 use Rattle.mv_pause.specs.Pausing.{pause_own}
 use Rattle.mv_pause.specs.Replies.{SaysBegun}
 use Rattle.mv_pause.proofs.Answering.{pause_says, says_idle, pause_is_current, current_is_not_spent, pause_gives, gives_next}
@@ -35,7 +35,7 @@ returns-in-Given g c =
     let gift = c.in-Given.gift in
     let op = op_on.Element (Pause token.generation) in
     let reply = reply_of.Element (Given gift.code gift.next) in
-    let whole = Done (Ok (gift_of c.with_token.result)) in
+    let whole = Done (Ok (gift_as c.with_token.result)) in
     let h = subst (λ r. Happened t (Element n) op r u) c.in-Given.ensures c.event-reply.ensures.event in
     let next = gives_next c.args.station.now.config t u n token.generation (Pause token.generation) gift.code gift.next
     (pause_gives token.generation gift.code gift.next) h c.event-reply.ensures.possible in

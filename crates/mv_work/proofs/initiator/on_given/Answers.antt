@@ -4,7 +4,7 @@ use Rattle.mv_deck.specs.Deck.{JobData}
 use Rattle.mv_deck.specs.declared.deck.Job.{Job}
 use Rattle.mv_plan.specs.Jobs.{job_at}
 use Rattle.mv_plan.specs.SpoolTasks.{Named, job_named}
-use Rattle.mv_pause.specs.Answers.{gift_of, deallocate_answer}
+use Rattle.mv_pause.specs.Answers.{gift_as, deallocate_answer}
 use Rattle.mv_work.specs.declared.running.Named as code
 use Rattle.mv_calls.specs.Program.{wrong}
 use Rattle.mv_work.specs.Initiating.{given_then, job_then, jobs_of_records, rounds_after}
@@ -31,14 +31,14 @@ named_place deck number named is = (named_is (length deck) number (named_of name
 pub returns-then-given-eq-NO_JOB : goal.returns-then-given-eq-NO_JOB
 returns-then-given-eq-NO_JOB g c = record {
   come = ended c.args.station.now.config (jobs_of c.args.deck.now) c.args.index c.args.round c.args.notes.now.noted.jobs
-      (gift_of c.args.given) (deallocate_answer c.deallocate.result) c.if-given-eq-NO_JOB.true c.deallocate.ensures.served;
+      (gift_as c.args.given) (deallocate_answer c.deallocate.result) c.if-given-eq-NO_JOB.true c.deallocate.ensures.served;
 }
 
 pub returns-in_err-named : goal.returns-in_err-named
 returns-in_err-named g c = rw c.from_residual.ensures (
     comes_nowhere c.args.task.now
     (unnamed c.args.station.now.config (jobs_of c.args.deck.now) c.args.index c.args.round c.args.notes.now.noted.jobs
-    (gift_of c.args.given) c.if-given-eq-NO_JOB.false (named_so c.args.deck.now c.args.given.code _ c.in_err-named.ensures))
+    (gift_as c.args.given) c.if-given-eq-NO_JOB.false (named_so c.args.deck.now c.args.given.code _ c.in_err-named.ensures))
     c.requires.rests.quiet)
 
 pub returns-then-round-jobs : goal.returns-then-round-jobs
@@ -46,13 +46,13 @@ returns-then-round-jobs g c =
     let count = job_count c.args.deck.now in
     comes_nowhere c.args.task.now
     (last_named c.args.station.now.config (jobs_of c.args.deck.now) c.args.index c.args.round c.args.notes.now.noted.jobs
-    (gift_of c.args.given) c.if-given-eq-NO_JOB.false (named_so c.args.deck.now c.args.given.code _ c.in_ok-named.ensures) (omega arith))
+    (gift_as c.args.given) c.if-given-eq-NO_JOB.false (named_so c.args.deck.now c.args.given.code _ c.in_ok-named.ensures) (omega arith))
     c.requires.rests.quiet
 
 -- what is left to do, by whether the job was given before
 left_is : (g : bound.Over) (c : After-index g) (b : Bool) → c.index.result.now ≡ b
     → given_then c.args.station.now.config (jobs_of c.args.deck.now) c.args.index (length (jobs_of c.args.deck.now) - c.args.round)
-    c.args.notes.now.noted.jobs (gift_of c.args.given)
+    c.args.notes.now.noted.jobs (gift_as c.args.given)
     ≡ (if b then wrong else job_then c.args.station.now.config (jobs_of c.args.deck.now) c.args.index
     (rounds_after (jobs_of c.args.deck.now) c.args.round) c.args.notes.now.noted.jobs c.args.given.next (named_of c.in_ok-named.named))
 left_is g c b is =
@@ -63,7 +63,7 @@ left_is g c b is =
     let some = named_so c.args.deck.now c.args.given.code _ c.in_ok-named.ensures in
     let place = named_place c.args.deck.now c.args.given.code c.in_ok-named.named c.in_ok-named.ensures in
     named_now c.args.station.now.config (jobs_of c.args.deck.now) c.args.index c.args.round c.args.notes.now.noted.jobs
-    (gift_of c.args.given) c.if-given-eq-NO_JOB.false some (omega arith) between.given (omega arith) b
+    (gift_as c.args.given) c.if-given-eq-NO_JOB.false some (omega arith) between.given (omega arith) b
     (get_or_default c.args.notes.now.given.items c.in_ok-named.named.job false c.index.result.now (omega arith) ∙ sym c.index.ensures ∙ is)
 
 -- and of what is left of the jobs, its own is gone, where it was not given before
