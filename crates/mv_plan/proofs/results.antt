@@ -1,4 +1,4 @@
--- The laws.
+-- The lemmas that six laws of src/laws.rt are answered by: all but those on the configuration and on budgets.
 pub mod Closings
 pub mod Exact
 pub mod EndsPosted

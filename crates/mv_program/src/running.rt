@@ -1,5 +1,5 @@
-//! A command that runs something: what it reads, and the writing of both texts that it tells. Clauses cite specs/Program and
-//! specs/Status.
+//! A command that runs something: what it reads, and the writing of both texts that it tells. Clauses cite specs/Command,
+//! specs/Program and specs/Texts.
 
 ghost use Rattle.std.specs.Prelude.{[], ◌≡◌, ◌≢◌, ◌≤◌, length, true, false, Some, IfOk, IfErr, IfSome};
 ghost use Rattle.mv_io.specs.Fault.{Rose};
