@@ -173,19 +173,24 @@ serves most call Is t u a began is runs rest = record {
   met = runs.went.met;
 }
 
+-- what a call that was served did, from the caller as it came to the caller as it left
+pub went_of : {A : Type 0} (most : ℕ) (call : Call A) (Is : A → Type 0) (t u : CallerFace) → (s : IsServed most call Is t u)
+    → Went s.made.events t u
+went_of most call Is t u s = record {
+  same = s.same;
+  wakes = s.made.longer.wakes;
+  logged = s.made.longer.logged;
+  told = s.made.longer.told;
+  left = s.left;
+  met = s.met;
+}
+
 -- and what was served is a run
 pub served_runs : {A : Type 0} (most : ℕ) (call : Call A) (Is : A → Type 0) (t u : CallerFace) → (s : IsServed most call Is t u)
     → Runs most (call (kept_of t.number t.log)) (Done s.answer) t u
 served_runs most call Is t u s = record {
   events = s.made.events;
-  went = record {
-    same = s.same;
-    wakes = s.made.longer.wakes;
-    logged = s.made.longer.logged;
-    told = s.made.longer.told;
-    left = s.left;
-    met = s.met;
-  };
+  went = went_of most call Is t u s;
   few = s.made.few;
   says = s.made.done.says;
   rest = s.made.done.done;
