@@ -116,11 +116,13 @@ pub next_left : (b : BoardFace) (callers before left rest : List CallerFace) (x 
 next_left b callers before left rest x order whole first =
     next_in_order b 0 before x rest (subst (AreInOrder b 0) (sym whole ∙ ap (λ xs. before ++ xs) first) order)
 
--- what is said of their parts is said of them
-pub each_in : (c : Setup) (h : List Entry) (xs : List CallerFace) → AllByRecursion (IsPartIn c h) (map part_of xs)
-    → AllByRecursion (IsIn c h) xs
-each_in c h [] all = tt
-each_in c h (x ∷ xs) all = (all.0, each_in c h xs all.1)
+-- what is said of their parts, as they came back to the board, is said of them
+pub each_in : {b d : BoardFace} {ps : List Part} (h : List Entry) (xs : List CallerFace) → b ≡ d → ps ≡ map part_of xs
+    → AllByRecursion (IsPartIn b.config h) ps → AllByRecursion (IsIn d.config h) xs
+each_in {d = d} h xs board back all = go xs (rw (board, back) at all) where
+  go : (ys : List CallerFace) → AllByRecursion (IsPartIn d.config h) (map part_of ys) → AllByRecursion (IsIn d.config h) ys
+  go [] each = tt
+  go (y ∷ ys) each = (each.0, go ys each.1)
 
 pub logs_of_parts : (xs : List CallerFace) → map log_of (map part_of xs) ≡ map (λ k. k.log) xs
 logs_of_parts [] = refl

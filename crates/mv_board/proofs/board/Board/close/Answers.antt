@@ -1,11 +1,10 @@
-use Rattle.std.proofs.Common.{◌≡◌, ◌+◌, List, [], ◌++◌, length, map, sym, ap, ◌∙◌, subst, arith, append-nil}
+use Rattle.std.proofs.Common.{◌≡◌, ◌+◌, [], ◌++◌, length, map, sym, ap, ◌∙◌, subst, arith, append-nil}
 use Rattle.std.proofs.lemmas.List.{nil_from_length}
 use Rattle.std.specs.Vec.Iter.{into_iter_items}
 use Rattle.mv_machine.specs.Legal.{after}
 use Rattle.mv_machine.specs.Merge.{merged}
 use Rattle.mv_machine.specs.Parts.{KeepsBudgets}
-use Rattle.std.specs.List.{AllByRecursion}
-use Rattle.mv_board.specs.Faces.{BoardFace, CallerFace, IsOf, IsPartIn, AreHeld, part_of}
+use Rattle.mv_board.specs.Faces.{BoardFace, IsOf, AreHeld, part_of}
 use Rattle.mv_board.proofs.Ends.{next_left, each_in, logs_of_parts}
 use Rattle.mv_board.proofs.board.Board.close.Goals as goal
 
@@ -23,13 +22,14 @@ take_back-requires-clause-next c =
     let back = ap length i.back in
     omega arith
 
--- behind the last caller all have come back
-all_back : (c : goal.After-done) → c.loop-caller.yielded ≡ c.args.callers.items
+-- behind the last caller the parts of all have come back
+all_back : (c : goal.After-done) → c.loop-caller.closing.back ≡ map part_of c.args.callers.items
 all_back c =
     let i = c.loop-caller.invariant in
     let none : into_iter_items c.loop-caller.caller-iterator ≡ [] =
     (let gone = c.in-None.ensures.steps in let count = i.count in nil_from_length _ (omega arith)) in
-    sym (append-nil c.loop-caller.yielded) ∙ (ap (λ xs. c.loop-caller.yielded ++ xs) (sym none) ∙ i.yielded)
+    i.back
+    ∙ ap (map part_of) (sym (append-nil c.loop-caller.yielded) ∙ (ap (λ xs. c.loop-caller.yielded ++ xs) (sym none) ∙ i.yielded))
 
 pub returns-clause-budgets : goal.returns-clause-budgets
 returns-clause-budgets c =
@@ -37,17 +37,11 @@ returns-clause-budgets c =
 
 pub returns-clause-merged : goal.returns-clause-merged
 returns-clause-merged c =
-    c.done.ensures.merged
-    ∙ (ap (λ ps. merged (map (λ p. p.log) ps)) c.loop-caller.invariant.back
-    ∙ (ap merged (logs_of_parts c.loop-caller.yielded) ∙ ap (λ (xs : List CallerFace). merged (map (λ f. f.log) xs)) (all_back c)))
+    c.done.ensures.merged ∙ (ap (λ ps. merged (map (λ p. p.log) ps)) (all_back c) ∙ ap merged (logs_of_parts c.args.callers.items))
 
 pub returns-clause-callers : goal.returns-clause-callers
 returns-clause-callers c =
-    let i = c.loop-caller.invariant in
-    let history = c.done.result.history.coming in
-    each_in c.args.self.config history c.args.callers.items
-    (subst (AllByRecursion (IsPartIn c.args.self.config history)) (i.back ∙ ap (map part_of) (all_back c))
-    (subst (λ (b : BoardFace). AllByRecursion (IsPartIn b.config history) c.loop-caller.closing.back) i.board c.done.ensures.callers))
+    each_in c.done.result.history.coming c.args.callers.items c.loop-caller.invariant.board (all_back c) c.done.ensures.callers
 
 pub returns-clause-volumes : goal.returns-clause-volumes
 returns-clause-volumes c =

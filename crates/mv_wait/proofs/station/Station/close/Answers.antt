@@ -1,11 +1,10 @@
-use Rattle.std.proofs.Common.{◌≡◌, List, [], ◌++◌, length, map, sym, ap, ◌∙◌, subst, arith, append-nil}
+use Rattle.std.proofs.Common.{◌≡◌, [], ◌++◌, length, map, sym, ap, ◌∙◌, subst, arith, append-nil}
 use Rattle.std.proofs.lemmas.List.{nil_from_length}
-use Rattle.std.specs.List.{AllByRecursion}
 use Rattle.std.specs.Vec.Iter.{into_iter_items}
 use Rattle.mv_machine.specs.Legal.{after}
 use Rattle.mv_machine.specs.Merge.{merged}
 use Rattle.mv_machine.specs.Parts.{KeepsBudgets}
-use Rattle.mv_board.specs.Faces.{BoardFace, CallerFace, AreInOrder, IsOf, IsPartIn, AreHeld, part_of}
+use Rattle.mv_board.specs.Faces.{BoardFace, CallerFace, AreInOrder, IsOf, AreHeld, part_of}
 use Rattle.mv_board.proofs.Ends.{next_in_order, each_in, logs_of_parts}
 use Rattle.mv_wait.proofs.station.Station.close.Goals as goal
 
@@ -22,13 +21,14 @@ take_back-requires c =
       next = omega arith;
     }
 
--- behind the last task all have come back
-all_back : (c : goal.After-drop-self-inside) → c.loop-task.yielded ≡ c.args.tasks.items
+-- behind the last task the parts of all have come back
+all_back : (c : goal.After-drop-self-inside) → c.loop-task.closing.back ≡ map part_of c.args.tasks.items
 all_back c =
     let i = c.loop-task.invariant in
     let none : into_iter_items c.loop-task.task-iterator ≡ [] =
     (let gone = c.in-None.ensures.steps in let count = i.count in nil_from_length _ (omega arith)) in
-    sym (append-nil c.loop-task.yielded) ∙ (ap (λ xs. c.loop-task.yielded ++ xs) (sym none) ∙ i.yielded)
+    i.back
+    ∙ ap (map part_of) (sym (append-nil c.loop-task.yielded) ∙ (ap (λ xs. c.loop-task.yielded ++ xs) (sym none) ∙ i.yielded))
 
 pub returns-clause-budgets : goal.returns-clause-budgets
 returns-clause-budgets c = subst (λ (b : BoardFace). KeepsBudgets b.config c.done.result.history.coming) c.loop-task.invariant.board
@@ -36,17 +36,11 @@ returns-clause-budgets c = subst (λ (b : BoardFace). KeepsBudgets b.config c.do
 
 pub returns-clause-merged : goal.returns-clause-merged
 returns-clause-merged c =
-    c.done.ensures.merged
-    ∙ (ap (λ ps. merged (map (λ p. p.log) ps)) c.loop-task.invariant.back
-    ∙ (ap merged (logs_of_parts c.loop-task.yielded) ∙ ap (λ (xs : List CallerFace). merged (map (λ k. k.log) xs)) (all_back c)))
+    c.done.ensures.merged ∙ (ap (λ ps. merged (map (λ p. p.log) ps)) (all_back c) ∙ ap merged (logs_of_parts c.args.tasks.items))
 
 pub returns-clause-callers : goal.returns-clause-callers
 returns-clause-callers c =
-    let i = c.loop-task.invariant in
-    let history = c.done.result.history.coming in
-    each_in c.args.self.config history c.args.tasks.items
-    (subst (AllByRecursion (IsPartIn c.args.self.config history)) (i.back ∙ ap (map part_of) (all_back c))
-    (subst (λ (b : BoardFace). AllByRecursion (IsPartIn b.config history) c.loop-task.closing.back) i.board c.done.ensures.callers))
+    each_in c.done.result.history.coming c.args.tasks.items c.loop-task.invariant.board (all_back c) c.done.ensures.callers
 
 pub returns-clause-volumes : goal.returns-clause-volumes
 returns-clause-volumes c =
