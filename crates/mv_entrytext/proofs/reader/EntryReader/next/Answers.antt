@@ -1,12 +1,9 @@
 -- An entry in front of the rest is the one on its first line.
-use Rattle.std.proofs.Common.{◌∷◌, ◌≡◌, true, Some, [], subst, refl, arith}
-use Rattle.std.proofs.lemmas.List.{length-append}
+use Rattle.std.proofs.Common.{◌∷◌, ◌≡◌, true, Some, subst, arith}
 use Rattle.mv_entrytext.specs.declared.version.Version.{Version}
-use Rattle.mv_entrytext.specs.EntryText.{entry_read, entry_text}
-use Rattle.mv_entrytext.specs.Journal.{EntryOf}
+use Rattle.mv_entrytext.specs.EntryText.{entry_read}
 use Rattle.mv_entrytext.proofs.InFront.{says, shorter_behind, stands_before}
-use Rattle.mv_entrytext.proofs.Passes.{at_next}
-use Rattle.mv_entrytext.proofs.ReadOn.{entry_taken}
+use Rattle.mv_entrytext.proofs.ReadOn.{entry_next}
 use Rattle.mv_entrytext.proofs.reader.EntryReader.next.Goals as goal
 
 pub returns-in-Some-clause-read : goal.returns-in-Some-clause-read
@@ -14,22 +11,10 @@ returns-in-Some-clause-read c = λ v bytes setup es ns h.
     let call = c.in-Some.found.0 in
     let e = c.in-Some.found.1 in
     let rest = c.args.self.now.rest.now in
-    let behind = c.in-Some.behind.now in
-    let front : entry_read true v rest ≡ Some ((call, e), 10 ∷ behind) =
-    subst (λ (w : Version). entry_read true w rest ≡ Some ((call, e), 10 ∷ behind)) h.version c.in-Some.ensures in
-    let here = stands_before v rest behind call e front bytes _ setup es ns h.stands in
-    let read = says v rest behind call e front in
-    let taken = entry_taken v es ns (entry_text call e) call e h.calls read in
-    record {
-      read = record {
-        version = h.version;
-        stands = at_next (EntryOf call e) here read refl;
-        count = omega (arith, h.count, length-append es (e ∷ []));
-        calls = taken.1;
-        short = h.short;
-      };
-      ranges = taken.0;
-    }
+    let behind = c.in-Some.behind in
+    let front : entry_read true v rest ≡ Some ((call, e), 10 ∷ behind.now) =
+    subst (λ (w : Version). entry_read true w rest ≡ Some ((call, e), 10 ∷ behind.now)) h.version c.in-Some.ensures in
+    entry_next behind h (stands_before v rest behind.now call e front bytes _ setup es ns h.stands) (says v rest behind.now call e front)
 
 pub returns-in-Some-clause-shorter : goal.returns-in-Some-clause-shorter
 returns-in-Some-clause-shorter c =

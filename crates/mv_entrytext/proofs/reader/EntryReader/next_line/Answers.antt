@@ -1,13 +1,11 @@
 -- Where the reader stands decides: what the next line says, or that it is cut off, or what stands behind END.
-use Rattle.std.proofs.Common.{◌≡◌, ◌∷◌, [], Some, subst, refl, sym, ◌∙◌, arith}
-use Rattle.std.proofs.lemmas.List.{length-append}
+use Rattle.std.proofs.Common.{◌≡◌, Some, subst, refl, sym, ◌∙◌}
 use Rattle.mv_line.specs.declared.fault.LineRefusal.TheVariants.{Has}
 use Rattle.mv_entrytext.specs.declared.version.Version.{Version}
 use Rattle.mv_entrytext.specs.Draft.{kind_of_form}
-use Rattle.mv_entrytext.specs.Journal.{EntryOf}
 use Rattle.mv_entrytext.specs.Lines.{AtEntries}
-use Rattle.mv_entrytext.proofs.Passes.{line_split, at_next, at_form, at_cut, at_wrong_count, at_end, at_end_fault, at_over}
-use Rattle.mv_entrytext.proofs.ReadOn.{read_in, entry_taken}
+use Rattle.mv_entrytext.proofs.Passes.{line_split, at_form, at_cut, at_wrong_count, at_end, at_end_fault, at_over}
+use Rattle.mv_entrytext.proofs.ReadOn.{read_in, entry_next}
 use Rattle.mv_entrytext.proofs.reader.EntryReader.next_line.Goals as goal
 
 pub returns-in_default-clause-read : goal.returns-in_default-clause-read
@@ -22,21 +20,8 @@ returns-then-count-self-clause-read c = λ v bytes setup es ns h.
 
 pub returns-in-Ok-Entry-clause-read : goal.returns-in-Ok-Entry-clause-read
 returns-in-Ok-Entry-clause-read c = λ v bytes setup es ns h.
-    let call = c.in-Ok-Entry.call in
-    let e = c.in-Ok-Entry.entry in
-    let here = line_split h.stands c.split_part.ensures.parts c.split_part.ensures.shorter c.in-Some.is in
-    let read = read_in v bytes setup es ns _ _ _ _ h c.in-Ok-Entry.ensures c.in-Ok-Entry.field-0-is in
-    let taken = entry_taken v es ns _ call e h.calls read in
-    record {
-      read = record {
-        version = h.version;
-        stands = at_next (EntryOf call e) here read refl;
-        count = omega (arith, h.count, length-append es (e ∷ []));
-        calls = taken.1;
-        short = h.short;
-      };
-      ranges = taken.0;
-    }
+    entry_next _ h (line_split h.stands c.split_part.ensures.parts c.split_part.ensures.shorter c.in-Some.is)
+    (read_in v bytes setup es ns _ _ _ _ h c.in-Ok-Entry.ensures c.in-Ok-Entry.field-0-is)
 
 pub returns-in-Ok-clause-read : goal.returns-in-Ok-clause-read
 returns-in-Ok-clause-read c = λ v bytes setup es ns h.
