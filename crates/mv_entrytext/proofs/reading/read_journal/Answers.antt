@@ -1,7 +1,6 @@
 -- The reader is one entry further with each that is kept.
-use Rattle.std.proofs.Common.{ℕ, List, [], ◌∷◌, ◌++◌, Option, sym, subst, arith}
+use Rattle.std.proofs.Common.{ℕ, List, [], ◌∷◌, ◌++◌, Option, None, sym, subst, arith}
 use Rattle.mv_machine.specs.declared.entry.Entry.{Entry}
-use Rattle.mv_entrytext.specs.Fault.{IsTextIn}
 use Rattle.mv_entrytext.specs.Reader.{IsReadTo, IsNextOf}
 use Rattle.mv_entrytext.proofs.reading.read_journal.Goals as goal
 
@@ -33,23 +32,14 @@ entries-preserved c =
       first = c.entries.invariant.first;
     }
 
+-- nothing came: the entries that are kept are all, and the text is theirs
+ended : (c : goal.After-number)
+    → IsNextOf c.in_ok-version.field-0.version c.args.bytes.now c.entries.config c.entries.entries.items c.entries.calls.items None
+    c.next.new.self
+ended c = rw c.in-Ok-None.field-0-is at (c.in-Ok-None.ensures.read _ _ _ _ _ c.entries.invariant.read)
+
 pub returns-in-Ok-None-clause-journal : goal.returns-in-Ok-None-clause-journal
-returns-in-Ok-None-clause-journal c =
-    let v = c.in_ok-version.field-0.version in
-    let bytes = c.args.bytes.now in
-    let config = c.entries.config in
-    let es = c.entries.entries.items in
-    let ns = c.entries.calls.items in
-    (subst (λ (o : Option (Option ℕ × Entry)). IsNextOf v bytes config es ns o c.next.new.self) c.in-Ok-None.field-0-is
-    (c.in-Ok-None.ensures.read v bytes config es ns c.entries.invariant.read)).journal
+returns-in-Ok-None-clause-journal c = (ended c).journal
 
 pub returns-in-Ok-None-clause-text : goal.returns-in-Ok-None-clause-text
-returns-in-Ok-None-clause-text c =
-    let v = c.in_ok-version.field-0.version in
-    let bytes = c.args.bytes.now in
-    let config = c.entries.config in
-    let es = c.entries.entries.items in
-    let ns = c.entries.calls.items in
-    subst (λ (n : ℕ). IsTextIn n bytes config es ns) (sym c.number.ensures)
-    (subst (λ (o : Option (Option ℕ × Entry)). IsNextOf v bytes config es ns o c.next.new.self) c.in-Ok-None.field-0-is
-    (c.in-Ok-None.ensures.read v bytes config es ns c.entries.invariant.read)).text
+returns-in-Ok-None-clause-text c = rw c.number.ensures (ended c).text
