@@ -6,13 +6,13 @@
 -- moment   the machine, the points and the entries so far, behind a front of a walk where no task is lost, with all that is
 --          known then (places/Moments)
 -- lost     a task whose wait ended too soon, or that met a reply that nothing foresees (Astray); it makes no further move
--- row      how one initiator, its idle block, its element and the scheduler fit together (standing/Row)
--- ledger   the codes that were released, given and are in elements, and the jobs that initiators were named (places/Ledger)
+-- row      how one initiator, its idle block, its element and the scheduler fit together (standing/Initiators)
+-- ledger   the codes that were released, given and are in elements, and the jobs that initiators were named (places/Deeds)
 -- code     what the scheduler releases: 0 closes an initiator, another names a job; its mark says that the job is not to be run
 -- end      the code that a job ends with, posted to its own block, and by that block's exit to the scheduler's and the writer's
 -- done     a job's done block is its own: posted first, extended before the job is released, so that its exit posts the other two
 -- hand     the latches that a running job holds; grip: what is said of an initiator's requests by its point (latches/Hands)
--- due      what a running job has still to add to a volume (volumes/Dues)
+-- due      what a running job has still to add to a volume (volumes/Totals)
 -- landing  the points that may follow an initiator's event (points/Lands)
 -- sound    so as it may be, by the task's own steps alone; foreseen: not Astray, by what the others do
 --

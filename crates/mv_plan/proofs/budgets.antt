@@ -1,4 +1,2 @@
 -- How many events each task may make.
-pub mod Rests
-pub mod InitiatorBudgets
 pub mod Within

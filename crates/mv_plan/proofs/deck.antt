@@ -1,14 +1,12 @@
 -- Decks and the configuration.
 pub mod Plans
 pub mod Planned
-pub mod Events
 pub mod Codes
 pub mod Ends
 pub mod Setup
 pub mod Valid
 pub use Plans.*
 pub use Planned.*
-pub use Events.*
 pub use Codes.*
 pub use Ends.*
 pub use Setup.*

@@ -1,18 +1,258 @@
--- No task makes more events than its budget: what it has made and what it may still make are no more than that, behind each
--- entry of a walk.
-use Rattle.mv_plan.proofs.Words.{◌≡◌, ℕ, suc, ◌+◌, ◌*◌, ◌≤◌, List, [], ◌∷◌, ◌++◌, length, slice_index, Some, sym, subst, arith, Entry}
-use Rattle.mv_plan.proofs.Words.{Object, Op, Reply, of, opening, asks, left_in, JobData, Follows, spool_setup, task_budgets, reader}
-use Rattle.mv_plan.proofs.Words.{scheduler, initiator, writer, task_program, EcbReply, common_steps, Program, cases_eq, inl, inr}
-use Rattle.mv_deck.specs.Weight.{after_parts, all_events}
-use Rattle.mv_plan.proofs.deck.Events as events
-use Rattle.mv_plan.proofs.deck.{IsPlanned}
+-- How many events each task may still make, by its point, and that each event takes one of them; so no task makes more than its
+-- budget, behind each entry of a walk.
+use Rattle.mv_plan.proofs.Words.{◌≡◌, ℕ, suc, ◌+◌, ◌*◌, ◌≤◌, nat_le, true, false, cond, List, [], ◌∷◌, ◌++◌, length, Option, arith}
+use Rattle.mv_plan.proofs.Words.{length-map, length-map-range_with_len, Reply, After, Step, JobData, complete_count, EcbReply, common_steps}
+use Rattle.mv_plan.proofs.Words.{rules, ◌<◌, ◌==◌, Bool, if◌then◌else◌, refl, ap, list_any, eq-eqb, ne_eqb, job_at, slice_index, Some, sym}
+use Rattle.mv_plan.proofs.Words.{subst, Entry, Object, Op, of, opening, asks, left_in, Follows, spool_setup, task_budgets, reader}
+use Rattle.mv_plan.proofs.Words.{scheduler, initiator, writer, task_program, Program, cases_eq, inl, inr}
+use Rattle.mv_plan.proofs.deck.{after_parts, steps_events, all_events, IsPlanned, after_parts_are, all_events_are}
+use Rattle.mv_plan.proofs.points.{Point, At, TooSoon, ReaderAt, Entering, entering_from, reader_goes, Arming, Settling, Stage, Dispatching}
+use Rattle.mv_plan.proofs.points.{Dismissing, Awaited, ForEntry, ForEnds, ForIdle, ToDismiss, SchedulerAt, Waits, Extends, Clears, Releases}
+use Rattle.mv_plan.proofs.points.{awaited_blocks, arming_first, ends_at, stage_at, found_at, settling_from, arming_from, scheduler_goes}
+use Rattle.mv_plan.proofs.points.{WriterAt, Keeping, writing_from, end_found, lowest_at, writer_goes, on_armed_keeps, on_settled_keeps}
+use Rattle.mv_plan.proofs.points.{lowest_keeps, Running, Hand, empty_hand, InitiatorAt, Opening, Offering, Pausing, Resuming, Obtaining}
+use Rattle.mv_plan.proofs.points.{Confirming, Freeing, Reading, Writing, Scanning, Rescanning, Purging, EndingJob, EndingForScheduler}
+use Rattle.mv_plan.proofs.points.{EndingForWriter, Closing, initiator_goes, rounds_from, steps_at, running, job_start, given_at, InJob}
+use Rattle.mv_plan.proofs.points.{given_lands, named_is, reader_program, scheduler_program, writer_program, initiator_program, program_at}
+use Rattle.mv_plan.proofs.lists.{sum_to, sum_front, sum_change}
 use Rattle.mv_plan.specs.StayingWithin.{IsWithinBudgets}
-use Rattle.mv_plan.proofs.points.{At, Dispatching, reader_program, scheduler_program, writer_program, initiator_program, Point, program_at}
 use Rattle.mv_plan.proofs.walks.{Who, is_reader, is_scheduler, is_initiator, is_writer, who, Stood, stood, Points, start_points, Move}
 use Rattle.mv_plan.proofs.walks.{reads, schedules, initiates, writes, walk_keeps}
-use Rattle.mv_plan.proofs.budgets.Rests.{reader_rest, reader_pays, entering_rest, scheduler_rest, scheduler_pays, stage_starts}
-use Rattle.mv_plan.proofs.budgets.Rests.{jobs_rest_is, writer_rest, writer_pays, writing_rest}
-use Rattle.mv_plan.proofs.budgets.InitiatorBudgets.{initiator_rest, initiator_pays, all_rounds}
+use Rattle.mv_deck.specs.Weight as heavy
+
+-- ---- the reader: one event for each job
+
+-- what the reader may still do
+abbrev pub reader_rest : Point ReaderAt → ℕ
+reader_rest (At (Entering j more)) = suc more
+reader_rest p = 0
+
+-- where it begins
+pub entering_rest : (j more : ℕ) → reader_rest (entering_from j more) ≤ more
+entering_rest j x = grind (arith, common_steps)
+
+-- each event takes one
+pub reader_pays : (x : ReaderAt) (r : Reply) → suc (reader_rest (reader_goes x r)) ≤ reader_rest (At x)
+reader_pays (Entering j more) r = grind (arith, common_steps)
+
+-- ---- the writer: two events for each job
+
+-- what the writer may still do
+abbrev pub writer_rest : Point WriterAt → ℕ
+writer_rest (At (Keeping j more ends (Arming e todo))) = suc (length todo) + suc (2 * more)
+writer_rest (At (Keeping j more ends (Settling e todo found))) = suc (length todo) + 2 * more
+writer_rest p = 0
+
+module _ (n : ℕ) where
+  -- where it begins with a job
+  pub writing_rest : (j more : ℕ) (ends : List ℕ) → writer_rest (writing_from n j more ends) ≤ 2 * more
+  writing_rest j x ends = grind (arith, common_steps)
+
+  -- where it has found an end, or ended too soon
+  end_rest : (j more : ℕ) (ends : List ℕ) (found : List (Option ℕ)) → writer_rest (end_found n j more ends found) ≤ 2 * more
+  end_rest j more ends found = elim (nat_le 1 (complete_count found)) as
+      (λ b. writer_rest (cond b (lowest_at (λ p end. writing_from n (j + 1) more (ends ++ end ∷ [])) 0 found) TooSoon) ≤ 2 * more) [
+        | true ↦ lowest_keeps (λ p. writer_rest p ≤ 2 * more) (λ p end. writing_from n (j + 1) more (ends ++ end ∷ [])) 0 found
+            (λ i end. writing_rest (j + 1) more (ends ++ end ∷ [])) (omega arith)
+        | false ↦ omega arith
+      ]
+
+  -- each event takes one
+  pub writer_pays : (x : WriterAt) (r : Reply) → suc (writer_rest (writer_goes n x r)) ≤ writer_rest (At x)
+  writer_pays x r = search (rules, on_settled_keeps, end_rest)
+
+-- ---- the scheduler
+
+module _ (n initiators : ℕ) where
+  -- what the jobs that are still to be handed out take
+  abbrev pub jobs_rest : List JobData → ℕ
+  jobs_rest [] = 0
+  jobs_rest (job ∷ jobs) = 5 + 2 * initiators + 2 * length job.after + jobs_rest jobs
+
+  -- what a stage takes
+  abbrev pub stage_rest : Stage → ℕ
+  stage_rest (Dispatching j jobs) = jobs_rest jobs + 4 * initiators
+  stage_rest (Dismissing i more) = 4 * more
+
+  -- how many blocks are waited for, and what comes behind the wait
+  abbrev block_count : Awaited → ℕ
+  block_count (ForEntry j job jobs) = 1
+  block_count (ForEnds j job jobs) = length job.after
+  block_count (ForIdle j job jobs skipped) = initiators
+  block_count (ToDismiss i more) = 1
+
+  -- what comes behind a wait
+  abbrev behind_wait : Awaited → ℕ
+  behind_wait (ForEntry j job jobs) = 2 * length job.after + (3 + 2 * initiators + (jobs_rest jobs + 4 * initiators))
+  behind_wait (ForEnds j job jobs) = 3 + 2 * initiators + (jobs_rest jobs + 4 * initiators)
+  behind_wait (ForIdle j job jobs skipped) = 2 + (jobs_rest jobs + 4 * initiators)
+  behind_wait (ToDismiss i more) = 2 + 4 * more
+
+  -- what the scheduler may still do
+  abbrev pub scheduler_rest : Point SchedulerAt → ℕ
+  scheduler_rest (At (Waits a (Arming e todo))) = suc (length todo) + (block_count a + behind_wait a)
+  scheduler_rest (At (Waits a (Settling e todo found))) = suc (length todo) + behind_wait a
+  scheduler_rest (At (Extends j job jobs skipped)) = 3 + 2 * initiators + (jobs_rest jobs + 4 * initiators)
+  scheduler_rest (At (Clears i g code after)) = 2 + stage_rest after
+  scheduler_rest (At (Releases i g code after)) = 1 + stage_rest after
+  scheduler_rest p = 0
+
+  -- so many blocks are waited for
+  blocks : (a : Awaited) → length (awaited_blocks n initiators a) ≡ block_count a
+  blocks a = grind (arith, common_steps, length-map, length-map-range_with_len)
+
+  -- where it begins a stage
+  pub stage_starts : (after : Stage) → scheduler_rest (stage_at n initiators after) ≤ stage_rest after
+  stage_starts x = grind (arith, common_steps)
+
+  -- where a job was entered
+  ends_rest : (j : ℕ) (name : List ℕ) (after : List After) (steps : List Step) (jobs : List JobData)
+      → scheduler_rest (ends_at n j (record { name = name; after = after; steps = steps }) jobs)
+      ≤ 2 * length after + (3 + 2 * initiators + (jobs_rest jobs + 4 * initiators))
+  ends_rest j name x steps jobs = grind (arith, common_steps)
+
+  -- where a wait has found enough
+  found_rest : (a : Awaited) (found : List (Option ℕ)) → scheduler_rest (found_at n a found) ≤ behind_wait a
+  found_rest (ForEntry j job jobs) found =
+      lowest_keeps (λ p. scheduler_rest p ≤ behind_wait (ForEntry j job jobs)) (λ p code. ends_at n j job jobs) 0 found
+      (λ p code. ends_rest j job.name job.after job.steps jobs) (omega arith)
+  found_rest (ForEnds j job jobs) found = omega arith
+  found_rest (ForIdle j job jobs skipped) found =
+      lowest_keeps (λ p. scheduler_rest p ≤ behind_wait (ForIdle j job jobs skipped)) _ 0 found (λ i g. omega arith) (omega arith)
+  found_rest (ToDismiss i more) found =
+      lowest_keeps (λ p. scheduler_rest p ≤ behind_wait (ToDismiss i more)) _ 0 found (λ p g. omega arith) (omega arith)
+
+  -- where blocks are still to be settled
+  settling_rest : (a : Awaited) (es : List ℕ) (found : List (Option ℕ))
+      → scheduler_rest (settling_from n a es found) ≤ length es + behind_wait a
+  settling_rest a [] found = grind (arith, common_steps, TooSoon, found_rest)
+  settling_rest a (e ∷ es) found = omega arith
+
+  -- where blocks are still to be armed
+  arming_rest : (a : Awaited) (es : List ℕ)
+      → scheduler_rest (arming_from n initiators a es) ≤ length es + (block_count a + behind_wait a)
+  arming_rest a [] = grind (arith, common_steps, initiators, settling_rest, blocks)
+  arming_rest a (e ∷ es) = omega arith
+
+  -- where a wait begins
+  first_rest : (a : Awaited) (es : List ℕ) → scheduler_rest (arming_first a es) ≤ length es + (block_count a + behind_wait a)
+  first_rest a x = grind (arith, common_steps)
+
+  -- each event takes one
+  pub scheduler_pays : (x : SchedulerAt) (r : Reply) → suc (scheduler_rest (scheduler_goes n initiators x r)) ≤ scheduler_rest (At x)
+  scheduler_pays (Waits a (Arming e todo)) r = grind (arith, common_steps, on_armed_keeps, initiators, arming_rest)
+  scheduler_pays (Waits a (Settling e todo found)) r = grind (arith, common_steps, on_settled_keeps, settling_rest)
+  scheduler_pays (Extends j job jobs skipped) (Reply.Ecb EcbReply.Armed) = search (rules, ForIdle, initiators, first_rest, blocks)
+  scheduler_pays x r = grind (arith, common_steps)
+
+  -- all jobs together
+  pub jobs_rest_is : (jobs : List JobData)
+      → jobs_rest jobs ≡ 5 * length jobs + 2 * length jobs * initiators + 2 * after_parts jobs
+  jobs_rest_is [] = omega arith
+  jobs_rest_is (job ∷ jobs) = grind (arith, common_steps, jobs_rest_is jobs)
+
+-- ---- an initiator: the events of each job that it was not named before, and those of the round in which it is
+
+-- ---- jobs that were not named before
+
+-- the events of the round of a job
+abbrev round_events : List JobData → ℕ → ℕ
+round_events deck j = 7 + steps_events (job_at deck j).steps
+
+-- whether a job was named before
+abbrev is_among : ℕ → List ℕ → Bool
+is_among j before = list_any (λ b. b == j) before
+
+-- the events of a job that was not
+abbrev round_to_come : List JobData → List ℕ → ℕ → ℕ
+round_to_come deck before j = if is_among j before then 0 else round_events deck j
+
+-- the rounds of the jobs that were not named before
+abbrev pub rounds_to_come : List JobData → List ℕ → ℕ
+rounds_to_come deck before = sum_to (length deck) (round_to_come deck before)
+
+-- naming a job takes its round from those to come
+pub round_taken : (deck : List JobData) (before : List ℕ) (j : ℕ) → j < length deck → is_among j before ≡ false
+    → rounds_to_come deck (before ++ j ∷ []) + round_events deck j ≡ rounds_to_come deck before
+round_taken deck before j lt new =
+    let change = sum_change (length deck) j (round_to_come deck before) (round_to_come deck (before ++ j ∷ [])) lt others in
+    let was : round_to_come deck before j ≡ round_events deck j = ap (λ b. if b then 0 else round_events deck j) new in
+    let is : round_to_come deck (before ++ j ∷ []) j ≡ 0 = ap (λ b. if b then 0 else round_events deck j) (own before) in omega arith where
+      own : (before : List ℕ) → is_among j (before ++ j ∷ []) ≡ true
+      own [] = rw (eq-eqb j j refl) refl
+      own (b ∷ before) = grind (arith, common_steps, own before)
+
+      same : (before : List ℕ) (m : ℕ) → (j ≡ m → ⊥) → is_among m (before ++ j ∷ []) ≡ is_among m before
+      same [] m d = rw (ne_eqb j m d) refl
+      same (b ∷ before) m d = rw (same before m d) refl
+
+      others : (m : ℕ) → (j ≡ m → ⊥) → round_to_come deck (before ++ j ∷ []) m ≡ round_to_come deck before m
+      others m d = ap (λ b. if b then 0 else round_events deck m) (same before m d)
+
+-- the rounds of all jobs
+pub all_rounds : (deck : List JobData) → rounds_to_come deck [] ≡ 7 * length deck + all_events deck
+all_rounds [] = refl
+all_rounds (job ∷ jobs) =
+    let front = sum_front (length jobs) (round_to_come (job ∷ jobs) []) in
+    let rest = all_rounds jobs in omega arith
+
+-- ---- what an initiator may still do
+
+module _ (deck : List JobData) where
+  -- behind the job that it runs
+  abbrev behind_job : Running → ℕ
+  behind_job run = 4 + rounds_to_come deck (run.before ++ run.job ∷ [])
+
+  -- what an initiator may still do
+  abbrev pub initiator_rest : Point InitiatorAt → ℕ
+  initiator_rest (At Opening) = 5 + rounds_to_come deck []
+  initiator_rest (At (Offering more before g)) = 4 + rounds_to_come deck before
+  initiator_rest (At (Pausing more before g)) = 3 + rounds_to_come deck before
+  initiator_rest (At (Resuming more before g)) = 2 + rounds_to_come deck before
+  initiator_rest (At (InJob run (Obtaining hand latch mode steps))) = 6 + (steps_events steps + behind_job run)
+  initiator_rest (At (InJob run (Confirming hand latch mode id steps))) = 5 + (steps_events steps + behind_job run)
+  initiator_rest (At (InJob run (Freeing hand latch id steps))) = 5 + (steps_events steps + behind_job run)
+  initiator_rest (At (InJob run (Reading hand volume amount steps))) = 6 + (steps_events steps + behind_job run)
+  initiator_rest (At (InJob run (Writing hand volume amount number steps))) = 5 + (steps_events steps + behind_job run)
+  initiator_rest (At (InJob run (Scanning hand volume steps))) = 6 + (steps_events steps + behind_job run)
+  initiator_rest (At (InJob run (Rescanning hand volume number steps))) = 5 + (steps_events steps + behind_job run)
+  initiator_rest (At (InJob run (Purging hand code))) = 4 + behind_job run
+  initiator_rest (At (InJob run (EndingJob code counts))) = 3 + behind_job run
+  initiator_rest (At (InJob run (EndingForScheduler code counts))) = 2 + behind_job run
+  initiator_rest (At (InJob run (EndingForWriter code counts))) = 1 + behind_job run
+  initiator_rest (At (Closing g)) = 1
+  initiator_rest p = 0
+
+  -- where a round begins
+  rounds_rest : (more : ℕ) (before : List ℕ) (g : ℕ) → initiator_rest (rounds_from more before g) ≤ 4 + rounds_to_come deck before
+  rounds_rest x before g = grind (arith, common_steps)
+
+  -- where a job's steps are to be done
+  steps_rest : (run : Running) (hand : Hand) (steps : List Step)
+      → initiator_rest (steps_at run hand steps) ≤ 4 + (steps_events steps + behind_job run)
+  steps_rest run hand [] = grind (arith, common_steps)
+  steps_rest run hand (first ∷ steps) = grind (arith, common_steps, steps_rest run hand steps)
+
+  -- where a job begins
+  start_rest : (skipped : Bool) (run : Running) (job : JobData)
+      → initiator_rest (job_start skipped run job) ≤ 4 + (steps_events job.steps + behind_job run)
+  start_rest true run job = omega arith
+  start_rest false run job = steps_rest run empty_hand job.steps
+
+  -- where a code was given
+  given_rest : (more : ℕ) (before : List ℕ) (code g : ℕ)
+      → initiator_rest (given_at deck more before code g) ≤ 1 + rounds_to_come deck before
+  given_rest more before code g =
+      given_lands (λ p. initiator_rest p ≤ 1 + rounds_to_come deck before) (omega arith) deck more before code g (λ z. omega arith)
+      (λ named left e t m.
+      let le = start_rest named.skipped (running named before (suc left) g) (job_at deck named.job) in
+      let taken = round_taken deck before named.job (named_is (length deck) code named e).0 t in omega arith)
+
+  -- each event takes one
+  pub initiator_pays : (x : InitiatorAt) (r : Reply) → suc (initiator_rest (initiator_goes deck x r)) ≤ initiator_rest (At x)
+  initiator_pays x r = grind (arith, common_steps, rounds_rest, given_rest, steps_rest)
+
+-- ---- what a task has made and may still make is within its budget
 
 -- ---- how a caller's part grows by an entry
 
@@ -35,8 +275,8 @@ module _ (deck : List JobData) (initiators : ℕ) where
   -- the budgets, task by task
   abbrev budget_of : {k : ℕ} → Who initiators k → ℕ
   budget_of (is_reader e) = length deck
-  budget_of (is_scheduler e) = 5 * length deck + 2 * length deck * initiators + 2 * after_parts deck + 4 * initiators
-  budget_of (is_initiator i lt e) = 5 + 7 * length deck + all_events deck
+  budget_of (is_scheduler e) = 5 * length deck + 2 * length deck * initiators + 2 * heavy.after_parts deck + 4 * initiators
+  budget_of (is_initiator i lt e) = 5 + 7 * length deck + heavy.all_events deck
   budget_of (is_writer e) = 2 * length deck
 
   budget_is : (k : ℕ) (w : Who initiators k) → slice_index (task_budgets deck initiators) k ≡ budget_of w
@@ -57,8 +297,8 @@ module _ (deck : List JobData) (initiators : ℕ) where
   within_start k (is_reader e) = let le = entering_rest 0 (length deck) in omega arith
   within_start k (is_scheduler e) =
       let le = stage_starts (length deck) initiators (Dispatching 0 deck) in
-      omega (arith, jobs_rest_is (length deck) initiators deck, events.after_parts_are deck)
-  within_start k (is_initiator i lt e) = omega (arith, all_rounds deck, events.all_events_are deck)
+      omega (arith, jobs_rest_is (length deck) initiators deck, after_parts_are deck)
+  within_start k (is_initiator i lt e) = omega (arith, all_rounds deck, all_events_are deck)
   within_start k (is_writer e) = let le = writing_rest (length deck) 0 (length deck) [] in omega arith
 
   -- each event takes one of what its caller may still do, and none of what the others may

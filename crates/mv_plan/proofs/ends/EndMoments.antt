@@ -1,20 +1,104 @@
--- What the traces use of a moment, and how each caller's entry adds to them. Used by the result on ends.
-use Rattle.mv_plan.proofs.Words.{◌≡◌, ℕ, ◌+◌, ◌<◌, List, length, ◌⊎◌, inl, inr, refl, ap, ◌∙◌, subst, arith, Extended}
-use Rattle.mv_plan.proofs.Words.{Entry, Ecb, Setup, System, JobData, idle, reader, scheduler, initiator, writer, done, EcbOp, Op}
-use Rattle.mv_plan.proofs.Words.{common_steps}
+-- The writer has found the end of each job before the one that it waits for, so at its end all are posted; and what the traces use of
+-- a moment, and how each caller's entry adds to them. Used by the result on ends.
+use Rattle.mv_plan.proofs.Words.{◌≡◌, ℕ, suc, ◌+◌, ◌<◌, List, [], ◌∷◌, ◌++◌, length, Option, Some, inl, inr, subst, arith, cases_lt, Entry}
+use Rattle.mv_plan.proofs.Words.{Reply, IsNext, Setup, System, moved, opening, JobData, end_for_writer, idle, reader, scheduler, initiator}
+use Rattle.mv_plan.proofs.Words.{writer, EcbOp, EcbReply, common_steps, Object, Op, Ecb, ◌⊎◌, refl, ap, ◌∙◌, Extended, done}
+use Rattle.mv_plan.proofs.points.{Point, At, Finished, Arming, Settling, WriterAt, Keeping, writing_from, end_found, writer_asks}
+use Rattle.mv_plan.proofs.points.{writer_goes, reader_asks, scheduler_asks, initiator_asks, on_armed_keeps, IsWriterAt, ReaderAt}
+use Rattle.mv_plan.proofs.points.{SchedulerAt, InitiatorAt, Offering, IsReaderAt, IsInitiatorAt, run_of, next_job, IsNotLost}
+use Rattle.mv_plan.proofs.walks.{Points, start_points, HasStanding, KeepsUnder, by_moves, entry_of, TasksStand, block}
+use Rattle.mv_plan.proofs.ends.Blocks.{IsComplete, is_moved, reader_ecb, initiator_ecb, HasEnd, idle_none, done_has, NotComplete, post_by}
+use Rattle.mv_plan.proofs.ends.Blocks.{posts_run}
+use Rattle.mv_plan.proofs.ends.Posted.{scheduler_clears, writer_clears_none, clear_is_no_post, Posted, DoneBlocks, reader_ends}
+use Rattle.mv_plan.proofs.ends.Posted.{scheduler_no_post, writer_no_post}
 use Rattle.mv_plan.proofs.deck.{IsPlanned}
-use Rattle.mv_plan.proofs.points.{Point, At, ReaderAt, reader_asks, SchedulerAt, scheduler_asks, writer_asks, InitiatorAt, Offering}
-use Rattle.mv_plan.proofs.points.{initiator_asks, IsReaderAt, IsInitiatorAt, run_of, next_job, IsNotLost}
-use Rattle.mv_plan.proofs.walks.{Points, TasksStand, KeepsUnder, by_moves, block}
 use Rattle.mv_plan.proofs.places.{RunBy}
-use Rattle.mv_plan.proofs.ends.Blocks.{HasEnd, idle_none, done_has}
-use Rattle.mv_plan.proofs.ends.SchedulerMarks.{IsMarked}
-use Rattle.mv_plan.proofs.ends.Complete.{IsComplete, NotComplete}
-use Rattle.mv_plan.proofs.ends.RightCodes.{Codes, reader_releases, scheduler_releases, initiator_releases, writer_releases}
-use Rattle.mv_plan.proofs.ends.WhoPosts.{post_by, posts_run, initiator_ecb}
-use Rattle.mv_plan.proofs.ends.Posted.{Posted, DoneBlocks, reader_ends, scheduler_no_post, scheduler_clears, writer_no_post}
-use Rattle.mv_plan.proofs.ends.Posted.{writer_clears_none, clear_is_no_post}
+use Rattle.mv_plan.proofs.ends.RightCodes.{IsMarked, Codes, reader_releases, scheduler_releases, initiator_releases, writer_releases}
 use Rattle.mv_plan.proofs.ends.Traces.{Traces, traces_next}
+
+-- the ends of all jobs below are posted to the writer
+abbrev pub HasFound : ℕ → System → Point WriterAt → Type 0
+HasFound n s (At (Keeping j more kept w)) = (k : ℕ) → k < j → IsComplete s (end_for_writer n k)
+HasFound n s (Finished kept) = (k : ℕ) → k < n → IsComplete s (end_for_writer n k)
+HasFound n s p = Unit {0}
+
+abbrev pub WriterHas : List JobData → System → Points → List Entry → Type 0
+WriterHas deck s t past = HasFound (length deck) s t.writer
+
+writing_found : (n j more : ℕ) (s : System) (kept : List ℕ) → j + more ≡ n → ((k : ℕ) → k < j → IsComplete s (end_for_writer n k))
+    → HasFound n s (writing_from n j more kept)
+writing_found n j x s kept e h = grind (arith, common_steps)
+
+one_more : (n j : ℕ) (s : System) → IsComplete s (end_for_writer n j) → ((k : ℕ) → k < j → IsComplete s (end_for_writer n k)) → (k : ℕ)
+    → k < j + 1 → IsComplete s (end_for_writer n k)
+one_more n j s last h k lt = elim
+    (cases_lt k j) [
+      | inl less ↦ h k less
+      | inr le ↦ subst (λ z. IsComplete s (end_for_writer n z))
+          (let e : j ≡ k = omega arith in e) last
+    ]
+
+settled_found : (n j more : ℕ) (s : System) (kept : List ℕ) (code : ℕ) (found : List (Option ℕ)) → found ≡ [] → j + suc more ≡ n
+    → IsComplete s (end_for_writer n j) → ((k : ℕ) → k < j → IsComplete s (end_for_writer n k))
+    → HasFound n s (end_found n j more kept (found ++ Some code ∷ []))
+settled_found n j more s kept code [] none e last h =
+    writing_found n (j + 1) more s (kept ++ code ∷ []) (omega arith) (one_more n j s last h)
+settled_found n j more s kept code (f ∷ found) none e last h = absurd (cc none)
+
+idle_elsewhere : (n i k : ℕ) → k < n → end_for_writer n k ≡ idle n i → ⊥
+idle_elsewhere n i k lt e = omega arith
+
+module _ (deck : List JobData) (initiators : ℕ) where
+  abbrev FindsIt : System → WriterAt → Reply → Type 0
+  FindsIt s (Keeping j more kept (Settling e todo found)) (Reply.Ecb (EcbReply.Complete code)) = IsComplete s e
+  FindsIt s x r = Unit {0}
+
+  finds_it : (c : Setup) (s : System) (x : WriterAt) (k p : ℕ) (r : Reply) → IsNext c s (entry_of k p (writer_asks x) r) → FindsIt s x r
+  finds_it c s x k p r n = grind (arith, common_steps)
+
+  own_found : (s s' : System) (x : WriterAt) (r : Reply) → IsWriterAt (length deck) (At x)
+      → ((b : ℕ) → IsComplete s b → IsComplete s' b) → FindsIt s x r → HasFound (length deck) s (At x)
+      → HasFound (length deck) s' (writer_goes (length deck) x r)
+  own_found s s' (Keeping j more kept (Arming e [])) r at f it h =
+      on_armed_keeps (HasFound (length deck) s') (At (Keeping j more kept (Settling (end_for_writer (length deck) j) [] []))) r
+      (λ k lt. f _ (h k lt)) tt
+  own_found s s' (Keeping j more kept (Settling e [] found)) (Reply.Ecb (EcbReply.Complete code)) at f it h =
+      settled_found (length deck) j more s' kept code found at.3 at.0 (f _ (subst (IsComplete s) at.1 it)) (λ k lt. f _ (h k lt))
+  own_found s s' x r at f it h = grind (arith, common_steps)
+
+  -- an event that clears no end for the writer
+  still_found : (s : System) (p : Point WriterAt) (k : ℕ) (o : Object) (op : Op) → IsWriterAt (length deck) p
+      → ((j : ℕ) → j < length deck → o ≡ Ecb (end_for_writer (length deck) j) → op ≡ Op.Ecb EcbOp.Clear → ⊥)
+      → HasFound (length deck) s p → HasFound (length deck) (moved s k o op) p
+  still_found s p k o op at clear h = kept s (moved s k o op) p at (λ j lt w. is_moved s k o op _ w (clear j lt)) h where
+    kept : (s z : System) (p : Point WriterAt) → IsWriterAt (length deck) p → ((j : ℕ) → j < length deck
+        → IsComplete s (end_for_writer (length deck) j) → IsComplete z (end_for_writer (length deck) j))
+        → HasFound (length deck) s p → HasFound (length deck) z p
+    kept s z (At (Keeping j more ends (Arming e todo))) at f h = λ k lt. f k (let q = at.0 in omega arith) (h k lt)
+    kept s z (At (Keeping j more ends (Settling e todo found))) at f h = grind (arith, common_steps)
+    kept s z (Finished ends) at f h = λ k lt. f k lt (h k lt)
+    kept s z p at f h = tt
+
+  pub writer_has_keeps : (c : Setup) → KeepsUnder (HasStanding deck initiators) (WriterHas deck) c deck initiators
+  writer_has_keeps c = by_moves (HasStanding deck initiators) (WriterHas deck) c deck initiators
+      (λ s t past x p r at n q h. still_found s t.writer reader (reader_asks x).0 (reader_asks x).1 q.writer
+      (λ j lt o op. clear_is_no_post (reader_ecb x EcbOp.Clear op).1) h)
+      (λ s t past x p r at n q h.
+      still_found s t.writer scheduler (scheduler_asks (length deck) x).0 (scheduler_asks (length deck) x).1 q.writer
+      (λ j lt o op. let i = scheduler_clears (length deck) x (end_for_writer (length deck) j) o op in
+      idle_elsewhere (length deck) i.0 j lt i.1) h)
+      (λ s t past i x p r lt at n q h.
+      still_found s t.writer (initiator i) (initiator_asks (length deck) i x).0 (initiator_asks (length deck) i x).1 q.writer
+      (λ j lt o op. clear_is_no_post (initiator_ecb (length deck) i x EcbOp.Clear op).1) h)
+      (λ s t past x p r at n q h. own_found s (moved s (writer initiators) (writer_asks x).0 (writer_asks x).1) x r
+      (subst (IsWriterAt (length deck)) at q.writer)
+      (λ b w. is_moved s (writer initiators) (writer_asks x).0 (writer_asks x).1 b w (λ o op. writer_clears_none x op))
+      (finds_it c s x _ p r n) (subst (HasFound (length deck) s) at h))
+
+  pub writer_has_first : (c : Setup) → WriterHas deck (opening c) (start_points deck initiators) []
+  writer_has_first c = writing_found (length deck) 0 (length deck) (opening c) [] (omega arith) (λ k lt. absurd (omega arith))
+
+-- ---- what the traces use of a moment
 
 -- an initiator that offers itself finds its block free
 abbrev pub IsFreeToOffer : ℕ → System → ℕ → Point InitiatorAt → Type 0

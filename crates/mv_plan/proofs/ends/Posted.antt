@@ -11,13 +11,10 @@ use Rattle.mv_plan.proofs.points.{InJob, on_posted_keeps, IsReaderAt, IsWriterAt
 use Rattle.mv_plan.proofs.points.{IsInitiatorAt, named_is, ByStage, stage_map, stage_goes, NotEnding, AllNext, goes_next, next_grows}
 use Rattle.mv_plan.proofs.points.{code_held, run_of, next_job, rounds_land, ended_lands}
 use Rattle.mv_plan.proofs.walks.{Points, start_points, TasksStand, KeepsUnder, by_moves, entry_of, block, element}
-use Rattle.mv_plan.proofs.places.Ledger.{Ledger}
-use Rattle.mv_plan.proofs.places.{RunBy, run_alone, run_released, run_unheld}
-use Rattle.mv_plan.proofs.ends.Blocks.{HasEnd, done_has, scheduler_has, writer_has}
-use Rattle.mv_plan.proofs.ends.Complete.{IsComplete, NotComplete, BlockAfter, block_moved, moved_there, complete_moved, not_moved, is_moved}
-use Rattle.mv_plan.proofs.ends.Complete.{held_moved}
-use Rattle.mv_plan.proofs.ends.WhoPosts.{offers, ends_job, ends_scheduler, ends_writer, post_by, initiator_no_release, run_below, posts_run}
-use Rattle.mv_plan.proofs.ends.WhoPosts.{posts_no_entered, initiator_ecb}
+use Rattle.mv_plan.proofs.places.{Ledger, RunBy, run_alone, run_released, run_unheld}
+use Rattle.mv_plan.proofs.ends.Blocks.{HasEnd, done_has, scheduler_has, writer_has, IsComplete, NotComplete, BlockAfter, block_moved}
+use Rattle.mv_plan.proofs.ends.Blocks.{moved_there, complete_moved, not_moved, is_moved, held_moved, offers, ends_job, ends_scheduler}
+use Rattle.mv_plan.proofs.ends.Blocks.{ends_writer, post_by, initiator_no_release, run_below, posts_run, posts_no_entered, initiator_ecb}
 use Rattle.mv_plan.proofs.lists.{all_but}
 use Rattle.mv_plan.proofs.ends.RightCodes.{starts_held}
 use Rattle.mv_plan.proofs.standing.{wait_no_done}

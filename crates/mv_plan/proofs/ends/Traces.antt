@@ -7,9 +7,8 @@ use Rattle.mv_plan.proofs.Words.{common_steps}
 use Rattle.std.proofs.lemmas.List.{map-append}
 use Rattle.mv_plan.specs.PostingEnds.{post_in, FindsEnd}
 use Rattle.mv_plan.proofs.deck.{IsPlanned, is_skipped, skipped_ends, few_jobs, code_parts, never_zero}
-use Rattle.mv_plan.proofs.ends.Blocks.{HasEnd, scheduler_has, writer_has}
+use Rattle.mv_plan.proofs.ends.Blocks.{HasEnd, scheduler_has, writer_has, NotComplete, BlockAfter, block_moved, moved_there}
 use Rattle.mv_plan.proofs.ends.RightCodes.{HoldEnds, ReleasesCodes}
-use Rattle.mv_plan.proofs.ends.Complete.{NotComplete, BlockAfter, block_moved, moved_there}
 use Rattle.mv_plan.proofs.walks.{entry_of, block}
 
 -- the codes that a block is complete with

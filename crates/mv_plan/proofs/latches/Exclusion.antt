@@ -4,7 +4,7 @@ use Rattle.mv_plan.proofs.Words.{sym, ap, ◌∙◌, subst, arith, Contains, lis
 use Rattle.mv_plan.proofs.Words.{shared_request, JobData, initiator, all_at, common_steps}
 use Rattle.mv_latch.proofs.Holders.{alone}
 use Rattle.mv_plan.proofs.deck.{is_held, is_held_alone}
-use Rattle.mv_plan.proofs.latches.Asked.{finds, found, request_of}
+use Rattle.mv_plan.proofs.latches.Lists.{finds, found, request_of}
 use Rattle.mv_plan.proofs.latches.HandMoves.{has_latch}
 use Rattle.mv_plan.proofs.latches.Hands.{grip, OwnsBy, Hands, Holds}
 use Rattle.mv_plan.proofs.points.{held_of, IsInitiatorAt, Point, At, Grant, InitiatorAt, Reading, Writing, Scanning, Rescanning, InJob}

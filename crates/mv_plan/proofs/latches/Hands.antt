@@ -8,13 +8,13 @@ use Rattle.mv_plan.proofs.Words.{all_filter, all_at, Free, LatchForm, rules}
 use Rattle.mv_machine.proofs.Standing.{is_mine}
 use Rattle.mv_machine.proofs.Lists.{all_front, all_back}
 use Rattle.mv_latch.proofs.Changes.{Changed, stays_granted, latch_changes}
-use Rattle.mv_plan.proofs.latches.Asked.{filter_none, in_filter, finds, found, request_of, asked, asked_push, asked_here, asked_there}
-use Rattle.mv_plan.proofs.latches.Asked.{asked_below, asked_freed, asked_kept, asked_named, asked_of, asked_all}
+use Rattle.mv_plan.proofs.latches.Lists.{filter_none, in_filter, finds, found, request_of, asked, asked_push, asked_here, asked_there}
+use Rattle.mv_plan.proofs.latches.Lists.{asked_below, asked_freed, asked_kept, asked_named, asked_of, asked_all, obtained_list}
+use Rattle.mv_plan.proofs.latches.Lists.{obtained_elsewhere, granted_new, released_list, released_elsewhere, purged_list, granted_in}
+use Rattle.mv_plan.proofs.latches.Lists.{mine_pushed, mine_without, mine_purged, Spares, mine_kept, AllAsked}
 use Rattle.mv_plan.proofs.points.{held_of, Point, At, Finished, Grant, Running, Hand, empty_hand, without_latch, InitiatorAt, hand_at}
 use Rattle.mv_plan.proofs.points.{EndingJob, EndingForScheduler, EndingForWriter, Confirming, steps_at, running, job_start, given_at}
 use Rattle.mv_plan.proofs.points.{counting_at, InJob, freeing_lands, given_lands, counting_lands}
-use Rattle.mv_plan.proofs.latches.Lists.{obtained_list, obtained_elsewhere, granted_new, released_list, released_elsewhere, purged_list}
-use Rattle.mv_plan.proofs.latches.Lists.{granted_in, mine_pushed, mine_without, mine_purged, Spares, mine_kept, AllAsked}
 use Rattle.mv_plan.proofs.lists.{all_map, all_join}
 
 -- What an initiator's point says of its requests: nothing, where its program has ended too soon or gone astray; that there are

@@ -1,14 +1,15 @@
--- An initiator that runs a job goes on with it, is done with it, or is lost; it touches no element and no initiator's block;
--- and what holds of a job when it is started holds of it as long as it is run. Used by rows, deeds and right codes.
+-- An initiator that runs a job goes on with it, is done with it, or is lost; it touches no element and no initiator's block; and
+-- what holds of a job when it is started holds of it as long as it is run. Used by rows, deeds, right codes and posts.
 use Rattle.mv_plan.proofs.Words.{◌≡◌, ℕ, suc, ◌<◌, Bool, true, false, List, [], ◌∷◌, length, Option, Some, None, ◌⊎◌, inl, refl, subst}
-use Rattle.mv_plan.proofs.Words.{arith, ◌==◌, Reply, JobData, Step, job_at, list_any, Named, job_named, ElementReply, common_steps}
+use Rattle.mv_plan.proofs.Words.{arith, ◌==◌, Reply, JobData, Step, job_at, list_any, Named, job_named, ElementReply, common_steps, Print}
 use Rattle.mv_plan.proofs.points.Points.{Point, At, Astray, Running, Hand, InitiatorAt, Pausing, Resuming, initiator_asks, initiator_goes}
 use Rattle.mv_plan.proofs.points.Points.{steps_at, job_start, rounds_after, empty_hand, rounds_from, running, given_at, JobAt, InJob}
+use Rattle.mv_plan.proofs.points.Points.{EndingJob, EndingForScheduler, EndingForWriter}
 use Rattle.mv_plan.proofs.points.InitiatorSound.{IsRunning, IsInitiatorAt}
 use Rattle.mv_plan.proofs.points.PostsAndWaits.{on_posted_keeps}
 use Rattle.mv_plan.proofs.points.Views.{run_of, IsNotLost}
 use Rattle.mv_plan.proofs.points.Asks.{Elsewhere}
-use Rattle.mv_plan.proofs.points.Lands.{given_lands, ended_lands}
+use Rattle.mv_plan.proofs.points.Lands.{given_lands, ended_lands, freeing_lands, counting_lands, rounds_land}
 
 -- it runs this job, or is lost
 abbrev pub RunsOn : Running → Point InitiatorAt → Type 0
@@ -101,3 +102,46 @@ module _ (Q : Running → Type 0) where
     go : (slot : Option Running) → run_of (At x) ≡ slot → OfRun Q (initiator_goes deck x r)
     go None e = starts_run deck x r e st
     go (Some run) e = goes_on_run run (initiator_goes deck x r) (h run e) (run_goes deck x r run e)
+
+-- ---- what holds of the job that an initiator runs, by how far its end is posted
+
+-- The job that a point runs meets the first while a job's done block is not posted, the second while the scheduler's end is not
+-- posted, and the third while the writer's is not.
+abbrev pub ByStage : (ℕ → Type 0) → (ℕ → Type 0) → (ℕ → Type 0) → Point InitiatorAt → Type 0
+ByStage Q R S (At (InJob run (EndingForScheduler code counts))) = R run.job
+ByStage Q R S (At (InJob run (EndingForWriter code counts))) = S run.job
+ByStage Q R S (At (InJob run w)) = Q run.job
+ByStage Q R S p = Unit {0}
+
+-- the same of a point by others
+pub stage_map : (Q R S Q' R' S' : ℕ → Type 0) (p : Point InitiatorAt)
+    → ((run : Running) → run_of p ≡ Some run → (Q run.job → Q' run.job) × (R run.job → R' run.job) × (S run.job → S' run.job))
+    → ByStage Q R S p → ByStage Q' R' S' p
+stage_map Q R S Q' R' S' p f h = grind (arith, common_steps)
+
+-- a point that does not post a job's end
+abbrev pub NotEnding : InitiatorAt → Type 0
+NotEnding (InJob run (EndingJob code counts)) = ⊥
+NotEnding (InJob run (EndingForScheduler code counts)) = ⊥
+NotEnding (InJob run (EndingForWriter code counts)) = ⊥
+NotEnding x = Unit {0}
+
+module _ (Q R S : ℕ → Type 0) where
+  steps_stage : (run : Running) (hand : Hand) (steps : List Step) → Q run.job → ByStage Q R S (steps_at run hand steps)
+  steps_stage run hand (Print text ∷ steps) q = steps_stage run hand steps q
+  steps_stage run hand steps q = grind (arith, common_steps, freeing_lands)
+
+  start_stage : (skipped : Bool) (run : Running) (job : JobData) → Q run.job → ByStage Q R S (job_start skipped run job)
+  start_stage true run job q = q
+  start_stage false run job q = steps_stage run empty_hand job.steps q
+
+  pub stage_goes : (deck : List JobData) (x : InitiatorAt) (r : Reply) → NotEnding x → ByStage Q R S (At x) → Starts (λ run. Q run.job)
+      deck x r
+      → ByStage Q R S (initiator_goes deck x r)
+  stage_goes deck (Pausing more before g) (Reply.Element (ElementReply.Given code now)) plain h st =
+      given_lands (ByStage Q R S) tt deck more before code now (λ z. tt)
+      (λ named left e t m. start_stage named.skipped _ (job_at deck named.job) (st named left e t m))
+  stage_goes deck (Resuming more before g) (Reply.Element (ElementReply.Given code now)) plain h st =
+      given_lands (ByStage Q R S) tt deck more before code now (λ z. tt)
+      (λ named left e t m. start_stage named.skipped _ (job_at deck named.job) (st named left e t m))
+  stage_goes deck x r plain h st = grind (arith, common_steps, rounds_land, on_posted_keeps, steps_stage, counting_lands)

@@ -6,7 +6,7 @@ use Rattle.mv_plan.proofs.points.Points.{Point, At, TooSoon, Astray, WaitAt, Set
 use Rattle.mv_plan.proofs.points.Points.{ForEnds, ForIdle, ToDismiss, SchedulerAt, Waits, Extends, Clears, Releases, awaited_count}
 use Rattle.mv_plan.proofs.points.Points.{scheduler_goes, settling_from, found_at, ends_at, stage_at, on_released}
 use Rattle.mv_plan.proofs.points.PostsAndWaits.{on_settled_keeps, lowest_keeps}
-use Rattle.mv_plan.proofs.points.SchedulerSound.{IsSchedulerAt}
+use Rattle.mv_plan.proofs.points.Scheduler.{IsSchedulerAt}
 use Rattle.mv_plan.proofs.points.Views.{next_job, Errand, Dispatches, Dismisses, Rests, errand, next_of, IsNotLost}
 
 module _ (n initiators : ℕ) (P : Point SchedulerAt → Type 0) where

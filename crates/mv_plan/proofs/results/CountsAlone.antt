@@ -6,16 +6,13 @@ use Rattle.mv_plan.proofs.Words.{AreHandedOut, ArePurged, JobData, total, IsRun,
 use Rattle.mv_plan.specs.Purging.{obtains}
 use Rattle.mv_plan.specs.CountingAlone.{AreCountedAlone, IsCountedBy, CountsStandAlone, ScansAreSteady}
 use Rattle.mv_plan.proofs.deck.{IsPlanned, few_jobs, facts}
-use Rattle.mv_plan.proofs.walks.Always.{Always}
-use Rattle.mv_plan.proofs.walks.{always_now, always_next, always_rest, walk_rest, Stood, stood, AreFinished, run_finished, Mover, who_moved}
-use Rattle.mv_plan.proofs.walks.{Points, start_points, Move, WalkTo, walk-parts, none_lost_along, none_lost_at_end}
+use Rattle.mv_plan.proofs.walks.{Always, NoneLost, always_now, always_next, always_rest, walk_rest, Stood, stood, AreFinished, run_finished}
+use Rattle.mv_plan.proofs.walks.{Mover, who_moved, Points, start_points, Move, WalkTo, walk-parts, none_lost_along, none_lost_at_end}
 use Rattle.mv_plan.proofs.volumes.{CountMoments, mover, quiet_point, due, count_apart, scan_steady, adds_total}
 use Rattle.mv_plan.proofs.latches.{works, grip, OwnsBy, IsKnown}
 use Rattle.mv_plan.proofs.points.{At, InitiatorAt, Opening, initiator_asks}
-use Rattle.mv_plan.proofs.serving.{work, unpurged, purges-push, one_if, served_start, served_next, ledger_once, moment_sound}
-use Rattle.mv_plan.proofs.serving.Served.{Served}
+use Rattle.mv_plan.proofs.serving.{work, unpurged, purges-push, one_if, served_start, served_next, ledger_once, moment_sound, Served}
 use Rattle.mv_plan.proofs.lists.{sum_zero}
-use Rattle.mv_plan.proofs.walks.NoneLost.{NoneLost}
 use Rattle.mv_plan.proofs.places.{Moment, walk_moments}
 use Rattle.mv_plan.proofs.results.HandedOut.{are_handed_out}
 

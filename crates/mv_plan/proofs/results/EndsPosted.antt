@@ -13,9 +13,8 @@ use Rattle.mv_plan.proofs.points.{program_at, writer_program, Point, Finished, S
 use Rattle.mv_plan.proofs.ends.Posted.{Posted}
 use Rattle.mv_plan.proofs.ends.Traces.{Traces}
 use Rattle.mv_plan.proofs.walks.{Stood, stood, AreFinished, run_finished, none_lost_at_end, Points, start_points, Move, TasksStand}
-use Rattle.mv_plan.proofs.walks.{standing}
+use Rattle.mv_plan.proofs.walks.{standing, NoneLost}
 use Rattle.mv_plan.proofs.places.{run_released, Moment, walk_moments}
-use Rattle.mv_plan.proofs.walks.NoneLost.{NoneLost}
 
 -- what is kept about ends and blocks from moment to moment
 pub record Ends (c : Setup) (deck : List JobData) (initiators : ℕ) (s : System) (t : Points) (past : List Entry) : Type 0 where

@@ -1,15 +1,17 @@
--- No reply leads the reader, the scheduler or the writer astray, nor an initiator in its rounds.
-use Rattle.mv_plan.proofs.Words.{◌≡◌, ℕ, zero, suc, ◌+◌, ◌<◌, ◌≤◌, Bool, true, false, IsTrue, if◌then◌else◌, List, [], ◌∷◌, ◌++◌, length}
-use Rattle.mv_plan.proofs.Words.{Option, Some, None, ◌⊎◌, inl, inr, refl, sym, ap, ◌∙◌, subst, arith, AllByRecursion, eq-eqb, leb-true}
-use Rattle.mv_plan.proofs.Words.{ecb_step, EcbState, Extended, ElementState, element_step, Reply, Setup, owner_of, System, admitted}
-use Rattle.mv_plan.proofs.Words.{reply_to, JobData, After, Step, Print, job_at, Counts, reader, scheduler, initiator, writer}
-use Rattle.mv_plan.proofs.Words.{end_for_writer, code_of, not_to_run, complete_count, Free, done, EcbOp, EcbReply, ElementOp, common_steps}
+-- No reply leads the reader, the scheduler or the writer astray, nor an initiator in its rounds: one that is named a job that it was
+-- not named before has a round left for it.
+use Rattle.mv_plan.proofs.Words.{◌≡◌, ℕ, ◌<◌, ◌≤◌, ◌==◌, Bool, false, List, [], ◌∷◌, length, Some, arith, AllByRecursion, list_any}
+use Rattle.mv_plan.proofs.Words.{job_named, code_of, not_to_run, AreDistinct, common_steps, zero, suc, ◌+◌, true, IsTrue, if◌then◌else◌}
+use Rattle.mv_plan.proofs.Words.{◌++◌, Option, None, ◌⊎◌, inl, inr, refl, sym, ap, ◌∙◌, subst, eq-eqb, leb-true, ecb_step, EcbState}
+use Rattle.mv_plan.proofs.Words.{Extended, ElementState, element_step, Reply, Setup, owner_of, System, admitted, reply_to, JobData, After}
+use Rattle.mv_plan.proofs.Words.{Step, Print, job_at, Counts, reader, scheduler, initiator, writer, end_for_writer, complete_count, Free}
+use Rattle.mv_plan.proofs.Words.{done, EcbOp, EcbReply, ElementOp}
+use Rattle.mv_calls.proofs.Distinct.{few, none_found}
 use Rattle.mv_ecb.specs.Word.{Waiting}
-use Rattle.mv_calls.proofs.Distinct.{none_found}
 use Rattle.mv_plan.proofs.deck.{ArePlannedSteps, ArePlannedJobs, Facts}
 use Rattle.mv_plan.proofs.walks.{Points}
 use Rattle.mv_plan.proofs.standing.{Armed, In, in_middle, in_all, IsNoDone, awaited_no_done, SchedulerArms, WriterArms, Starts, Works}
-use Rattle.mv_plan.proofs.standing.{Offers, Parks, RowAt, element_of}
+use Rattle.mv_plan.proofs.standing.{Offers, Parks, RowAt, element_of, Row}
 use Rattle.mv_plan.proofs.points.{IsWriterAt, IsInitiatorAt, IsRound, IsRunning, held_of, held_request, job_sound, Point, At, TooSoon}
 use Rattle.mv_plan.proofs.points.{Astray, Awaited, ForEntry, ForEnds, ForIdle, ToDismiss, Arming, Settling, ReaderAt, Entering, reader_asks}
 use Rattle.mv_plan.proofs.points.{reader_goes, SchedulerAt, Waits, Extends, awaited_blocks, awaited_count, scheduler_asks, scheduler_goes}
@@ -19,11 +21,26 @@ use Rattle.mv_plan.proofs.points.{running, InitiatorAt, Opening, Pausing, Resumi
 use Rattle.mv_plan.proofs.points.{initiator_goes, rounds_from, rounds_after, freeing_at, steps_at, job_start, named_at, given_at, on_opened}
 use Rattle.mv_plan.proofs.points.{on_paused, on_resumed, on_closed, on_ended, InJob, IsSchedulerAt, code_held, jobs_of, IsNotLost}
 use Rattle.mv_plan.proofs.points.{IsOfRounds}
-use Rattle.mv_plan.proofs.results.FewRounds.{fewer, not_found, code_named}
 use Rattle.mv_plan.proofs.walks.Fits.{Fits}
-use Rattle.mv_plan.proofs.standing.Row.{Row}
 use Rattle.mv_plan.proofs.places.{element_code}
 use Rattle.mv_plan.proofs.ends.{IsCode}
+
+-- different jobs of n, before another one, are fewer
+pub fewer : (n : ℕ) (before : List ℕ) (job : ℕ) → AllByRecursion (λ j. j < n) before → AreDistinct before → job < n
+    → AllByRecursion (λ j. j ≡ job → ⊥) before → length before < n
+fewer n before job below d lt new = let le : length (job ∷ before) ≤ n = few n (job ∷ before) (lt, below) (new, d) in omega arith
+
+-- a job that a test does not find is none of these
+pub not_found : (js : List ℕ) (job : ℕ) → list_any (λ j. j == job) js ≡ false → AllByRecursion (λ j. j ≡ job → ⊥) js
+not_found [] job e = tt
+not_found (j ∷ js) job e = grind (arith, common_steps, not_found js job)
+
+-- the job that a code names
+pub code_named : (n j : ℕ) (skipped : Bool) → n ≤ not_to_run → j < n
+    → job_named n (code_of j skipped) ≡ Some (record { job = j; skipped = skipped })
+code_named n j x small lt = grind (arith, common_steps)
+
+-- ---- points that are not astray
 
 -- a task is not astray
 abbrev pub IsForeseen : {X : Type 0} → Point X → Type 0

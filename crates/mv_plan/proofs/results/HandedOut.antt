@@ -1,25 +1,191 @@
--- Each run hands out each job once, with its code: specs/HandingOut. Each release reaches its pause, and in the end all elements
--- are free.
-use Rattle.mv_plan.proofs.Words.{◌≡◌, ℕ, ◌-◌, ◌<◌, ◌≤◌, ◌==◌, Bool, if◌then◌else◌, List, [], ◌∷◌, length, Option, Some, None, inl, inr}
-use Rattle.mv_plan.proofs.Words.{refl, sym, ap, ◌∙◌, subst, arith, eq-eqb, eqb-true, filter_map, released_code, gift_code, naming, cases_lt}
-use Rattle.mv_plan.proofs.Words.{ElementState, Entry, element_events, IsNext, after, Setup, System, opening, released_codes, given_codes}
-use Rattle.mv_plan.proofs.Words.{JobData, IsRun, spool_setup, initiator, code_of, AllByRecursion, true, admitted, AreHandedOut, end_of}
-use Rattle.mv_plan.proofs.Words.{not_run, false≢true, ElementOp, Object, Element, Op, next, Phase, common_steps, rules}
+-- Each run hands out each job once, with its code: specs/HandingOut. Each release is of a job or closes an initiator, and reaches its
+-- pause; each initiator is closed once, and in the end all elements are free.
+use Rattle.mv_plan.proofs.Words.{◌≡◌, ℕ, ◌<◌, ◌≤◌, List, [], ◌∷◌, ◌++◌, length, None, refl, sym, ap, ◌∙◌, subst, arith, AllByRecursion}
+use Rattle.mv_plan.proofs.Words.{Entry, Element, Reply, IsNext, Setup, System, released_code, closings, IsRightRelease, JobData, scheduler}
+use Rattle.mv_plan.proofs.Words.{initiator, Kept, ElementOp, Op, common_steps, Option, Some, ◌⊎◌, inl, inr, append-nil, filter_map}
+use Rattle.mv_plan.proofs.Words.{filter_map-append, ElementState, element_step, Object, element_events, next, same_is, Phase, ◌-◌, ◌==◌}
+use Rattle.mv_plan.proofs.Words.{Bool, if◌then◌else◌, eq-eqb, eqb-true, gift_code, naming, cases_lt, after, opening, released_codes}
+use Rattle.mv_plan.proofs.Words.{given_codes, IsRun, spool_setup, code_of, true, admitted, AreHandedOut, end_of, not_run, false≢true, rules}
+use Rattle.mv_plan.proofs.points.{same_errand, Point, At, Stage, Dispatching, SchedulerAt, Waits, Extends, Clears, Releases, scheduler_asks}
+use Rattle.mv_plan.proofs.points.{scheduler_goes, stage_at, IsSchedulerAt, reader_plain, writer_plain, no_release, wait_no_release, Errand}
+use Rattle.mv_plan.proofs.points.{Dismisses, Rests, errand, IsNotLost, code_held, next_job, Dispatches}
+use Rattle.mv_plan.proofs.walks.{Stand, Points, Move, entry_of, Each, of_move, Stood, stood, AreFinished, run_finished, none_lost_at_end}
+use Rattle.mv_plan.proofs.walks.{NoneLost}
+use Rattle.mv_machine.specs.Elements.{ElementEvent, as_element_event, accepted_code, givens, releases}
+use Rattle.std.proofs.lemmas.Bool.{cases_order}
+use Rattle.mv_machine.proofs.ElementLaws.{Answers, Known, known_more}
+use Rattle.mv_machine.proofs.Subjects.{element_meets}
 use Rattle.mv_machine.specs.Legal.{LegalFrom}
 use Rattle.mv_plan.proofs.deck.{IsPlanned, few_jobs, facts}
-use Rattle.mv_plan.proofs.results.Closings.{Closes, dismissed_by, closes_next, closes_start}
-use Rattle.mv_plan.proofs.results.Exact.{AreExacting, ClosesNone, exacting_next, exact_end}
-use Rattle.mv_plan.proofs.standing.{RowAt, element_of}
-use Rattle.mv_plan.proofs.places.Ledger.{Ledger}
-use Rattle.mv_plan.proofs.places.{element_code, Moment, walk_moments}
+use Rattle.mv_plan.proofs.standing.{RowAt, element_of, Rows}
+use Rattle.mv_plan.proofs.places.{Ledger, element_code, Moment, walk_moments}
 use Rattle.mv_plan.proofs.lists.{sum_zero, one_of}
-use Rattle.mv_plan.proofs.walks.{Stood, stood, AreFinished, run_finished, none_lost_at_end, Points, Move, Each, of_move}
-use Rattle.mv_plan.proofs.standing.Rows.{Rows}
-use Rattle.mv_plan.proofs.points.{code_held, next_job, errand}
 use Rattle.mv_plan.specs.HandingOut.{IsHandedOut, right_code}
 use Rattle.mv_plan.proofs.results.EndsPosted.{marks_are_right}
 use Rattle.mv_plan.proofs.ends.{HasRightMark}
 use Rattle.mv_plan.proofs.volumes.{with_code}
+
+-- how many initiators were dismissed by then
+abbrev pub dismissed_by : ℕ → Errand → ℕ
+dismissed_by initiators (Dispatches j) = 0
+dismissed_by initiators (Dismisses i) = i
+dismissed_by initiators Rests = initiators
+
+-- the releases so far, where so many initiators were dismissed
+pub record Closes (n initiators : ℕ) (past : List Entry) (dismissed : ℕ) : Type 0 where
+  pub releases : AllByRecursion (λ e. IsRightRelease n initiators e.object e.op e.reply) past
+  pub closed : (i : ℕ) → i < dismissed → length (closings (initiator i) past) ≡ 1
+  pub unclosed : (i : ℕ) → dismissed ≤ i → length (closings (initiator i) past) ≡ 0
+
+module _ (n initiators : ℕ) (past : List Entry) (d : ℕ) (w : Closes n initiators past d) (e : Entry) where
+  closes_quiet : (d' : ℕ) → d' ≡ d → released_code e.op ≡ None → Closes n initiators (past ++ e ∷ []) d'
+  closes_quiet d' q none = grind (arith, common_steps)
+
+module _ (c : Setup) (deck : List JobData) (initiators : ℕ) (kept : ℕ → Kept) (past : List Entry) where
+  abbrev n : ℕ
+  n = length deck
+
+  abbrev ClosesAt : Point SchedulerAt → List Entry → Type 0
+  ClosesAt q es = Closes n initiators es (dismissed_by initiators (errand q))
+
+  abbrev Closing : System → Points → Entry → Points → Type 0
+  Closing s t e u = Stand deck initiators kept t → NoneLost initiators u → ClosesAt t.scheduler past
+      → ClosesAt u.scheduler (past ++ e ∷ [])
+
+  module _ (i g code p : ℕ) (r : Reply) where
+    abbrev out : Entry
+    out = record {
+      caller = scheduler;
+      object = Element (initiator i);
+      place = p;
+      op = Op.Element (ElementOp.Release g code);
+      reply = r;
+    }
+
+    releasing : (after : Stage) (q : Point SchedulerAt) → q ≡ At (Releases i g code after)
+        → IsSchedulerAt deck initiators (At (Releases i g code after))
+        → IsNotLost (scheduler_goes n initiators (Releases i g code after) r)
+        → ClosesAt q past → ClosesAt (scheduler_goes n initiators (Releases i g code after) r) (past ++ out ∷ [])
+    releasing x q at sound f w = grind (arith, common_steps)
+
+  scheduled : (x : SchedulerAt) (p : ℕ) (r : Reply) (q : Point SchedulerAt) → q ≡ At x → IsSchedulerAt deck initiators (At x)
+      → IsNotLost (scheduler_goes n initiators x r)
+      → ClosesAt q past → ClosesAt (scheduler_goes n initiators x r) (past ++ entry_of scheduler p (scheduler_asks n x) r ∷ [])
+  scheduled (Waits a v) p r q at sound f w =
+      closes_quiet n initiators past _ w _ _
+      (ap (λ z. dismissed_by initiators z) (same_errand n initiators (Waits a v) r tt f ∙ sym (ap (λ z. errand z) at)))
+      (wait_no_release v)
+  scheduled (Extends j job jobs skipped) p r q at sound f w = grind (arith, common_steps)
+  scheduled (Clears i g code after) p r q at sound f w = grind (arith, common_steps)
+  scheduled (Releases i g code after) p r q at sound f w = releasing i g code p r after q at sound f w
+
+  each_closing : Each c deck initiators Closing
+  each_closing = record {
+    of_reader = λ s t x p r at nx st f w. closes_quiet n initiators past _ w _ _ refl (reader_plain x);
+    of_scheduler = λ s t x p r at nx st f w. scheduled x p r t.scheduler at
+        (subst (λ z. IsSchedulerAt deck initiators z) at st.at_scheduler.0) f.at_scheduler w;
+    of_initiator = λ s t i x p r lt at nx st f w. closes_quiet n initiators past _ w _ _ refl (no_release n i x);
+    of_writer = λ s t x p r at nx st f w. closes_quiet n initiators past _ w _ _ refl (writer_plain x);
+  }
+
+  pub closes_next : (s : System) (t u : Points) (e : Entry) → IsNext c s e → Move deck initiators t e u → Stand deck initiators kept t
+      → NoneLost initiators u → ClosesAt t.scheduler past → ClosesAt u.scheduler (past ++ e ∷ [])
+  closes_next s t u e nx m st f w = of_move c deck initiators Closing each_closing s t u e nx m st f w
+
+-- before the first entry
+pub closes_start : (deck : List JobData) (initiators : ℕ)
+    → Closes (length deck) initiators [] (dismissed_by initiators (errand (stage_at (length deck) initiators (Dispatching 0 deck))))
+closes_start deck initiators = grind (arith, common_steps)
+
+-- ---- an element is closed only while it holds no code, so each accepted release gets to its pause
+
+-- ---- a close finds no code
+
+abbrev pub FindsNone : ElementOp → ElementState → Type 0
+FindsNone (ElementOp.Close g) x = code_held x ≡ None
+FindsNone op x = Unit {0}
+
+-- the releases and gifts of generation g so far, by the state that they led to; none is left without its gift
+pub record Exacting (g : ℕ) (rel giv : List ℕ) (x : ElementState) : Type 0 where
+  pub known : Known g rel giv x
+  pub matched : g < x.generation → giv ≡ [] → rel ≡ []
+
+exacting_more : (g : ℕ) (rel giv : List ℕ) (x : ElementState) (v : ElementEvent) → Answers x v → FindsNone v.op x → Exacting g rel giv x
+    → Exacting g (rel ++ releases g (v ∷ [])) (giv ++ givens g (v ∷ [])) (element_step v.op x).0
+exacting_more g rel giv x v a f w = grind (arith, common_steps, known_more, cases_order)
+
+-- an event that closes an element finds no code in it
+abbrev pub ClosesNone : System → Object → Op → Type 0
+ClosesNone s (Element m) (Op.Element op) = FindsNone op (s.element m).state
+ClosesNone s o op = Unit {0}
+
+-- all elements, behind these entries
+abbrev pub AreExacting : System → List Entry → Type 0
+AreExacting s past = (m g : ℕ) → Exacting g (releases g (element_events m past)) (givens g (element_events m past)) (s.element m).state
+
+events_same : (m : ℕ) (past : List Entry) (e : Entry) → as_element_event m e ≡ None
+    → element_events m (past ++ e ∷ []) ≡ element_events m past
+events_same m past e q = filter_map-append (as_element_event m) past (e ∷ []) ∙ rw q (append-nil (element_events m past))
+
+events_more : (m : ℕ) (past : List Entry) (e : Entry) (v : ElementEvent) → as_element_event m e ≡ Some v
+    → element_events m (past ++ e ∷ []) ≡ element_events m past ++ v ∷ []
+events_more m past e v q = filter_map-append (as_element_event m) past (e ∷ []) ∙ rw q refl
+
+exacting_at : (g : ℕ) (vs ws : List ElementEvent) (x y : ElementState) → ws ≡ vs → y ≡ x → Exacting g (releases g vs) (givens g vs) x
+    → Exacting g (releases g ws) (givens g ws) y
+exacting_at g vs ws x y e q w = rw (e, q) w
+
+exacting_push : (g : ℕ) (vs : List ElementEvent) (v : ElementEvent) (y : ElementState)
+    → Exacting g (releases g vs ++ releases g (v ∷ [])) (givens g vs ++ givens g (v ∷ [])) y
+    → Exacting g (releases g (vs ++ v ∷ [])) (givens g (vs ++ v ∷ [])) y
+exacting_push g vs v y w = grind (arith, common_steps, filter_map-append)
+
+pub exacting_next : (c : Setup) (s : System) (past : List Entry) (e : Entry) → IsNext c s e → ClosesNone s e.object e.op
+    → AreExacting s past → AreExacting (next s e) (past ++ e ∷ [])
+exacting_next c s past e n none w m g = elim (element_meets c m s e n) [
+  | inl p ↦ exacting_at g (element_events m past) _ (s.element m).state _ (events_same m past e p.none) (ap (λ z. z.state) p.kept)
+      (w m g)
+  | inr v ↦ exacting_at g (element_events m past ++ v.event ∷ []) _ (element_step v.event.op (s.element m).state).0 _
+      (events_more m past e v.event v.is) (ap (λ z. z.state) v.after)
+      (exacting_push g (element_events m past) v.event _
+      (exacting_more g (releases g (element_events m past)) (givens g (element_events m past)) (s.element m).state v.event
+      v.answered.reply (subst (λ z. ClosesNone s (Element m) z) v.op
+      (subst (λ z. ClosesNone s z e.op) (same_is e.object (Element m) v.there) none)) (w m g)))
+]
+
+-- ---- in the end, where an element holds no code
+
+contains_more : {A : Type 0} (f : A → Option ℕ) (before later : List A) (v : A) (code : ℕ) → f v ≡ Some code
+    → filter_map f (before ++ v ∷ later) ≡ filter_map f before ++ (code ∷ filter_map f later)
+contains_more f before later v code e = filter_map-append f before (v ∷ later) ∙ rw e refl
+
+not_nil : (xs ys : List ℕ) (x : ℕ) → xs ++ (x ∷ ys) ≡ [] → ⊥
+not_nil [] ys x e = cc e
+not_nil (z ∷ xs) ys x e = cc e
+
+one_item : (xs ys : List ℕ) (x y : ℕ) → xs ++ (x ∷ ys) ≡ y ∷ [] → x ≡ y
+one_item [] ys x y e = cc e
+one_item (z ∷ xs) ys x y e = absurd (not_nil xs ys x (cc e))
+
+pub exact_end : (g code : ℕ) (x : ElementState) (before later vs : List ElementEvent) (v : ElementEvent) → x.phase ≡ Phase.Free
+    → vs ≡ before ++ v ∷ later → accepted_code g v ≡ Some code
+    → Exacting g (releases g vs) (givens g vs) x → givens g vs ≡ code ∷ []
+exact_end g code x before later vs v idle split is w = go (cases_order x.generation g) where
+  there : releases g vs ≡ releases g before ++ (code ∷ releases g later)
+  there = ap (λ z. releases g z) split ∙ contains_more (accepted_code g) before later v code is
+
+  some : releases g vs ≡ [] → ⊥
+  some none = not_nil (releases g before) (releases g later) code (sym there ∙ none)
+
+  go : (x.generation ≡ g) ⊎ (x.generation < g) ⊎ (g < x.generation) → givens g vs ≡ code ∷ []
+  go (inl same) = absurd (some ((w.known.now same).0 ∙ rw idle refl))
+  go (inr (inl before)) = absurd (some (w.known.future before).0)
+  go (inr (inr after)) = past (w.known.past after) where
+    past : (givens g vs ≡ []) ⊎ ((c : ℕ) × (givens g vs ≡ c ∷ []) × (releases g vs ≡ c ∷ [])) → givens g vs ≡ code ∷ []
+    past (inl none) = absurd (some (w.matched after none))
+    past (inr one) = one.1 ∙ ap (λ z. z ∷ []) (sym (one_item (releases g before) (releases g later) code one.0 (sym there ∙ one.2)))
+
+-- ---- each job is handed out once
 
 -- ---- an element is closed while it holds no code
 
@@ -88,7 +254,7 @@ module _ (deck : List JobData) (initiators : ℕ) (s : System) (t : Points) (pas
             (λ i less. ap (λ z. one_of (pick z)) (free_none (element_of s i) (elements_free (initiator i))) ∙ ap one_of none) in omega arith
 
 -- what each moment has besides
-pub record Dispatches (deck : List JobData) (initiators : ℕ) (s : System) (t : Points) (past : List Entry) : Type 0 where
+pub record HandsOut (deck : List JobData) (initiators : ℕ) (s : System) (t : Points) (past : List Entry) : Type 0 where
   pub closes : Closes (length deck) initiators past (dismissed_by initiators (errand t.scheduler))
   pub exacts : AreExacting s past
 
@@ -145,9 +311,9 @@ module _ (deck : List JobData) (initiators : ℕ) (some : 1 ≤ initiators) (sou
   finished : AreFinished initiators st.points
   finished = run_finished deck initiators some sound es run st
 
-  ended : (end : Moment c deck initiators (after c es) st.points es) × Dispatches deck initiators (after c es) st.points es
+  ended : (end : Moment c deck initiators (after c es) st.points es) × HandsOut deck initiators (after c es) st.points es
   ended = walk_moments c deck initiators (facts deck initiators some) sound.jobs (few_jobs deck initiators sound)
-      (λ s t past. Dispatches deck initiators s t past)
+      (λ s t past. HandsOut deck initiators s t past)
       (λ s t u past e now then_now nx m w. record {
         closes = closes_next c deck initiators now.kept past s t u e nx m now.stand then_now.none_lost w.closes;
         exacts = exacting_next c s past e nx (closes_none c deck initiators s t u e nx m now.rows) w.exacts;

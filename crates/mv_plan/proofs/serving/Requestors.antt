@@ -3,14 +3,20 @@
 use Rattle.mv_plan.proofs.Words.{◌≡◌, ℕ, suc, ◌+◌, ◌<◌, ◌≤◌, ◌==◌, Bool, true, false, if◌then◌else◌, List, [], ◌∷◌, ◌++◌, length, Option}
 use Rattle.mv_plan.proofs.Words.{Some, None, inl, inr, refl, sym, ap, ◌∙◌, subst, arith, eq-eqb, ne_eqb, Entry, Reply, IsNext, Setup}
 use Rattle.mv_plan.proofs.Words.{System, gift_code, naming, given_codes, purges, JobData, Step, job_at, code_of, not_to_run, purged_by}
-use Rattle.mv_plan.proofs.Words.{ElementReply, LatchReply, VolumeReply, common_steps}
-use Rattle.mv_plan.proofs.latches.{works}
+use Rattle.mv_plan.proofs.Words.{ElementReply, LatchReply, VolumeReply, common_steps, next, opening, initiator}
 use Rattle.mv_plan.proofs.points.{named_is, IsInitiatorAt, Point, At, Running, Hand, empty_hand, InitiatorAt, Opening, Pausing, Resuming}
 use Rattle.mv_plan.proofs.points.{Obtaining, Confirming, Freeing, Writing, Rescanning, Purging, initiator_asks, initiator_goes, rounds_from}
-use Rattle.mv_plan.proofs.points.{steps_at, running, job_start, given_at, InJob, no_gift, run_of, IsNotLost, given_lands}
-use Rattle.mv_plan.proofs.walks.{who_moved, mover_goes, mover_sum, Points, start_points, Move, none_lost_before}
+use Rattle.mv_plan.proofs.points.{steps_at, running, job_start, given_at, InJob, no_gift, run_of, IsNotLost, given_lands, Astray}
+use Rattle.mv_plan.proofs.points.{IsOfRounds}
+use Rattle.mv_plan.proofs.walks.{who_moved, mover_goes, mover_sum, Points, start_points, Move, none_lost_before, NoneLost, AreSound}
 use Rattle.mv_plan.proofs.lists.{sum_to, sum_zero, sum_member, one_of, length-pushed}
-use Rattle.mv_plan.proofs.walks.NoneLost.{NoneLost}
+use Rattle.mv_machine.proofs.EntryRuns.{entry_of}
+use Rattle.mv_plan.proofs.deck.{IsPlanned}
+use Rattle.mv_plan.proofs.volumes.{Latched, latched_next, latched_start, codes_of, balance_start, balance_next, OnceEach, count_small}
+use Rattle.mv_plan.proofs.volumes.{named_few, Balance}
+use Rattle.mv_plan.proofs.latches.{of_entry, OwnsBy, grip, works}
+use Rattle.mv_plan.proofs.places.{Ledger, given_few, run_alone, Moment}
+use Rattle.mv_plan.proofs.serving.LatchCases.{serves}
 
 -- ---- counts
 
@@ -159,3 +165,55 @@ works_bound deck p job a e = grind (arith, common_steps)
 -- and it runs it
 pub works_run : (p : Point InitiatorAt) (job : ℕ) → works p ≡ Some job → (run : Running) × (run_of p ≡ Some run) × (run.job ≡ job)
 works_run p job e = grind (arith, common_steps)
+
+-- ---- what is kept of latches, volumes and requestors at each moment
+
+-- The latch lists are as the initiators' points say, and each volume has what the jobs that were named add but for what is
+-- still to come; and a job was purged as often as it was named, but for who works on it.
+pub record Served (deck : List JobData) (initiators : ℕ) (s : System) (t : Points) (past : List Entry) : Type 0 where
+  pub latched : Latched initiators s t
+  pub balance : Balance deck initiators s t past
+  pub works : WorkBalance deck initiators t past
+
+pub served_start : (c : Setup) (deck : List JobData) (initiators : ℕ) → Served deck initiators (opening c) (start_points deck initiators) []
+served_start c deck initiators =
+    record { latched = latched_start c deck initiators; balance = balance_start c deck initiators; works = works_start deck initiators }
+
+pub ledger_once : (deck : List JobData) (initiators : ℕ) (s : System) (t : Points) (past : List Entry) → Ledger deck initiators s t past
+    → NamedOnce deck past
+ledger_once deck initiators s t past w j lt = given_few deck initiators s t past w j lt
+
+once_each : (deck : List JobData) (past : List Entry) → NamedOnce deck past → OnceEach deck (codes_of past)
+once_each deck past once j lt = grind (arith, common_steps, named_few)
+
+module _ (c : Setup) (deck : List JobData) (initiators : ℕ) where
+  pub moment_sound : (s : System) (t : Points) (past : List Entry) → Moment c deck initiators s t past → AreSound deck initiators t
+  moment_sound s t past now i lt = (now.stand.at_initiator i lt).0
+
+  -- each move keeps it, where no task is lost before it
+  pub served_next : (s : System) (t u : Points) (past : List Entry) (e : Entry) → length deck ≤ not_to_run
+      → Moment c deck initiators s t past → IsNext c s e → Move deck initiators t e u
+      → Served deck initiators s t past → Served deck initiators (next s e) u (past ++ e ∷ [])
+  served_next s t u past e few now h m w = record {
+    latched = latched_next c deck initiators s t u e h m (moment_sound s t past now)
+        (λ i m job lt less a b. run_alone deck initiators s t past now.ledger job
+        (works_bound deck (t.initiators i) job (moment_sound s t past now i lt) a) i m lt less (works_run (t.initiators i) job a)
+        (works_run (t.initiators m) job b)) w.latched;
+    balance = balance_next c deck initiators s t u past e h m w.latched.values w.balance;
+    works = works_next c deck initiators s t u past e few h m w.works;
+  }
+
+  -- an initiator foresees each reply at latches and volumes
+  pub served_foreseen : (s : System) (t : Points) (past : List Entry) (e : Entry) (i : ℕ) (x : InitiatorAt) → 1 ≤ initiators
+      → IsPlanned deck initiators → Moment c deck initiators s t past → Served deck initiators s t past → IsNext c s e
+      → (IsOfRounds x → ⊥) → i < initiators → e.caller ≡ initiator i → t.initiators i ≡ At x
+      → e.object ≡ (initiator_asks (length deck) i x).0 → e.op ≡ (initiator_asks (length deck) i x).1
+      → initiator_goes deck x e.reply ≡ Astray → ⊥
+  served_foreseen s t past e i x some sound now w h on lt k at o op =
+      serves c s deck i x e.place e.reply on
+      (of_entry (λ j o op. IsNext c s (entry_of j o e.place op e.reply)) e (initiator i) (initiator_asks (length deck) i x).0
+      (initiator_asks (length deck) i x).1 k o op h)
+      (subst (IsInitiatorAt deck) at (moment_sound s t past now i lt))
+      (subst (λ p. OwnsBy s.latches.state (initiator i) (grip p)) at (w.latched.hands.owns i lt))
+      (λ run hand volume amount steps q. count_small deck initiators s t past i run hand volume amount steps some sound lt now.none_lost
+      w.balance (once_each deck past (ledger_once deck initiators s t past now.ledger)) (at ∙ ap (λ z. At z) q))

@@ -1,12 +1,179 @@
--- The sum of what the named jobs add is the deck's total, where each job was named once and as its end says.
-use Rattle.mv_plan.proofs.Words.{◌≡◌, ℕ, suc, ◌+◌, ◌<◌, ◌≤◌, ◌==◌, Bool, true, false, if◌then◌else◌, List, [], ◌∷◌, length, slice_index}
-use Rattle.mv_plan.proofs.Words.{refl, sym, ap, ◌∙◌, arith, eq-eqb, ne_eqb, Entry, given_codes, JobData, sum_by-cons, Step, job_at, end_of}
-use Rattle.mv_plan.proofs.Words.{not_run, before_end, ends, total, code_of, one_end_per_job, sum_by, rules, common_steps}
+-- What the running jobs have still to add to a volume, and how an event pays it; the balance: what a volume has and is still due is
+-- what the named jobs add, so a COUNT's sum has 32 bits; and in the end that is the deck's total.
+use Rattle.mv_plan.proofs.Words.{◌≡◌, ℕ, suc, ◌+◌, Bool, true, false, List, [], ◌∷◌, length, refl, sym, ap, ◌∙◌, arith, Reply, Setup}
+use Rattle.mv_plan.proofs.Words.{System, with_at, advanced, gift_code, JobData, Step, Count, job_at, before_end, added, IsNext, initiator}
+use Rattle.mv_plan.proofs.Words.{ElementReply, LatchReply, VolumeReply, common_steps, inl, inr, zero, ◌*◌, ◌^◌, ◌<◌, ◌≤◌, if◌then◌else◌}
+use Rattle.mv_plan.proofs.Words.{◌++◌, None, subst, append-nil, eq-eqb, Entry, next, opening, moved, ◌==◌, slice_index, ne_eqb, given_codes}
+use Rattle.mv_plan.proofs.Words.{sum_by-cons, end_of, not_run, ends, total, code_of, one_end_per_job, sum_by, rules}
+use Rattle.mv_machine.proofs.EntryRuns.{entry_of}
+use Rattle.mv_plan.proofs.volumes.GivenCodes.{added_by, added_by_is, with_code, adds_if, adds_named, adds, adds_all, adds_high, codes_of}
+use Rattle.mv_plan.proofs.volumes.GivenCodes.{codes-push, full, adds-append, adds_by_jobs}
+use Rattle.mv_plan.proofs.points.{Point, At, Running, Hand, empty_hand, InitiatorAt, Pausing, Resuming, Obtaining, Confirming, Freeing}
+use Rattle.mv_plan.proofs.points.{Reading, Writing, Scanning, Rescanning, initiator_goes, steps_at, running, job_start, given_at}
+use Rattle.mv_plan.proofs.points.{initiator_asks, InJob, IsNotLost, given_lands, no_gift}
+use Rattle.mv_plan.proofs.volumes.Values.{ValueAt, read_keeps, volumes_asked, Values, volumes_same}
+use Rattle.std.proofs.Common.{suc-mul}
+use Rattle.mv_plan.proofs.deck.{steps_events, all_events, all_events_are, Held, ArePlannedSteps, ArePlannedJobs, IsPlanned}
+use Rattle.mv_plan.proofs.walks.{NoneLost, none_lost_before, who_moved, mover_asked, mover_goes, mover_sum, Points, start_points, Move}
+use Rattle.mv_plan.proofs.lists.{sum_to, sum_zero, sum_le, sum_member, sum_front, times, times_once, count_of, sum_ext}
 use Rattle.mv_report.specs.Outcome.{steps_with, all_steps_with}
 use Rattle.mv_report.specs.Outcome as outcome
-use Rattle.mv_plan.proofs.volumes.Added.{added_by, added_by_is}
-use Rattle.mv_plan.proofs.volumes.GivenCodes.{codes_of, full, adds_all, adds_by_jobs}
-use Rattle.mv_plan.proofs.lists.{sum_to, sum_ext, sum_front, times, count_of}
+
+-- ---- what is still to be added
+
+-- by the job that is run
+abbrev pub due : ℕ → Point InitiatorAt → ℕ
+due v (At (InJob run (Obtaining hand latch mode steps))) = added_by v (before_end steps)
+due v (At (InJob run (Confirming hand latch mode id steps))) = added_by v (before_end steps)
+due v (At (InJob run (Freeing hand latch id steps))) = added_by v (before_end steps)
+due v (At (InJob run (Reading hand volume amount steps))) = added v (Count volume amount) + added_by v (before_end steps)
+due v (At (InJob run (Writing hand volume amount number steps))) = added v (Count volume amount) + added_by v (before_end steps)
+due v (At (InJob run (Scanning hand volume steps))) = added_by v (before_end steps)
+due v (At (InJob run (Rescanning hand volume number steps))) = added_by v (before_end steps)
+due v p = 0
+
+-- what the job that a given code names adds
+abbrev pub gift_adds : List JobData → ℕ → Reply → ℕ
+gift_adds deck v r = adds_all deck v (with_code (gift_code r) [])
+
+module _ (v : ℕ) where
+  due_steps : (run : Running) (hand : Hand) (steps : List Step) → IsNotLost (steps_at run hand steps)
+      → due v (steps_at run hand steps) ≡ added_by v (before_end steps)
+  due_steps run hand [] n = grind (arith, common_steps)
+  due_steps run hand (first ∷ steps) n = grind (arith, common_steps, due_steps run hand steps)
+
+  due_start : (deck : List JobData) (run : Running) (job : ℕ) (skipped : Bool) → IsNotLost (job_start skipped run (job_at deck job))
+      → due v (job_start skipped run (job_at deck job)) ≡ adds_if deck v job skipped
+  due_start deck run job true n = refl
+  due_start deck run job false n = due_steps run empty_hand (job_at deck job).steps n
+
+  due_given : (deck : List JobData) (more : ℕ) (before : List ℕ) (code g : ℕ) → IsNotLost (given_at deck more before code g)
+      → due v (given_at deck more before code g) ≡ adds deck v code
+  due_given deck more before code g =
+      given_lands (λ p. IsNotLost p → due v p ≡ adds deck v code) (λ n. absurd n) deck more before code g
+      (λ z n. sym (ap (adds deck v) z ∙ adds_high deck v 0 refl))
+      (λ named left e t m n. due_start deck (running named before (suc left) g) named.job named.skipped n ∙ sym (ap (adds_named deck v) e))
+
+-- ---- the initiator that moves
+
+-- the machine's next entry is what initiator i says at this point, and is answered so
+abbrev pub NextAt : Setup → System → List JobData → ℕ → InitiatorAt → ℕ → Reply → Type 0
+NextAt c s deck i x p r = IsNext c s
+    (entry_of (initiator i) (initiator_asks (length deck) i x).0 p (initiator_asks (length deck) i x).1 r)
+
+module _ (c : Setup) (s : System) (deck : List JobData) (i v : ℕ) where
+  abbrev DueNext : InitiatorAt → Reply → Type 0
+  DueNext x r = (volumes_asked c s deck i x v).state + due v (initiator_goes deck x r) ≡ (s.volume v).state + due v
+      (At x) + gift_adds deck v r
+
+  write_due : (volume amount number d a : ℕ) → (s.volume volume).state ≡ number → d ≡ a
+      → (with_at s.volume volume (advanced (s.volume volume) (number + amount)) v).state + d ≡ (s.volume v).state +
+      (added v (Count volume amount) + a) + 0
+  write_due volume amount number d a e f = grind (arith, common_steps)
+
+  pub own_due : (x : InitiatorAt) (p : ℕ) (r : Reply) → NextAt c s deck i x p r → ValueAt s.volume (At x)
+      → IsNotLost (initiator_goes deck x r) → DueNext x r
+  own_due (Pausing more before g) p (Reply.Element (ElementReply.Given code now)) h a n =
+      let f = due_given v deck more before code now n in omega arith
+  own_due (Resuming more before g) p (Reply.Element (ElementReply.Given code now)) h a n =
+      let f = due_given v deck more before code now n in omega arith
+  own_due (InJob run (Obtaining hand latch mode steps)) p (Reply.Latch (LatchReply.Granted id)) h a n =
+      let f = due_steps v run _ steps n in omega arith
+  own_due (InJob run (Confirming hand latch mode id steps)) p (Reply.Latch (LatchReply.Granted same)) h a n =
+      let f = due_steps v run _ steps n in omega arith
+  own_due (InJob run (Freeing hand latch id steps)) p (Reply.Latch (LatchReply.Released count)) h a n =
+      let f = due_steps v run _ steps n in omega arith
+  own_due (InJob run (Writing hand volume amount number steps)) p (Reply.Volume VolumeReply.Stored) h a n =
+      write_due volume amount number _ (added_by v (before_end steps)) a (due_steps v run hand steps n)
+  own_due (InJob run (Rescanning hand volume number steps)) p (Reply.Volume (VolumeReply.Value again)) h a n =
+      let e = read_keeps s.volume volume v in let f = due_steps v run hand steps n in omega arith
+  own_due x p r h a n = grind (arith, common_steps)
+
+-- ---- the balance
+
+-- ---- the balance
+
+-- Where no initiator is lost, what each volume has, and what the jobs that are run have still to add to it, is what the jobs
+-- that were named so far add.
+abbrev pub Balance : List JobData → ℕ → System → Points → List Entry → Type 0
+Balance deck initiators s t past = NoneLost initiators t → (v : ℕ)
+    → (s.volume v).state + sum_to initiators (λ i. due v (t.initiators i)) ≡ adds_all deck v (codes_of past)
+
+pub balance_start : (c : Setup) (deck : List JobData) (initiators : ℕ)
+    → Balance deck initiators (opening c) (start_points deck initiators) []
+balance_start c deck initiators n v = grind (arith, common_steps, sum_zero)
+
+codes_same : (past : List Entry) (e : Entry) → gift_code e.reply ≡ None → codes_of (past ++ e ∷ []) ≡ codes_of past
+codes_same past e q = codes-push past e ∙ ap (λ slot. codes_of past ++ with_code slot []) q ∙ append-nil (codes_of past)
+
+-- each move keeps it
+pub balance_next : (c : Setup) (deck : List JobData) (initiators : ℕ) (s : System) (t u : Points) (past : List Entry) (e : Entry)
+    → IsNext c s e → Move deck initiators t e u → Values initiators s.volume t.initiators
+    → Balance deck initiators s t past → Balance deck initiators (next s e) u (past ++ e ∷ [])
+balance_next c deck initiators s t u past e h moves values w n v = elim (who_moved deck initiators t u e moves) [
+  | inl a ↦ let o = old in
+      let f = ap (λ f. (f v).state) (volumes_same s e.caller e.object e.op a.signal) in
+      let g = ap (λ g. sum_to initiators (λ i. due v (g i))) a.same in
+      let d = ap (adds_all deck v) (codes_same past e (no_gift s e.caller e.object e.op e.reply h.reply a.no_pause)) in omega arith
+  | inr m ↦
+      let own = mover_asked deck initiators t u e m (λ j o op. IsNext c s (entry_of j o e.place op e.reply)
+      → ((moved s j o op).volume v).state + due v (initiator_goes deck m.point e.reply)
+      ≡ (s.volume v).state + due v (At m.point) + gift_adds deck v e.reply)
+      (λ h. own_due c s deck m.number v m.point e.place e.reply h (subst (ValueAt s.volume) m.stands (values m.number m.below))
+      (subst IsNotLost (mover_goes deck initiators t u e m) (n.at_initiator m.number m.below))) h in
+      let o = old in let f = mover_sum deck initiators t u e m (due v) in
+      let d = ap (adds_all deck v) (codes-push past e) ∙ adds-append deck v (codes_of past) (with_code (gift_code e.reply) []) in
+      omega arith
+] where
+  old : (s.volume v).state + sum_to initiators (λ i. due v (t.initiators i)) ≡ adds_all deck v (codes_of past)
+  old = w (none_lost_before deck initiators t u e moves n) v
+
+-- ---- how much a volume may have
+
+steps_bound : (v : ℕ) (steps : List Step) (held : List Held) → ArePlannedSteps held steps
+    → 2 * added_by v (before_end steps) ≤ 9999 * steps_events steps
+steps_bound v [] held s = grind (arith, common_steps)
+steps_bound v (first ∷ steps) held s = grind (arith, common_steps, steps_bound v steps)
+
+fulls_bound : (v k : ℕ) (jobs : List JobData) → ArePlannedJobs k jobs → 2 * sum_to (length jobs) (full jobs v) ≤ 9999 * all_events jobs
+fulls_bound v k [] s = omega arith
+fulls_bound v k (job ∷ jobs) s =
+    let first = sum_front (length jobs) (full (job ∷ jobs) v) in
+    let rest = fulls_bound v (k + 1) jobs s.1 in
+    let one = steps_bound v job.steps [] s.0.steps in omega arith
+
+few_events : (deck : List JobData) (initiators : ℕ) → 1 ≤ initiators → IsPlanned deck initiators → all_events deck ≤ 524287
+few_events deck zero some sound = absurd (omega arith)
+few_events deck (suc k) some sound = grind (arith, common_steps, all_events_are, suc-mul)
+
+-- each job was named to be run at most once
+abbrev pub OnceEach : List JobData → List ℕ → Type 0
+OnceEach deck codes = (j : ℕ) → j < length deck → count_of (j + 1) codes ≤ 1
+
+pub adds_few : (deck : List JobData) (initiators v : ℕ) (codes : List ℕ) → 1 ≤ initiators → IsPlanned deck initiators → OnceEach deck codes
+    → 2 * adds_all deck v codes ≤ 9999 * 524287
+adds_few deck initiators v codes some sound once =
+    let a = adds_by_jobs deck v codes in
+    let b = sum_le (length deck) (λ j. times (count_of (j + 1) codes) (full deck v j)) (full deck v)
+    (λ j lt. times_once (count_of (j + 1) codes) (full deck v j) (once j lt)) in
+    let d = fulls_bound v 0 deck sound.jobs in
+    let e = few_events deck initiators some sound in omega arith
+
+-- a COUNT's sum has 32 bits
+pub count_small : (deck : List JobData) (initiators : ℕ) (s : System) (t : Points) (past : List Entry) (i : ℕ) (run : Running) (hand : Hand)
+    (volume amount : ℕ) (steps : List Step)
+    → 1 ≤ initiators → IsPlanned deck initiators → i < initiators → NoneLost initiators t → Balance deck initiators s t past
+    → OnceEach deck (codes_of past)
+    → t.initiators i ≡ At (InJob run (Reading hand volume amount steps)) → (s.volume volume).state + amount < 2 ^ 32
+count_small deck initiators s t past i run hand volume amount steps some sound lt none w once at =
+    let a = w none volume in
+    let b = sum_member initiators i (λ m. due volume (t.initiators m)) lt in
+    let d = ap (due volume) at in
+    let e = ap (λ b. if b then amount else 0) (eq-eqb volume volume refl) in
+    let f = adds_few deck initiators volume (codes_of past) some sound once in
+    omega arith
+
+-- ---- the deck's total
 
 -- ---- all codes, and those that name one job
 
