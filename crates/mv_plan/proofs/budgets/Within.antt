@@ -151,8 +151,6 @@ module _ (n initiators : ℕ) where
   jobs_rest_is [] = omega arith
   jobs_rest_is (job ∷ jobs) = grind (arith, common_steps, jobs_rest_is jobs)
 
--- ---- an initiator: the events of each job that it was not named before, and those of the round in which it is
-
 -- ---- jobs that were not named before
 
 -- the events of the round of a job
@@ -251,8 +249,6 @@ module _ (deck : List JobData) where
   -- each event takes one
   pub initiator_pays : (x : InitiatorAt) (r : Reply) → suc (initiator_rest (initiator_goes deck x r)) ≤ initiator_rest (At x)
   initiator_pays x r = grind (arith, common_steps, rounds_rest, given_rest, steps_rest)
-
--- ---- what a task has made and may still make is within its budget
 
 -- ---- how a caller's part grows by an entry
 

@@ -151,8 +151,6 @@ module _ (deck : List JobData) (initiators : ℕ) where
       settling_marked a todo (found ++ None ∷ []) s.0 (one_settled a e todo found None sound s.0 s.1 f (λ k lt at. tt))
   scheduler_marks x r sound s f finds = grind (arith, common_steps, stage_marked)
 
--- ---- the codes
-
 -- ---- the codes of jobs
 
 -- a code that the scheduler releases: 0, or the job's with its mark

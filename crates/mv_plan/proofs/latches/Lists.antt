@@ -125,8 +125,6 @@ asked_all k job (h ∷ hs) = (
   all_map (λ g i. asked_more k job g.latch h hs (request_of k job g) i) hs (asked_all k job hs),
 )
 
--- ---- what one event does
-
 -- ---- the lists after an event
 
 abbrev pub new_request : ℕ → ℕ → ℕ → Mode → Request

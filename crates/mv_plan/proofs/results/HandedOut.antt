@@ -97,8 +97,6 @@ pub closes_start : (deck : List JobData) (initiators : ℕ)
     → Closes (length deck) initiators [] (dismissed_by initiators (errand (stage_at (length deck) initiators (Dispatching 0 deck))))
 closes_start deck initiators = grind (arith, common_steps)
 
--- ---- an element is closed only while it holds no code, so each accepted release gets to its pause
-
 -- ---- a close finds no code
 
 abbrev pub FindsNone : ElementOp → ElementState → Type 0
@@ -184,8 +182,6 @@ exact_end g code x before later vs v idle split is w = go (cases_order x.generat
     past : (givens g vs ≡ []) ⊎ ((c : ℕ) × (givens g vs ≡ c ∷ []) × (releases g vs ≡ c ∷ [])) → givens g vs ≡ code ∷ []
     past (inl none) = absurd (some (w.matched after none))
     past (inr one) = one.1 ∙ ap (λ z. z ∷ []) (sym (one_item (releases g before) (releases g later) code one.0 (sym there ∙ one.2)))
-
--- ---- each job is handed out once
 
 -- ---- an element is closed while it holds no code
 

@@ -123,8 +123,6 @@ module _ (n initiators : ℕ) (s : System) where
       (stay_moved s scheduler (Ecb e) (Op.Ecb EcbOp.Settle) tt) w)) is))) tt
   finds_next x r sound q w = grind (arith, common_steps)
 
--- ---- arms
-
 -- ---- blocks in lists
 
 abbrev pub In : List ℕ → ℕ → Type 0

@@ -165,8 +165,6 @@ module _ (deck : List JobData) (s : System) (q : Point SchedulerAt) (i : ℕ) wh
   pub apart : (x : InitiatorAt) → IsInitiatorAt deck (At x) → Apart (then_s x)
   apart x sound = grind (arith, common_steps)
 
--- ---- all rows, with what the scheduler has found
-
 -- ---- what the scheduler does to a row
 
 bare_early : (g m code : ℕ) (x : ElementState) → g ≡ m → x ≡ reset m

@@ -14,8 +14,6 @@ pub added_by_is : (v : ℕ) (steps : List Step) → outcome.added_by v steps ≡
 added_by_is v [] = refl
 added_by_is v (step ∷ steps) = sum_by-cons (added v) step steps ∙ ap (λ n. added v step + n) (added_by_is v steps)
 
--- ---- given codes
-
 -- ---- codes
 
 abbrev pub with_code : Option ℕ → List ℕ → List ℕ

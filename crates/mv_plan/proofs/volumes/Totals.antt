@@ -91,8 +91,6 @@ module _ (c : Setup) (s : System) (deck : List JobData) (i v : ℕ) where
 
 -- ---- the balance
 
--- ---- the balance
-
 -- Where no initiator is lost, what each volume has, and what the jobs that are run have still to add to it, is what the jobs
 -- that were named so far add.
 abbrev pub Balance : List JobData → ℕ → System → Points → List Entry → Type 0
@@ -172,8 +170,6 @@ count_small deck initiators s t past i run hand volume amount steps some sound l
     let e = ap (λ b. if b then amount else 0) (eq-eqb volume volume refl) in
     let f = adds_few deck initiators volume (codes_of past) some sound once in
     omega arith
-
--- ---- the deck's total
 
 -- ---- all codes, and those that name one job
 

@@ -75,8 +75,6 @@ wakes_unposted k x lists a =
       all_drop,
     )
 
--- ---- exits
-
 -- ---- both, of the machine
 
 pub record Fits (c : Setup) (s : System) : Type 0 where

@@ -107,8 +107,6 @@ walk_keeps P c deck initiators keeps s t u past (e ∷ es) w p =
     subst (λ l. P (after_from s (e ∷ es)) u l) (append_assoc past (e ∷ []) es)
     (walk_keeps P c deck initiators keeps (next s e) w.0 u (past ++ e ∷ []) es w.3 (keeps s t w.0 past e w.1 w.2 p))
 
--- ---- moves with their entry written out, so that object, operation and reply compute by cases of the point
-
 -- ---- a move with its entry written out
 
 abbrev pub entry_of : ℕ → ℕ → Object × Op → Reply → Entry
