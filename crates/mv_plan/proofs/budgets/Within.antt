@@ -125,14 +125,12 @@ module _ (n initiators : ℕ) where
   -- where blocks are still to be settled
   settling_rest : (a : Awaited) (es : List ℕ) (found : List (Option ℕ))
       → scheduler_rest (settling_from n a es found) ≤ length es + behind_wait a
-  settling_rest a [] found = grind (arith, common_steps, TooSoon, found_rest)
-  settling_rest a (e ∷ es) found = omega arith
+  settling_rest a x2 found = first_of (grind (arith, common_steps, found_rest), search (rules, found_rest))
 
   -- where blocks are still to be armed
   arming_rest : (a : Awaited) (es : List ℕ)
       → scheduler_rest (arming_from n initiators a es) ≤ length es + (block_count a + behind_wait a)
-  arming_rest a [] = grind (arith, common_steps, initiators, settling_rest, blocks)
-  arming_rest a (e ∷ es) = omega arith
+  arming_rest a x2 = first_of (grind (arith, common_steps, settling_rest, blocks), search (rules, settling_rest, blocks))
 
   -- where a wait begins
   first_rest : (a : Awaited) (es : List ℕ) → scheduler_rest (arming_first a es) ≤ length es + (block_count a + behind_wait a)
@@ -234,8 +232,7 @@ module _ (deck : List JobData) where
   -- where a job begins
   start_rest : (skipped : Bool) (run : Running) (job : JobData)
       → initiator_rest (job_start skipped run job) ≤ 4 + (steps_events job.steps + behind_job run)
-  start_rest true run job = omega arith
-  start_rest false run job = steps_rest run empty_hand job.steps
+  start_rest x1 run job = first_of (grind (arith, common_steps, steps_rest), search (rules, steps_rest))
 
   -- where a code was given
   given_rest : (more : ℕ) (before : List ℕ) (code g : ℕ)

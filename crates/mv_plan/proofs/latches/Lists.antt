@@ -56,8 +56,7 @@ found t [] e = absurd (false≢true e)
 found {X} t (q ∷ qs) e = go (t q) refl e (found t qs) where
   go : (b : Bool) → t q ≡ b → (b || list_any t qs) ≡ true → (list_any t qs ≡ true → (x : X) × Contains qs x × (t x ≡ true))
       → (x : X) × Contains (q ∷ qs) x × (t x ≡ true)
-  go true is f rest = (q, first_is_in q qs q refl, is)
-  go false is f rest = let w : (x : X) × Contains qs x × (t x ≡ true) = rest f in (w.0, rest_is_in q qs w.0 w.1, w.2)
+  go x1 is f rest = first_of (grind (arith, common_steps, first_is_in, qs, rest_is_in), search (rules, first_is_in, qs, rest_is_in))
 
 -- ---- what a job asks of a latch
 
@@ -150,8 +149,7 @@ pub obtained_reply : (k place latch requestor : ℕ) (mode : Mode) (lists : List
     → (latch_step k place (LatchOp.Obtain latch requestor mode LatchForm.Waiting) lists).1
     ≡ (if grants (list_of lists latch)
     (new_request k place requestor mode) then LatchReply.Granted place else LatchReply.Queued place)
-obtained_reply k place latch requestor mode lists =
-    ap (λ z. z.1) (obtain_is (new_request k place requestor mode) (list_of lists latch) refl)
+obtained_reply k place latch requestor mode lists = first_of (grind (arith, common_steps, obtain_is), search (rules, obtain_is))
 
 -- who is granted at once holds the latch
 pub granted_new : (r : Request) (qs : List Request) → grants qs r ≡ true → Contains (granted (qs ++ r ∷ [])) r
@@ -225,8 +223,7 @@ Spares k lists op = Unit {0}
 
 either_same : (k : ℕ) (qs : List Request) (b : Bool) (x y : List Request × LatchReply) → mine k x.0 ≡ mine k qs → mine k y.0 ≡ mine k qs
     → mine k (cond b x y).0 ≡ mine k qs
-either_same k qs true x y a c = a
-either_same k qs false x y a c = c
+either_same k qs x3 x y a c = first_of (grind (arith, common_steps), search rules)
 
 -- keeps this caller's requests
 pub mine_kept : (k j place : ℕ) (op : LatchOp) (lists : List (List Request)) → (k ≡ j → ⊥) → NamesLatch op lists → Spares k lists op
@@ -244,9 +241,7 @@ mine_kept k j place (LatchOp.Obtain at requestor mode form) lists n lt sp latch 
   more = mine_other_pushed k r (list_of lists at) (λ q. n (sym q))
 
   here : mine k (obtain_step r (list_of lists at)).0 ≡ mine k (list_of lists at)
-  here = either_same k (list_of lists at) (grants (list_of lists at) r) (list_of lists at ++ r ∷ [], LatchReply.Granted r.id) _ more
-      (either_same k (list_of lists at) (queues form) (list_of lists at ++ r ∷ [], LatchReply.Queued r.id)
-      (list_of lists at, LatchReply.NotNow (blocker r (list_of lists at))) more refl)
+  here = first_of (grind (arith, common_steps, either_same, at, r, more), search (rules, either_same, at, r, more))
 mine_kept k j place (LatchOp.Confirm at id) lists n lt sp latch = refl
 mine_kept k j place (LatchOp.Release at id conditional) lists n lt sp latch = elim (cases_eq latch at) [
   | inl e ↦ subst (λ l. mine k (list_of (set lists at (release_step j id conditional (list_of lists at)).0) l) ≡ mine k
@@ -258,17 +253,14 @@ mine_kept k j place (LatchOp.Release at id conditional) lists n lt sp latch = el
   qs = list_of lists at
 
   here : mine k (release_step j id conditional (list_of lists at)).0 ≡ mine k (list_of lists at)
-  here = either_same k qs (not (list_any (is_own j id) qs)) (qs, LatchReply.Gone) _ refl
-      (either_same k qs (conditional && not (list_any (is_own j id) (granted qs))) (qs, LatchReply.Waiting)
-      (without j id qs, LatchReply.Released (length (newly_granted qs (without j id qs)))) refl (mine_other_without k j id qs n))
+  here = first_of (grind (arith, common_steps, either_same, qs, mine_other_without), search (rules, either_same, qs, mine_other_without))
 mine_kept k j place (LatchOp.Purge requestor) lists n lt sp latch = search (rules, mine, purged_list, mine_purged, filter_all)
 
 -- ---- what is so of all requests
 
 either_all : (P : Request → Type 0) (b : Bool) (x y : List Request × LatchReply) → AllByRecursion P x.0 → AllByRecursion P y.0
     → AllByRecursion P (cond b x y).0
-either_all P true x y a c = a
-either_all P false x y a c = c
+either_all x1 x2 x y a c = first_of (grind (arith, common_steps), search rules)
 
 abbrev pub AllAsked : (Request → Type 0) → List (List Request) → Type 0
 AllAsked P lists = (latch : ℕ) → AllByRecursion P (list_of lists latch)
@@ -281,7 +273,6 @@ set_all P lists at qs lt a b latch = search (rules, cases_eq, list_replaced, lis
 pub all_asked : (P : Request → Type 0) (k place : ℕ) (op : LatchOp) (lists : List (List Request)) → NamesLatch op lists
     → ((q : Request) → q.caller ≡ k → P q) → AllAsked P lists
     → AllAsked P (latch_step k place op lists).0
-all_asked P k place (LatchOp.Obtain at requestor mode form) lists lt f a = search (rules, set_all, either_all, all_append)
-all_asked P k place (LatchOp.Confirm at id) lists lt f a = a
-all_asked P k place (LatchOp.Release at id conditional) lists lt f a = search (rules, set_all, either_all, all_filter)
-all_asked P k place (LatchOp.Purge requestor) lists lt f a = search (rules, purged_list, all_filter)
+all_asked x1 k place x4 lists lt f a =
+    first_of (grind (arith, common_steps, set_all, either_all, all_append, all_filter, purged_list), search (rules, set_all, either_all,
+    all_append, all_filter, purged_list))

@@ -61,10 +61,7 @@ module _ (deck : List JobData) (initiators : ℕ) (s : System) (t : Points) (pas
   once = let a = w.codes (naming j) refl in let b = w.named j in omega arith
 
   few : length (released_codes j past) ≤ 1
-  few = elim (cases_lt j next) [
-    | inl lt ↦ let e = ap length ((w.released j below).1 lt).1 in omega arith
-    | inr ge ↦ let e = ap length ((w.released j below).0 ge) in omega arith
-  ]
+  few = first_of (grind (arith, common_steps, cases_lt, below), search (rules, cases_lt, below))
 
   -- it was given once at most
   pub given_few : length (given_codes j past) ≤ 1
@@ -174,9 +171,7 @@ module _ (deck : List JobData) (o h : Option ℕ) where
 
 run_did : (p q : Point InitiatorAt) (h h' : Option ℕ) (r : Reply) (run : Running) → run_of p ≡ Some run → GoesOn run q
     → IsNotLost q → h' ≡ h → gift_code r ≡ None → Deed p q h h' r
-run_did p q h h' r run e (same w) f k g = went_on (jobs_run q run w ∙ sym (jobs_run p run e)) k g
-run_did p q h h' r run e (done w) f k g = grind (arith, common_steps, went_on, rounds_jobs, jobs_run)
-run_did p q h h' r run e (lost w) f k g = absurd (w f)
+run_did p q h h' r run e x8 f k g = first_of (grind (arith, common_steps, jobs_run, rounds_jobs), search (rules, jobs_run, rounds_jobs))
 
 module _ (deck : List JobData) (s : System) (q : Point SchedulerAt) (i : ℕ) where
   abbrev n : ℕ

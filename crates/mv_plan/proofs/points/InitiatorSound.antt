@@ -267,12 +267,8 @@ module _ (deck : List JobData) (i : ℕ) (sound : ArePlannedJobs 0 deck) (kept :
 -- what is kept of the requests changes by latch events alone
 pub obtained_stand : (deck : List JobData) (run : Running) (hand : Hand) (latch : ℕ) (mode : Mode) (id : ℕ) (steps : List Step)
     → IsStepping deck run hand (Use latch mode ∷ steps) → IsStepping deck run (hand_with hand latch mode id) steps
-obtained_stand deck run hand latch mode id steps s = record {
-  round = s.round;
-  holds = hand_push hand latch mode id s.holds s.sound.1;
-  left = left_next deck run (Use latch mode) steps tt s.left;
-  sound = subst (λ hs. ArePlannedSteps hs steps) (sym (held_push hand.holding latch mode id)) s.sound.2;
-}
+obtained_stand deck run hand latch mode id steps s =
+    first_of (grind (arith, common_steps, hand_push, left_next, held_push), search (rules, hand_push, left_next, held_push))
 
 pub pushed_kept : (i : ℕ) (kept : Kept) (run : Running) (hand : Hand) (latch : ℕ) (mode : Mode) (id : ℕ)
     → InitiatorKept i (standing_of (initiator i) run.job hand.holding) kept → {o : Kept} → o.caller ≡ kept.caller
@@ -282,12 +278,8 @@ pushed_kept i kept run hand latch mode id k same more = grind (arith, common_ste
 
 pub freed_stand : (deck : List JobData) (run : Running) (hand : Hand) (latch : ℕ) (steps : List Step)
     → IsStepping deck run hand (Free latch ∷ steps) → IsStepping deck run (hand_without hand latch) steps
-freed_stand deck run hand latch steps s = record {
-  round = s.round;
-  holds = hand_less hand latch s.holds;
-  left = left_next deck run (Free latch) steps tt s.left;
-  sound = subst (λ hs. ArePlannedSteps hs steps) (sym (held_without hand.holding latch)) s.sound.2;
-}
+freed_stand deck run hand latch steps s =
+    first_of (grind (arith, common_steps, hand_less, left_next, held_without), search (rules, hand_less, left_next, held_without))
 
 pub freed_kept : (i : ℕ) (kept : Kept) (run : Running) (hand : Hand) (latch id : ℕ) → IsHand hand → hand.requests latch ≡ Some id
     → InitiatorKept i (standing_of (initiator i) run.job hand.holding) kept

@@ -9,14 +9,12 @@ module _ (P : Point InitiatorAt → Type 0) (lost : P Astray) where
   -- a next round
   pub rounds_land : (more : ℕ) (before : List ℕ) (g : ℕ) → ((left : ℕ) → more ≡ suc left → P (At (Offering left before g)))
       → P (rounds_from more before g)
-  rounds_land zero before g next = lost
-  rounds_land (suc left) before g next = next left refl
+  rounds_land x1 before g next = first_of (grind (arith, common_steps), search rules)
 
   -- a FREE
   pub freeing_lands : (run : Running) (hand : Hand) (latch : ℕ) (slot : Option ℕ) (steps : List Step)
       → ((id : ℕ) → slot ≡ Some id → P (At (InJob run (Freeing hand latch id steps)))) → P (freeing_at run hand latch slot steps)
-  freeing_lands run hand latch None steps next = lost
-  freeing_lands run hand latch (Some id) steps next = next id refl
+  freeing_lands run hand latch x4 steps next = first_of (grind (arith, common_steps), search rules)
 
   -- a COUNT's write
   pub counting_lands : (run : Running) (hand : Hand) (volume amount : ℕ) (steps : List Step) (number : ℕ)

@@ -71,22 +71,14 @@ module _ (c : Setup) (deck : List JobData) (initiators : ℕ) (kept : ℕ → Ke
   scheduled : (x : SchedulerAt) (p : ℕ) (r : Reply) (q : Point SchedulerAt) → q ≡ At x → IsSchedulerAt deck initiators (At x)
       → IsNotLost (scheduler_goes n initiators x r)
       → ClosesAt q past → ClosesAt (scheduler_goes n initiators x r) (past ++ entry_of scheduler p (scheduler_asks n x) r ∷ [])
-  scheduled (Waits a v) p r q at sound f w =
-      closes_quiet n initiators past _ w _ _
-      (ap (λ z. dismissed_by initiators z) (same_errand n initiators (Waits a v) r tt f ∙ sym (ap (λ z. errand z) at)))
-      (wait_no_release v)
-  scheduled (Extends j job jobs skipped) p r q at sound f w = grind (arith, common_steps)
-  scheduled (Clears i g code after) p r q at sound f w = grind (arith, common_steps)
-  scheduled (Releases i g code after) p r q at sound f w = releasing i g code p r after q at sound f w
+  scheduled x1 p r q at sound f w =
+      first_of (grind (arith, common_steps, closes_quiet, past, same_errand, wait_no_release, releasing), search (rules, closes_quiet,
+      past, same_errand, wait_no_release, releasing))
 
   each_closing : Each c deck initiators Closing
-  each_closing = record {
-    of_reader = λ s t x p r at nx st f w. closes_quiet n initiators past _ w _ _ refl (reader_plain x);
-    of_scheduler = λ s t x p r at nx st f w. scheduled x p r t.scheduler at
-        (subst (λ z. IsSchedulerAt deck initiators z) at st.at_scheduler.0) f.at_scheduler w;
-    of_initiator = λ s t i x p r lt at nx st f w. closes_quiet n initiators past _ w _ _ refl (no_release n i x);
-    of_writer = λ s t x p r at nx st f w. closes_quiet n initiators past _ w _ _ refl (writer_plain x);
-  }
+  each_closing =
+      first_of (grind (arith, common_steps, closes_quiet, past, reader_plain, scheduled, no_release, writer_plain), search (rules,
+      closes_quiet, past, reader_plain, scheduled, no_release, writer_plain))
 
   pub closes_next : (s : System) (t u : Points) (e : Entry) → IsNext c s e → Move deck initiators t e u → Stand deck initiators kept t
       → NoneLost initiators u → ClosesAt t.scheduler past → ClosesAt u.scheduler (past ++ e ∷ [])
@@ -262,21 +254,17 @@ exact_start c m g = grind (arith, common_steps)
 -- an element's operation is made on an element
 on_element : (c : Setup) (s : System) (k : ℕ) (o : Object) (op : ElementOp) → admitted c s k o (Op.Element op) ≡ true
     → (m : ℕ) × (o ≡ Element m)
-on_element c s k (Element m) op a = (m, refl)
-on_element c s k y op a = absurd (false≢true a)
+on_element c s k y op a = first_of (grind (arith, common_steps, false≢true), search (rules, false≢true))
 
 released-step : (j : ℕ) (e : Entry) (es : List Entry)
     → released_codes j (e ∷ es) ≡ with_code (naming j (released_code e.op)) (released_codes j es)
 released-step j e es = search rules
 
 naming_same : (j : ℕ) (slot : Option ℕ) (code : ℕ) → naming j slot ≡ Some code → slot ≡ Some code
-naming_same j None code e = absurd (cc e)
-naming_same j (Some d) code e = search rules
+naming_same j x2 code e = first_of (grind (arith, common_steps), search rules)
 
 release_is : (op : Op) (code : ℕ) → released_code op ≡ Some code → (g : ℕ) × (op ≡ Op.Element (ElementOp.Release g code))
-release_is (Op.Element (ElementOp.Release g d)) code e =
-    (g, ap (λ z. Op.Element (ElementOp.Release g z)) (let q : d ≡ code = cc e in q))
-release_is op code e = absurd (cc e)
+release_is op code e = first_of (grind (arith, common_steps), search rules)
 
 -- the mark of the release that names a job
 pub release_marks : (c : Setup) (deck : List JobData) (s : System) (es : List Entry) (j : ℕ) (skipped : Bool) → LegalFrom c s es
@@ -288,13 +276,8 @@ release_marks c deck s (x ∷ es) j skipped l a lt e =
     (release_marks c deck (next s x) es j skipped l.1 a.1 lt) where
       go : (slot : Option ℕ) → naming j (released_code x.op) ≡ slot → with_code slot (released_codes j es) ≡ code_of j skipped ∷ []
           → (released_codes j es ≡ code_of j skipped ∷ [] → skipped ≡ (end_of deck j == not_run)) → skipped ≡ (end_of deck j == not_run)
-      go None q f rest = rest f
-      go (Some code) q f rest =
-          let same : code ≡ code_of j skipped = cc f in
-          let it = release_is x.op code (naming_same j (released_code x.op) code q) in
-          let on = on_element c s x.caller x.object (ElementOp.Release it.0 code)
-          (subst (λ op. admitted c s x.caller x.object op ≡ true) it.1 l.0.admits) in
-          a.0 on.0 it.0 j skipped lt on.1 (it.1 ∙ ap (λ z. Op.Element (ElementOp.Release it.0 z)) same)
+      go x1 q f rest =
+          first_of (grind (arith, common_steps, release_is, naming_same, on_element), search (rules, release_is, naming_same, on_element))
 
 module _ (deck : List JobData) (initiators : ℕ) (some : 1 ≤ initiators) (sound : IsPlanned deck initiators) (es : List Entry)
     (run : IsRun deck initiators es) where

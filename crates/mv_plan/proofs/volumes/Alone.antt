@@ -51,16 +51,11 @@ quiet_point c deck initiators i s t u (e ∷ es) w q =
 -- ---- events on volumes
 
 asks_volume : (n i v : ℕ) (x : InitiatorAt) → (initiator_asks n i x).0 ≡ Volume v → touched (At x) ≡ Some v
-asks_volume n i v (InJob run (Reading hand volume amount steps)) e = ap (λ z. Some z) (let q : volume ≡ v = cc e in q)
-asks_volume n i v (InJob run (Writing hand volume amount number steps)) e = ap (λ z. Some z) (let q : volume ≡ v = cc e in q)
-asks_volume n i v (InJob run (Scanning hand volume steps)) e = ap (λ z. Some z) (let q : volume ≡ v = cc e in q)
-asks_volume n i v (InJob run (Rescanning hand volume number steps)) e = ap (λ z. Some z) (let q : volume ≡ v = cc e in q)
-asks_volume n i v x e = absurd (cc e)
+asks_volume n i v x e = first_of (grind (arith, common_steps), search rules)
 
 asks_write : (n i v m : ℕ) (x : InitiatorAt) → (initiator_asks n i x).0 ≡ Volume v
     → (initiator_asks n i x).1 ≡ Op.Volume (VolumeOp.Write m) → counted_on (At x) ≡ Some v
-asks_write n i v m (InJob run (Writing hand volume amount number steps)) e f = ap (λ z. Some z) (let q : volume ≡ v = cc e in q)
-asks_write n i v m x e f = absurd (cc f)
+asks_write n i v m x e f = first_of (grind (arith, common_steps), search rules)
 
 -- the initiator that moves on a volume
 pub mover : (deck : List JobData) (initiators v : ℕ) (t u : Points) (e : Entry) → Move deck initiators t e u → e.object ≡ Volume v
