@@ -188,9 +188,7 @@ round_taken deck before j lt new =
 -- the rounds of all jobs
 pub all_rounds : (deck : List JobData) → rounds_to_come deck [] ≡ 7 * length deck + all_events deck
 all_rounds [] = refl
-all_rounds (job ∷ jobs) =
-    let front = sum_front (length jobs) (round_to_come (job ∷ jobs) []) in
-    let rest = all_rounds jobs in omega arith
+all_rounds (job ∷ jobs) = first_of (grind (arith, common_steps, sum_front, all_rounds jobs), search (rules, sum_front, all_rounds jobs))
 
 -- ---- what an initiator may still do
 
@@ -330,22 +328,15 @@ module _ (deck : List JobData) (initiators : ℕ) where
 
     some_rest : (k : ℕ) (o : Object) (op : Op) (w : Who initiators k) → asks (says k) ≡ Some (o, op) → 1 ≤ rest_of st.points w
     some_rest k o op (is_reader e) a =
-        one_left (reader_program (spool_setup deck initiators) (st.kept reader)) reader_rest (says reader) st.points.reader o op
-        st.tasks.at_reader (subst (λ k. asks (says k) ≡ Some (o, op)) e a)
-        (λ x. let p = reader_pays x some_reply in omega arith)
+        first_of (grind (arith, common_steps, one_left, st, kept, reader_pays), search (rules, one_left, st, kept, reader_pays))
     some_rest k o op (is_scheduler e) a =
-        one_left (scheduler_program (spool_setup deck initiators) (length deck) initiators (st.kept scheduler))
-        (scheduler_rest (length deck) initiators) (says scheduler) st.points.scheduler o op
-        st.tasks.at_scheduler (subst (λ k. asks (says k) ≡ Some (o, op)) e a)
-        (λ x. let p = scheduler_pays (length deck) initiators x some_reply in omega arith)
+        first_of (grind (arith, common_steps, one_left, st, kept, scheduler_pays), search (rules, one_left, st, kept, scheduler_pays))
     some_rest k o op (is_initiator i lt e) a =
         one_left (initiator_program (spool_setup deck initiators) deck i (st.kept (initiator i))) (initiator_rest deck)
         (says (initiator i)) (st.points.initiators i) o op (st.tasks.at_initiator i lt) (subst (λ k. asks (says k) ≡ Some (o, op)) e a)
         (λ x. let p = initiator_pays deck x some_reply in omega arith)
     some_rest k o op (is_writer e) a =
-        one_left (writer_program (spool_setup deck initiators) (length deck) (st.kept (writer initiators))) writer_rest
-        (says (writer initiators)) st.points.writer o op st.tasks.at_writer (subst (λ k. asks (says k) ≡ Some (o, op)) e a)
-        (λ x. let p = writer_pays (length deck) x some_reply in omega arith)
+        first_of (grind (arith, common_steps, one_left, st, kept, writer_pays), search (rules, one_left, st, kept, writer_pays))
 
     pub within_budgets : IsWithinBudgets deck initiators es
     within_budgets = record {

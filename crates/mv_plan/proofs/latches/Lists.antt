@@ -119,10 +119,9 @@ asked_more k job latch h gs q i =
 
 pub asked_all : (k job : ℕ) (gs : List Grant) → AllByRecursion (λ g. Contains (asked k job g.latch gs) (request_of k job g)) gs
 asked_all k job [] = tt
-asked_all k job (h ∷ hs) = (
-  rw (eq-eqb h.latch h.latch refl) (first_is_in (request_of k job h) (asked k job h.latch hs) (request_of k job h) refl),
-  all_map (λ g i. asked_more k job g.latch h hs (request_of k job g) i) hs (asked_all k job hs),
-)
+asked_all k job (h ∷ hs) =
+    first_of (grind (arith, common_steps, eq-eqb, first_is_in, all_map, asked_more, asked_all k job hs), search (rules, eq-eqb,
+    first_is_in, all_map, asked_more, asked_all k job hs))
 
 -- ---- the lists after an event
 

@@ -194,12 +194,10 @@ module _ (c : Setup) (deck : List JobData) (initiators i : ℕ) (facts : Facts c
           now = kept_by kept (InJob run (Freeing hand latch id steps)) (Reply.Latch (LatchReply.Released granted))
     goes (InJob run (Reading hand volume amount steps)) (Reply.Volume (VolumeReply.Value number)) s f = grind (arith, common_steps)
     goes (InJob run (Writing hand volume amount number steps)) (Reply.Volume VolumeReply.Stored) s f =
-        steps_enter run hand steps _ (step_done deck run hand (Count volume amount) steps tt s.0.sound.4 s.0)
-        (record { caller = s.1.caller; stand = s.1.stand })
+        first_of (grind (arith, common_steps, steps_enter, step_done), search (rules, steps_enter, step_done))
     goes (InJob run (Scanning hand volume steps)) (Reply.Volume (VolumeReply.Value number)) s f = refl
     goes (InJob run (Rescanning hand volume number steps)) (Reply.Volume (VolumeReply.Value again)) s f =
-        steps_enter run hand steps _ (step_done deck run hand (Scan volume) steps tt s.0.sound.2 s.0)
-        (record { caller = s.1.caller; stand = s.1.stand })
+        first_of (grind (arith, common_steps, steps_enter, step_done), search (rules, steps_enter, step_done))
     goes (InJob run (Purging hand code)) (Reply.Latch (LatchReply.Purged removed granted)) s f =
         ap (λ p. ending c deck i run now (and_then p (λ counts. wake_posted c (Some (done (length deck) run.job)) code kept (Done counts))))
         (nothing_posted c h.wakes kept (Done counts) f)

@@ -161,11 +161,8 @@ rises_push low latch mode id (g ∷ gs) r le b =
 rises_without : (low latch : ℕ) (gs : List Grant) → Rises low gs → Rises low (without_latch latch gs)
 rises_without low latch [] r = tt
 rises_without low latch (g ∷ gs) r =
-    elim (g.latch == latch) as (λ b. Rises low (if not b then g ∷ without_latch latch gs else without_latch latch gs)) [
-      | true ↦ rises_less low (g.latch + 1) (without_latch latch gs) (let le = r.0 in omega arith)
-          (rises_without (g.latch + 1) latch gs r.1)
-      | false ↦ (r.0, rises_without (g.latch + 1) latch gs r.1)
-    ]
+    first_of (grind (arith, common_steps, rises_less, rises_without (g.latch + 1) latch gs r.1, rises_without (g.latch + 1) latch gs r.1),
+    search (rules, rises_less, rises_without (g.latch + 1) latch gs r.1, rises_without (g.latch + 1) latch gs r.1))
 
 -- those that are held below a latch are not more than it
 pub rises_few : (low latch : ℕ) (gs : List Grant) → Rises low gs → low ≤ latch → AllByRecursion (λ h. h.latch < latch) (held_of gs)
@@ -301,19 +298,15 @@ initiator_stands deck i kept (Resuming more before g) (Reply.Element (ElementRep
 initiator_stands deck i kept (InJob run (Obtaining hand latch mode steps)) (Reply.Latch (LatchReply.Granted id)) sound s =
     search (rules, steps_stand, obtained_stand, pushed_kept)
 initiator_stands deck i kept (InJob run (Confirming hand latch mode id steps)) (Reply.Latch (LatchReply.Granted same)) sound s =
-    steps_stand deck i sound _ run (hand_with hand latch mode id) steps (obtained_stand deck run hand latch mode id steps s.0)
-    (record { caller = s.1.caller; stand = s.1.stand })
+    first_of (grind (arith, common_steps, steps_stand, obtained_stand), search (rules, steps_stand, obtained_stand))
 initiator_stands deck i kept (InJob run (Freeing hand latch id steps)) (Reply.Latch (LatchReply.Released granted)) sound s =
-    steps_stand deck i sound _ run (hand_without hand latch) steps (freed_stand deck run hand latch steps s.0.0)
-    (freed_kept i kept run hand latch id s.0.0.holds s.0.1 s.1 refl refl)
+    first_of (grind (arith, common_steps, steps_stand, freed_stand, freed_kept), search (rules, steps_stand, freed_stand, freed_kept))
 initiator_stands deck i kept (InJob run (Obtaining hand latch mode steps)) (Reply.Latch (LatchReply.Queued id)) sound s =
     grind (arith, common_steps, pushed_kept)
 initiator_stands deck i kept (InJob run (Writing hand volume amount number steps)) (Reply.Volume VolumeReply.Stored) sound s =
-    steps_stand deck i sound _ run hand steps (step_done deck run hand (Count volume amount) steps tt s.0.sound.4 s.0)
-    (record { caller = s.1.caller; stand = s.1.stand })
+    first_of (grind (arith, common_steps, steps_stand, step_done), search (rules, steps_stand, step_done))
 initiator_stands deck i kept (InJob run (Rescanning hand volume number steps)) (Reply.Volume (VolumeReply.Value again)) sound s =
-    steps_stand deck i sound _ run hand steps (step_done deck run hand (Scan volume) steps tt s.0.sound.2 s.0)
-    (record { caller = s.1.caller; stand = s.1.stand })
+    first_of (grind (arith, common_steps, steps_stand, step_done), search (rules, steps_stand, step_done))
 initiator_stands deck i kept (InJob run (EndingJob code counts)) r sound s =
     ended_lands (InitiatorStands deck i (keeps kept (initiator_asks (length deck) i (InJob run (EndingJob code counts))) r)) (tt, tt)
     run code counts r (s.0, record { caller = s.1.caller; stand = s.1.stand })

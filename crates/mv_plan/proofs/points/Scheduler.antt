@@ -43,9 +43,8 @@ rest_below deck j job jobs r = let e = rest_count deck j (job ∷ jobs) r in ome
 
 sound_from : (j : ℕ) (front jobs : List JobData) → ArePlannedJobs j (front ++ jobs) → ArePlannedJobs (j + length front) jobs
 sound_from j [] jobs s = subst (λ k. ArePlannedJobs k jobs) (omega arith) s
-sound_from j (f ∷ front) jobs s = subst (λ k. ArePlannedJobs k jobs) (one_more j (length front)) (sound_from (j + 1) front jobs s.1) where
-  one_more : (j k : ℕ) → j + 1 + k ≡ j + suc k
-  one_more j k = omega arith
+sound_from j (f ∷ front) jobs s =
+    first_of (grind (arith, common_steps, sound_from (j + 1) front jobs s.1), search (rules, sound_from (j + 1) front jobs s.1))
 
 pub rest_sound : (deck : List JobData) (j : ℕ) (job : JobData) (jobs : List JobData) → ArePlannedJobs 0 deck → IsRest deck j (job ∷ jobs)
     → IsPlannedJob j job

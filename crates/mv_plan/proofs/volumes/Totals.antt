@@ -208,11 +208,9 @@ total_from v [] [] e = refl
 total_from v [] (job ∷ jobs) e = absurd (omega arith)
 total_from v (x ∷ es) [] e = absurd (omega arith)
 total_from v (x ∷ es) (job ∷ jobs) e =
-    sum_front (length jobs) (λ j. added_by v (steps_with (slice_index (x ∷ es) j) (job_at (job ∷ jobs) j).steps))
-    ∙ ap (λ z. added_by v (steps_with x job.steps) + z)
-    (total_from v es jobs (let f : suc (length es) ≡ suc (length jobs) = e in omega arith))
-    ∙ ap (λ z. z + sum_by (outcome.added_by v) (all_steps_with es jobs)) (sym (added_by_is v (steps_with x job.steps)))
-    ∙ sym (sum_by-cons (outcome.added_by v) (steps_with x job.steps) (all_steps_with es jobs))
+    first_of (grind (arith, common_steps, sum_front, added_by_is, sum_by-cons,
+    total_from v es jobs (let f : suc (length es) ≡ suc (length jobs) = e in omega arith)), search (rules, sum_front, added_by_is,
+    sum_by-cons, total_from v es jobs (let f : suc (length es) ≡ suc (length jobs) = e in omega arith)))
 
 -- each job was given once, to be run unless its end says that it is not
 abbrev pub GivenByEnds : List JobData → List Entry → Type 0
