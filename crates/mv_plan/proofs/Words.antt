@@ -37,7 +37,7 @@ pub use Rattle.mv_ecb.specs.Table.{ecb_step}
 pub use Rattle.mv_element.specs.declared.element.ElementState.{ElementState}
 pub use Rattle.mv_element.specs.declared.element.Phase.{Phase}
 pub use Rattle.mv_element.specs.Table.{element_step}
-pub use Rattle.std.proofs.lemmas.Option.{same_Some, some_pair_parts}
+pub use Rattle.std.proofs.lemmas.Option.{some_pair_parts}
 pub use Rattle.mv_element.specs.Element.{reset, free, prereleased}
 pub use Rattle.std.specs.List.{AllByRecursion, range_with_len, filter_map, list_any, Contains}
 pub use Rattle.mv_machine.proofs.Lists.{all_push, all_append, all_at, all_filter}
@@ -71,7 +71,7 @@ pub use Rattle.mv_calls.proofs.Unrefused.{wait_unrefused}
 pub use Rattle.mv_latch.specs.declared.request.Request.{Request}
 pub use Rattle.mv_latch.specs.declared.request.LatchForm.{LatchForm}
 pub use Rattle.mv_latch.proofs.Members.{not_in_empty, first_or_rest, first_is_in}
-pub use Rattle.mv_latch.specs.Latch.{granted, grants, waiting, newly_granted, obtain_step, release_step, without, blocker}
+pub use Rattle.mv_latch.specs.Latch.{granted, grants, waiting, newly_granted, obtain_step, release_step, without}
 pub use Rattle.mv_latch.specs.LatchSet.{list_of, latch_step}
 pub use Rattle.mv_latch.specs.declared.operation.LatchOp.{LatchOp}
 pub use Rattle.mv_latch.specs.declared.operation.LatchReply.{LatchReply}

@@ -3,17 +3,17 @@
 use Rattle.mv_plan.proofs.Words.{◌≡◌, ℕ, suc, ◌+◌, ◌*◌, ◌≤◌, nat_le, true, false, cond, List, [], ◌∷◌, ◌++◌, length, Option, arith}
 use Rattle.mv_plan.proofs.Words.{length-map, length-map-range_with_len, Reply, After, Step, JobData, complete_count, EcbReply, common_steps}
 use Rattle.mv_plan.proofs.Words.{rules, ◌<◌, ◌==◌, Bool, if◌then◌else◌, refl, ap, list_any, eq-eqb, ne_eqb, job_at, slice_index, Some, sym}
-use Rattle.mv_plan.proofs.Words.{subst, Entry, Object, Op, of, opening, asks, left_in, Follows, spool_setup, task_budgets, reader}
-use Rattle.mv_plan.proofs.Words.{scheduler, initiator, writer, task_program, Program, cases_eq, inl, inr}
+use Rattle.mv_plan.proofs.Words.{subst, Entry, Object, Op, of, opening, asks, left_in, Follows, spool_setup, task_budgets}
+use Rattle.mv_plan.proofs.Words.{initiator, task_program, Program, cases_eq, inl, inr}
 use Rattle.mv_plan.proofs.deck.{after_parts, steps_events, all_events, IsPlanned, after_parts_are, all_events_are}
 use Rattle.mv_plan.proofs.points.{Point, At, TooSoon, ReaderAt, Entering, entering_from, reader_goes, Arming, Settling, Stage, Dispatching}
 use Rattle.mv_plan.proofs.points.{Dismissing, Awaited, ForEntry, ForEnds, ForIdle, ToDismiss, SchedulerAt, Waits, Extends, Clears, Releases}
 use Rattle.mv_plan.proofs.points.{awaited_blocks, arming_first, ends_at, stage_at, found_at, settling_from, arming_from, scheduler_goes}
 use Rattle.mv_plan.proofs.points.{WriterAt, Keeping, writing_from, end_found, lowest_at, writer_goes, on_armed_keeps, on_settled_keeps}
-use Rattle.mv_plan.proofs.points.{lowest_keeps, Running, Hand, empty_hand, InitiatorAt, Opening, Offering, Pausing, Resuming, Obtaining}
+use Rattle.mv_plan.proofs.points.{lowest_keeps, Running, Hand, InitiatorAt, Opening, Offering, Pausing, Resuming, Obtaining}
 use Rattle.mv_plan.proofs.points.{Confirming, Freeing, Reading, Writing, Scanning, Rescanning, Purging, EndingJob, EndingForScheduler}
 use Rattle.mv_plan.proofs.points.{EndingForWriter, Closing, initiator_goes, rounds_from, steps_at, running, job_start, given_at, InJob}
-use Rattle.mv_plan.proofs.points.{given_lands, named_is, reader_program, scheduler_program, writer_program, initiator_program, program_at}
+use Rattle.mv_plan.proofs.points.{given_lands, named_is, initiator_program, program_at}
 use Rattle.mv_plan.proofs.lists.{sum_to, sum_front, sum_change}
 use Rattle.mv_plan.specs.StayingWithin.{IsWithinBudgets}
 use Rattle.mv_plan.proofs.walks.{Who, is_reader, is_scheduler, is_initiator, is_writer, who, Stood, stood, Points, start_points, Move}
@@ -125,12 +125,12 @@ module _ (n initiators : ℕ) where
   -- where blocks are still to be settled
   settling_rest : (a : Awaited) (es : List ℕ) (found : List (Option ℕ))
       → scheduler_rest (settling_from n a es found) ≤ length es + behind_wait a
-  settling_rest a x2 found = first_of (grind (arith, common_steps, found_rest), search (rules, found_rest))
+  settling_rest a x2 found = grind (arith, common_steps, found_rest)
 
   -- where blocks are still to be armed
   arming_rest : (a : Awaited) (es : List ℕ)
       → scheduler_rest (arming_from n initiators a es) ≤ length es + (block_count a + behind_wait a)
-  arming_rest a x2 = first_of (grind (arith, common_steps, settling_rest, blocks), search (rules, settling_rest, blocks))
+  arming_rest a x2 = grind (arith, common_steps, settling_rest, blocks)
 
   -- where a wait begins
   first_rest : (a : Awaited) (es : List ℕ) → scheduler_rest (arming_first a es) ≤ length es + (block_count a + behind_wait a)
@@ -188,7 +188,7 @@ round_taken deck before j lt new =
 -- the rounds of all jobs
 pub all_rounds : (deck : List JobData) → rounds_to_come deck [] ≡ 7 * length deck + all_events deck
 all_rounds [] = refl
-all_rounds (job ∷ jobs) = first_of (grind (arith, common_steps, sum_front, all_rounds jobs), search (rules, sum_front, all_rounds jobs))
+all_rounds (job ∷ jobs) = grind (arith, common_steps, sum_front, all_rounds jobs)
 
 -- ---- what an initiator may still do
 
@@ -230,7 +230,7 @@ module _ (deck : List JobData) where
   -- where a job begins
   start_rest : (skipped : Bool) (run : Running) (job : JobData)
       → initiator_rest (job_start skipped run job) ≤ 4 + (steps_events job.steps + behind_job run)
-  start_rest x1 run job = first_of (grind (arith, common_steps, steps_rest), search (rules, steps_rest))
+  start_rest x1 run job = grind (arith, common_steps, steps_rest)
 
   -- where a code was given
   given_rest : (more : ℕ) (before : List ℕ) (code g : ℕ)
@@ -327,16 +327,13 @@ module _ (deck : List JobData) (initiators : ℕ) where
     says k = left_in (spool_setup deck initiators) (task_program deck initiators) k es
 
     some_rest : (k : ℕ) (o : Object) (op : Op) (w : Who initiators k) → asks (says k) ≡ Some (o, op) → 1 ≤ rest_of st.points w
-    some_rest k o op (is_reader e) a =
-        first_of (grind (arith, common_steps, one_left, st, kept, reader_pays), search (rules, one_left, st, kept, reader_pays))
-    some_rest k o op (is_scheduler e) a =
-        first_of (grind (arith, common_steps, one_left, st, kept, scheduler_pays), search (rules, one_left, st, kept, scheduler_pays))
+    some_rest k o op (is_reader e) a = grind (arith, common_steps, one_left, st, kept, reader_pays)
+    some_rest k o op (is_scheduler e) a = grind (arith, common_steps, one_left, st, kept, scheduler_pays)
     some_rest k o op (is_initiator i lt e) a =
         one_left (initiator_program (spool_setup deck initiators) deck i (st.kept (initiator i))) (initiator_rest deck)
         (says (initiator i)) (st.points.initiators i) o op (st.tasks.at_initiator i lt) (subst (λ k. asks (says k) ≡ Some (o, op)) e a)
         (λ x. let p = initiator_pays deck x some_reply in omega arith)
-    some_rest k o op (is_writer e) a =
-        first_of (grind (arith, common_steps, one_left, st, kept, writer_pays), search (rules, one_left, st, kept, writer_pays))
+    some_rest k o op (is_writer e) a = grind (arith, common_steps, one_left, st, kept, writer_pays)
 
     pub within_budgets : IsWithinBudgets deck initiators es
     within_budgets = record {

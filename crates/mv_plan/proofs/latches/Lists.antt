@@ -3,8 +3,8 @@
 use Rattle.mv_plan.proofs.Words.{◌≡◌, ℕ, ◌+◌, ◌<◌, ◌==◌, Bool, true, false, not, ◌||◌, if◌then◌else◌, List, [], ◌∷◌, ◌++◌, filter, Option}
 use Rattle.mv_plan.proofs.Words.{Some, inl, inr, refl, ap, arith, AllByRecursion, Contains, list_any, eq-eqb, ne_eqb, false≢true, or_left}
 use Rattle.mv_plan.proofs.Words.{or_right, Request, is_own, not_in_empty, first_or_rest, first_is_in, LatchForm, common_steps, zero, suc}
-use Rattle.mv_plan.proofs.Words.{◌&&◌, cond, length, map, set, sym, ◌∙◌, subst, eqb-true, cases_eq, filter-append, LatchOp, LatchReply}
-use Rattle.mv_plan.proofs.Words.{Mode, granted, waiting, grants, newly_granted, obtain_step, release_step, without, blocker, list_of}
+use Rattle.mv_plan.proofs.Words.{cond, length, map, set, sym, ◌∙◌, subst, eqb-true, cases_eq, filter-append, LatchOp, LatchReply}
+use Rattle.mv_plan.proofs.Words.{Mode, granted, waiting, grants, newly_granted, obtain_step, release_step, without, list_of}
 use Rattle.mv_plan.proofs.Words.{latch_step, of_caller, of_requestor, mine, NamesLatch, all_append, all_filter, rules}
 use Rattle.mv_latch.proofs.Members.{rest_is_in}
 use Rattle.mv_plan.proofs.points.{held_of, Grant, without_latch}
@@ -56,7 +56,7 @@ found t [] e = absurd (false≢true e)
 found {X} t (q ∷ qs) e = go (t q) refl e (found t qs) where
   go : (b : Bool) → t q ≡ b → (b || list_any t qs) ≡ true → (list_any t qs ≡ true → (x : X) × Contains qs x × (t x ≡ true))
       → (x : X) × Contains (q ∷ qs) x × (t x ≡ true)
-  go x1 is f rest = first_of (grind (arith, common_steps, first_is_in, qs, rest_is_in), search (rules, first_is_in, qs, rest_is_in))
+  go x1 is f rest = grind (arith, common_steps, first_is_in, qs, rest_is_in)
 
 -- ---- what a job asks of a latch
 
@@ -119,9 +119,7 @@ asked_more k job latch h gs q i =
 
 pub asked_all : (k job : ℕ) (gs : List Grant) → AllByRecursion (λ g. Contains (asked k job g.latch gs) (request_of k job g)) gs
 asked_all k job [] = tt
-asked_all k job (h ∷ hs) =
-    first_of (grind (arith, common_steps, eq-eqb, first_is_in, all_map, asked_more, asked_all k job hs), search (rules, eq-eqb,
-    first_is_in, all_map, asked_more, asked_all k job hs))
+asked_all k job (h ∷ hs) = search (rules, eq-eqb, first_is_in, all_map, asked_more, asked_all k job hs)
 
 -- ---- the lists after an event
 
@@ -148,7 +146,7 @@ pub obtained_reply : (k place latch requestor : ℕ) (mode : Mode) (lists : List
     → (latch_step k place (LatchOp.Obtain latch requestor mode LatchForm.Waiting) lists).1
     ≡ (if grants (list_of lists latch)
     (new_request k place requestor mode) then LatchReply.Granted place else LatchReply.Queued place)
-obtained_reply k place latch requestor mode lists = first_of (grind (arith, common_steps, obtain_is), search (rules, obtain_is))
+obtained_reply k place latch requestor mode lists = grind (arith, common_steps, obtain_is)
 
 -- who is granted at once holds the latch
 pub granted_new : (r : Request) (qs : List Request) → grants qs r ≡ true → Contains (granted (qs ++ r ∷ [])) r
@@ -222,7 +220,7 @@ Spares k lists op = Unit {0}
 
 either_same : (k : ℕ) (qs : List Request) (b : Bool) (x y : List Request × LatchReply) → mine k x.0 ≡ mine k qs → mine k y.0 ≡ mine k qs
     → mine k (cond b x y).0 ≡ mine k qs
-either_same k qs x3 x y a c = first_of (grind (arith, common_steps), search rules)
+either_same k qs x3 x y a c = grind (arith, common_steps)
 
 -- keeps this caller's requests
 pub mine_kept : (k j place : ℕ) (op : LatchOp) (lists : List (List Request)) → (k ≡ j → ⊥) → NamesLatch op lists → Spares k lists op
@@ -240,7 +238,7 @@ mine_kept k j place (LatchOp.Obtain at requestor mode form) lists n lt sp latch 
   more = mine_other_pushed k r (list_of lists at) (λ q. n (sym q))
 
   here : mine k (obtain_step r (list_of lists at)).0 ≡ mine k (list_of lists at)
-  here = first_of (grind (arith, common_steps, either_same, at, r, more), search (rules, either_same, at, r, more))
+  here = grind (arith, common_steps, either_same, at, r, more)
 mine_kept k j place (LatchOp.Confirm at id) lists n lt sp latch = refl
 mine_kept k j place (LatchOp.Release at id conditional) lists n lt sp latch = elim (cases_eq latch at) [
   | inl e ↦ subst (λ l. mine k (list_of (set lists at (release_step j id conditional (list_of lists at)).0) l) ≡ mine k
@@ -252,14 +250,14 @@ mine_kept k j place (LatchOp.Release at id conditional) lists n lt sp latch = el
   qs = list_of lists at
 
   here : mine k (release_step j id conditional (list_of lists at)).0 ≡ mine k (list_of lists at)
-  here = first_of (grind (arith, common_steps, either_same, qs, mine_other_without), search (rules, either_same, qs, mine_other_without))
+  here = grind (arith, common_steps, either_same, qs, mine_other_without)
 mine_kept k j place (LatchOp.Purge requestor) lists n lt sp latch = search (rules, mine, purged_list, mine_purged, filter_all)
 
 -- ---- what is so of all requests
 
 either_all : (P : Request → Type 0) (b : Bool) (x y : List Request × LatchReply) → AllByRecursion P x.0 → AllByRecursion P y.0
     → AllByRecursion P (cond b x y).0
-either_all x1 x2 x y a c = first_of (grind (arith, common_steps), search rules)
+either_all x1 x2 x y a c = grind (arith, common_steps)
 
 abbrev pub AllAsked : (Request → Type 0) → List (List Request) → Type 0
 AllAsked P lists = (latch : ℕ) → AllByRecursion P (list_of lists latch)
@@ -272,6 +270,4 @@ set_all P lists at qs lt a b latch = search (rules, cases_eq, list_replaced, lis
 pub all_asked : (P : Request → Type 0) (k place : ℕ) (op : LatchOp) (lists : List (List Request)) → NamesLatch op lists
     → ((q : Request) → q.caller ≡ k → P q) → AllAsked P lists
     → AllAsked P (latch_step k place op lists).0
-all_asked x1 k place x4 lists lt f a =
-    first_of (grind (arith, common_steps, set_all, either_all, all_append, all_filter, purged_list), search (rules, set_all, either_all,
-    all_append, all_filter, purged_list))
+all_asked x1 k place x4 lists lt f a = grind (arith, common_steps, set_all, either_all, all_append, all_filter, purged_list)

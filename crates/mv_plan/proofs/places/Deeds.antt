@@ -2,16 +2,15 @@
 -- released once; and no initiator was named a job that was not given to it. So each job is in one place.
 use Rattle.mv_plan.proofs.Words.{◌≡◌, ℕ, ◌+◌, ◌<◌, ◌≤◌, Bool, List, [], ◌∷◌, ◌++◌, length, Option, Some, None, inl, inr, refl, ap, ◌∙◌}
 use Rattle.mv_plan.proofs.Words.{arith, cases_eq, cases_lt, AllByRecursion, filter_map, Entry, System, released_code, gift_code, naming}
-use Rattle.mv_plan.proofs.Words.{released_codes, given_codes, JobData, code_of, suc, sym, eq-eqb, ElementState, element_step, Object, Op}
-use Rattle.mv_plan.proofs.Words.{Reply, moved, reply_to, with_at, advanced, job_at, initiator, Named, ElementOp, rules, common_steps}
+use Rattle.mv_plan.proofs.Words.{released_codes, given_codes, JobData, code_of, suc, eq-eqb, ElementState, element_step, Object, Op, Reply}
+use Rattle.mv_plan.proofs.Words.{moved, reply_to, with_at, advanced, job_at, initiator, Named, ElementOp, rules, common_steps}
 use Rattle.mv_plan.proofs.deck.{naming_own}
 use Rattle.mv_plan.proofs.lists.{sum_to, sum_member, sum_two, count_of, count-push, count_none, one_of, with_at-same}
 use Rattle.mv_plan.proofs.standing.{element_of, Starts, Works, Offers, Parks, offered, taken, handed, RowAt, Row}
 use Rattle.mv_plan.proofs.points.{Point, At, Running, InitiatorAt, InJob, code_held, run_of, jobs_of, next_job, IsInitiatorAt, named_is}
 use Rattle.mv_plan.proofs.points.{on_posted_keeps, SchedulerAt, Opening, Offering, Pausing, Resuming, Closing, initiator_asks}
 use Rattle.mv_plan.proofs.points.{initiator_goes, rounds_from, given_at, running, on_opened, on_paused, on_resumed, on_closed, start_run}
-use Rattle.mv_plan.proofs.points.{GoesOn, same, done, lost, run_goes, run_asks, run_sound, IsNotLost, Elsewhere, no_gift, given_lands}
-use Rattle.mv_plan.proofs.points.{rounds_land}
+use Rattle.mv_plan.proofs.points.{GoesOn, run_goes, run_asks, run_sound, IsNotLost, Elsewhere, no_gift, given_lands, rounds_land}
 use Rattle.mv_plan.proofs.walks.{Points, SameTalk, same_talk}
 
 -- the codes in the initiators' elements
@@ -61,7 +60,7 @@ module _ (deck : List JobData) (initiators : ℕ) (s : System) (t : Points) (pas
   once = let a = w.codes (naming j) refl in let b = w.named j in omega arith
 
   few : length (released_codes j past) ≤ 1
-  few = first_of (grind (arith, common_steps, cases_lt, below), search (rules, cases_lt, below))
+  few = grind (arith, common_steps, cases_lt, below)
 
   -- it was given once at most
   pub given_few : length (given_codes j past) ≤ 1
@@ -171,7 +170,7 @@ module _ (deck : List JobData) (o h : Option ℕ) where
 
 run_did : (p q : Point InitiatorAt) (h h' : Option ℕ) (r : Reply) (run : Running) → run_of p ≡ Some run → GoesOn run q
     → IsNotLost q → h' ≡ h → gift_code r ≡ None → Deed p q h h' r
-run_did p q h h' r run e x8 f k g = first_of (grind (arith, common_steps, jobs_run, rounds_jobs), search (rules, jobs_run, rounds_jobs))
+run_did p q h h' r run e x8 f k g = grind (arith, common_steps, jobs_run, rounds_jobs)
 
 module _ (deck : List JobData) (s : System) (q : Point SchedulerAt) (i : ℕ) where
   abbrev n : ℕ

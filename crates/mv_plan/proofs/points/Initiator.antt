@@ -1,7 +1,7 @@
 -- An initiator's program goes from point to point. Used by Following.
 use Rattle.mv_plan.proofs.Words.{◌≡◌, ℕ, zero, suc, ◌+◌, ◌-◌, ◌<◌, ◌≤◌, ◌==◌, nat_lt, Bool, true, false, not, ◌&&◌, if◌then◌else◌, List, []}
 use Rattle.mv_plan.proofs.Words.{◌∷◌, ◌++◌, length, Option, Some, None, Ok, refl, ap, ◌∙◌, arith, AllByRecursion, list_any, lt-ltb, Wake}
-use Rattle.mv_plan.proofs.Words.{Mode, Latches, Reply, Setup, JobData, Step, Print, Use, Count, Scan, job_at, Kept, nothing_kept, obtained}
+use Rattle.mv_plan.proofs.Words.{Mode, Latches, Reply, Setup, JobData, Step, Print, Use, job_at, Kept, nothing_kept, obtained}
 use Rattle.mv_plan.proofs.Words.{token_of, deallocate, Woke, each_posted, posted_next, post_within, wake_posted, Program, Do, Done, Heard}
 use Rattle.mv_plan.proofs.Words.{asks, heard, and_then, going_on, unrefused, accepted, followed, finished, unless_refused, on_latch}
 use Rattle.mv_plan.proofs.Words.{end_for_scheduler, end_for_writer, initiator, Named, job_named, named_by, run_job, granted_as, rounds}
@@ -194,10 +194,10 @@ module _ (c : Setup) (deck : List JobData) (initiators i : ℕ) (facts : Facts c
           now = kept_by kept (InJob run (Freeing hand latch id steps)) (Reply.Latch (LatchReply.Released granted))
     goes (InJob run (Reading hand volume amount steps)) (Reply.Volume (VolumeReply.Value number)) s f = grind (arith, common_steps)
     goes (InJob run (Writing hand volume amount number steps)) (Reply.Volume VolumeReply.Stored) s f =
-        first_of (grind (arith, common_steps, steps_enter, step_done), search (rules, steps_enter, step_done))
+        search (rules, steps_enter, step_done)
     goes (InJob run (Scanning hand volume steps)) (Reply.Volume (VolumeReply.Value number)) s f = refl
     goes (InJob run (Rescanning hand volume number steps)) (Reply.Volume (VolumeReply.Value again)) s f =
-        first_of (grind (arith, common_steps, steps_enter, step_done), search (rules, steps_enter, step_done))
+        search (rules, steps_enter, step_done)
     goes (InJob run (Purging hand code)) (Reply.Latch (LatchReply.Purged removed granted)) s f =
         ap (λ p. ending c deck i run now (and_then p (λ counts. wake_posted c (Some (done (length deck) run.job)) code kept (Done counts))))
         (nothing_posted c h.wakes kept (Done counts) f)

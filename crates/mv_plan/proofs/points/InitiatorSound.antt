@@ -1,7 +1,7 @@
 -- Where an initiator may stand: its rounds, the steps that are left of its job, the latches in its hand, the code that it ends
 -- with; and what it keeps there. Kept by each of its steps, whatever the reply.
 use Rattle.mv_plan.proofs.Words.{◌≡◌, ℕ, suc, ◌+◌, ◌<◌, ◌≤◌, ◌==◌, Bool, true, false, not, if◌then◌else◌, List, [], ◌∷◌, ◌++◌, length, map}
-use Rattle.mv_plan.proofs.Words.{filter, Option, Some, refl, sym, ap, ◌∙◌, subst, append_assoc, arith, AllByRecursion, list_any, eqb-true}
+use Rattle.mv_plan.proofs.Words.{filter, Option, Some, refl, ap, ◌∙◌, subst, append_assoc, arith, AllByRecursion, list_any, eqb-true}
 use Rattle.mv_plan.proofs.Words.{false≢true, length-append, Mode, Reply, with_at, JobData, Step, Print, Use, Count, Scan, Abend, Return}
 use Rattle.mv_plan.proofs.Words.{job_at, not_run, own_end, AreDistinct, Kept, nothing_kept, initiator, Named, job_named, code_of, all_push}
 use Rattle.mv_plan.proofs.Words.{Free, ElementReply, LatchReply, LatchForm, common_steps, rules, VolumeReply}
@@ -160,9 +160,7 @@ rises_push low latch mode id (g ∷ gs) r le b =
 
 rises_without : (low latch : ℕ) (gs : List Grant) → Rises low gs → Rises low (without_latch latch gs)
 rises_without low latch [] r = tt
-rises_without low latch (g ∷ gs) r =
-    first_of (grind (arith, common_steps, rises_less, rises_without (g.latch + 1) latch gs r.1, rises_without (g.latch + 1) latch gs r.1),
-    search (rules, rises_less, rises_without (g.latch + 1) latch gs r.1, rises_without (g.latch + 1) latch gs r.1))
+rises_without low latch (g ∷ gs) r = grind (arith, common_steps, rises_less, rises_without (g.latch + 1) latch gs r.1)
 
 -- those that are held below a latch are not more than it
 pub rises_few : (low latch : ℕ) (gs : List Grant) → Rises low gs → low ≤ latch → AllByRecursion (λ h. h.latch < latch) (held_of gs)
@@ -264,8 +262,7 @@ module _ (deck : List JobData) (i : ℕ) (sound : ArePlannedJobs 0 deck) (kept :
 -- what is kept of the requests changes by latch events alone
 pub obtained_stand : (deck : List JobData) (run : Running) (hand : Hand) (latch : ℕ) (mode : Mode) (id : ℕ) (steps : List Step)
     → IsStepping deck run hand (Use latch mode ∷ steps) → IsStepping deck run (hand_with hand latch mode id) steps
-obtained_stand deck run hand latch mode id steps s =
-    first_of (grind (arith, common_steps, hand_push, left_next, held_push), search (rules, hand_push, left_next, held_push))
+obtained_stand deck run hand latch mode id steps s = search (rules, hand_push, left_next, held_push)
 
 pub pushed_kept : (i : ℕ) (kept : Kept) (run : Running) (hand : Hand) (latch : ℕ) (mode : Mode) (id : ℕ)
     → InitiatorKept i (standing_of (initiator i) run.job hand.holding) kept → {o : Kept} → o.caller ≡ kept.caller
@@ -275,8 +272,7 @@ pushed_kept i kept run hand latch mode id k same more = grind (arith, common_ste
 
 pub freed_stand : (deck : List JobData) (run : Running) (hand : Hand) (latch : ℕ) (steps : List Step)
     → IsStepping deck run hand (Free latch ∷ steps) → IsStepping deck run (hand_without hand latch) steps
-freed_stand deck run hand latch steps s =
-    first_of (grind (arith, common_steps, hand_less, left_next, held_without), search (rules, hand_less, left_next, held_without))
+freed_stand deck run hand latch steps s = search (rules, hand_less, left_next, held_without)
 
 pub freed_kept : (i : ℕ) (kept : Kept) (run : Running) (hand : Hand) (latch id : ℕ) → IsHand hand → hand.requests latch ≡ Some id
     → InitiatorKept i (standing_of (initiator i) run.job hand.holding) kept
@@ -298,15 +294,15 @@ initiator_stands deck i kept (Resuming more before g) (Reply.Element (ElementRep
 initiator_stands deck i kept (InJob run (Obtaining hand latch mode steps)) (Reply.Latch (LatchReply.Granted id)) sound s =
     search (rules, steps_stand, obtained_stand, pushed_kept)
 initiator_stands deck i kept (InJob run (Confirming hand latch mode id steps)) (Reply.Latch (LatchReply.Granted same)) sound s =
-    first_of (grind (arith, common_steps, steps_stand, obtained_stand), search (rules, steps_stand, obtained_stand))
+    search (rules, steps_stand, obtained_stand)
 initiator_stands deck i kept (InJob run (Freeing hand latch id steps)) (Reply.Latch (LatchReply.Released granted)) sound s =
-    first_of (grind (arith, common_steps, steps_stand, freed_stand, freed_kept), search (rules, steps_stand, freed_stand, freed_kept))
+    search (rules, steps_stand, freed_stand, freed_kept)
 initiator_stands deck i kept (InJob run (Obtaining hand latch mode steps)) (Reply.Latch (LatchReply.Queued id)) sound s =
     grind (arith, common_steps, pushed_kept)
 initiator_stands deck i kept (InJob run (Writing hand volume amount number steps)) (Reply.Volume VolumeReply.Stored) sound s =
-    first_of (grind (arith, common_steps, steps_stand, step_done), search (rules, steps_stand, step_done))
+    search (rules, steps_stand, step_done)
 initiator_stands deck i kept (InJob run (Rescanning hand volume number steps)) (Reply.Volume (VolumeReply.Value again)) sound s =
-    first_of (grind (arith, common_steps, steps_stand, step_done), search (rules, steps_stand, step_done))
+    search (rules, steps_stand, step_done)
 initiator_stands deck i kept (InJob run (EndingJob code counts)) r sound s =
     ended_lands (InitiatorStands deck i (keeps kept (initiator_asks (length deck) i (InJob run (EndingJob code counts))) r)) (tt, tt)
     run code counts r (s.0, record { caller = s.1.caller; stand = s.1.stand })

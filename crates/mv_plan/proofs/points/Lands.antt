@@ -1,5 +1,5 @@
 -- Where an initiator may land: what holds where it is astray, and at each point that may follow, holds of the one that does.
-use Rattle.mv_plan.proofs.Words.{◌≡◌, ℕ, zero, suc, ◌==◌, Bool, true, false, if◌then◌else◌, List, length, Option, Some, None, refl}
+use Rattle.mv_plan.proofs.Words.{◌≡◌, ℕ, suc, ◌==◌, Bool, true, false, if◌then◌else◌, List, length, Option, Some, refl}
 use Rattle.mv_plan.proofs.Words.{eqb-true, Reply, Counts, list_any, JobData, Step, job_at, Named, job_named, rules, arith, common_steps}
 use Rattle.mv_plan.proofs.points.Points.{Point, At, Astray, Running, Hand, InitiatorAt, InJob, Offering, Freeing, Writing, Closing}
 use Rattle.mv_plan.proofs.points.Points.{EndingForScheduler, on_ended, rounds_after, rounds_from, freeing_at, counting_at, running}
@@ -9,12 +9,12 @@ module _ (P : Point InitiatorAt → Type 0) (lost : P Astray) where
   -- a next round
   pub rounds_land : (more : ℕ) (before : List ℕ) (g : ℕ) → ((left : ℕ) → more ≡ suc left → P (At (Offering left before g)))
       → P (rounds_from more before g)
-  rounds_land x1 before g next = first_of (grind (arith, common_steps), search rules)
+  rounds_land x1 before g next = grind (arith, common_steps)
 
   -- a FREE
   pub freeing_lands : (run : Running) (hand : Hand) (latch : ℕ) (slot : Option ℕ) (steps : List Step)
       → ((id : ℕ) → slot ≡ Some id → P (At (InJob run (Freeing hand latch id steps)))) → P (freeing_at run hand latch slot steps)
-  freeing_lands run hand latch x4 steps next = first_of (grind (arith, common_steps), search rules)
+  freeing_lands run hand latch x4 steps next = grind (arith, common_steps)
 
   -- a COUNT's write
   pub counting_lands : (run : Running) (hand : Hand) (volume amount : ℕ) (steps : List Step) (number : ℕ)

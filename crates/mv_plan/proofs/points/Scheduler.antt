@@ -1,13 +1,13 @@
 -- Where the scheduler may stand: which jobs are left, which code it hands over, and what it keeps there, whatever the reply; and its
 -- program goes from point to point. Used by Following.
 use Rattle.mv_plan.proofs.Words.{◌≡◌, ℕ, suc, ◌+◌, ◌<◌, ◌≤◌, Bool, true, List, [], ◌∷◌, ◌++◌, length, Option, None, refl, sym, ap, ◌∙◌}
-use Rattle.mv_plan.proofs.Words.{subst, append-nil, append_assoc, zero-add, arith, length-append, length-map-range_with_len, Reply, JobData}
+use Rattle.mv_plan.proofs.Words.{subst, append_assoc, zero-add, arith, length-append, length-map-range_with_len, Reply, JobData}
 use Rattle.mv_plan.proofs.Words.{After, Step, Kept, code_of, EcbReply, common_steps, zero, false, map, Some, AllByRecursion, range_with_len}
 use Rattle.mv_plan.proofs.Words.{Setup, Heard, asks, heard, going_on, unrefused, accepted, end_for_scheduler, idle, ends_of, some_end_above}
 use Rattle.mv_plan.proofs.Words.{ends_awaited, hand_over, AreDistinct, arm_all, settle_all, enough, wait_unrefused, rules, Program}
 use Rattle.mv_plan.proofs.Words.{length-map, ElementReply, on_element, finished}
 use Rattle.mv_plan.proofs.deck.{IsPlannedJob, ArePlannedJobs, Facts}
-use Rattle.mv_plan.proofs.points.Points.{Point, At, TooSoon, WaitAt, Arming, Settling, Stage, Dispatching, Dismissing, Awaited, ForEntry}
+use Rattle.mv_plan.proofs.points.Points.{Point, At, WaitAt, Arming, Settling, Stage, Dispatching, Dismissing, Awaited, ForEntry}
 use Rattle.mv_plan.proofs.points.Points.{ForEnds, ForIdle, ToDismiss, SchedulerAt, Waits, Extends, Clears, Releases, awaited_blocks}
 use Rattle.mv_plan.proofs.points.Points.{scheduler_asks, scheduler_goes, arming_from, settling_from, found_at, ends_at, lowest_at}
 use Rattle.mv_plan.proofs.points.Points.{awaited_count, arming_first, stage_at}
@@ -43,8 +43,7 @@ rest_below deck j job jobs r = let e = rest_count deck j (job ∷ jobs) r in ome
 
 sound_from : (j : ℕ) (front jobs : List JobData) → ArePlannedJobs j (front ++ jobs) → ArePlannedJobs (j + length front) jobs
 sound_from j [] jobs s = subst (λ k. ArePlannedJobs k jobs) (omega arith) s
-sound_from j (f ∷ front) jobs s =
-    first_of (grind (arith, common_steps, sound_from (j + 1) front jobs s.1), search (rules, sound_from (j + 1) front jobs s.1))
+sound_from j (f ∷ front) jobs s = grind (arith, common_steps, sound_from (j + 1) front jobs s.1)
 
 pub rest_sound : (deck : List JobData) (j : ℕ) (job : JobData) (jobs : List JobData) → ArePlannedJobs 0 deck → IsRest deck j (job ∷ jobs)
     → IsPlannedJob j job
@@ -128,7 +127,7 @@ module _ (deck : List JobData) (initiators : ℕ) (kept : Kept) where
       → SchedulerKept (length deck) (awaited_extended (length deck) a) kept
       → past ++ es ≡ awaited_blocks (length deck) initiators a → length past ≡ length found
       → SchedulerStands deck initiators kept (settling_from (length deck) a es found)
-  settling_stands a past x3 found s k e l = first_of (grind (arith, common_steps, kept, found_stands), search (rules, kept, found_stands))
+  settling_stands a past x3 found s k e l = grind (arith, common_steps, kept, found_stands)
 
   arming_stands : (a : Awaited) (past es : List ℕ) → IsAwaited deck initiators a
       → SchedulerKept (length deck) (awaited_extended (length deck) a) kept

@@ -6,7 +6,7 @@ use Rattle.mv_plan.proofs.Words.{initiator, Kept, ElementOp, Op, common_steps, O
 use Rattle.mv_plan.proofs.Words.{filter_map-append, ElementState, element_step, Object, element_events, next, same_is, Phase, ◌-◌, ◌==◌}
 use Rattle.mv_plan.proofs.Words.{Bool, if◌then◌else◌, eq-eqb, eqb-true, gift_code, naming, cases_lt, after, opening, released_codes}
 use Rattle.mv_plan.proofs.Words.{given_codes, IsRun, spool_setup, code_of, true, admitted, AreHandedOut, end_of, not_run, false≢true, rules}
-use Rattle.mv_plan.proofs.points.{same_errand, Point, At, Stage, Dispatching, SchedulerAt, Waits, Extends, Clears, Releases, scheduler_asks}
+use Rattle.mv_plan.proofs.points.{same_errand, Point, At, Stage, Dispatching, SchedulerAt, Releases, scheduler_asks}
 use Rattle.mv_plan.proofs.points.{scheduler_goes, stage_at, IsSchedulerAt, reader_plain, writer_plain, no_release, wait_no_release, Errand}
 use Rattle.mv_plan.proofs.points.{Dismisses, Rests, errand, IsNotLost, code_held, next_job, Dispatches}
 use Rattle.mv_plan.proofs.walks.{Stand, Points, Move, entry_of, Each, of_move, Stood, stood, AreFinished, run_finished, none_lost_at_end}
@@ -71,14 +71,10 @@ module _ (c : Setup) (deck : List JobData) (initiators : ℕ) (kept : ℕ → Ke
   scheduled : (x : SchedulerAt) (p : ℕ) (r : Reply) (q : Point SchedulerAt) → q ≡ At x → IsSchedulerAt deck initiators (At x)
       → IsNotLost (scheduler_goes n initiators x r)
       → ClosesAt q past → ClosesAt (scheduler_goes n initiators x r) (past ++ entry_of scheduler p (scheduler_asks n x) r ∷ [])
-  scheduled x1 p r q at sound f w =
-      first_of (grind (arith, common_steps, closes_quiet, past, same_errand, wait_no_release, releasing), search (rules, closes_quiet,
-      past, same_errand, wait_no_release, releasing))
+  scheduled x1 p r q at sound f w = grind (arith, common_steps, closes_quiet, past, same_errand, wait_no_release, releasing)
 
   each_closing : Each c deck initiators Closing
-  each_closing =
-      first_of (grind (arith, common_steps, closes_quiet, past, reader_plain, scheduled, no_release, writer_plain), search (rules,
-      closes_quiet, past, reader_plain, scheduled, no_release, writer_plain))
+  each_closing = grind (arith, common_steps, closes_quiet, past, reader_plain, scheduled, no_release, writer_plain)
 
   pub closes_next : (s : System) (t u : Points) (e : Entry) → IsNext c s e → Move deck initiators t e u → Stand deck initiators kept t
       → NoneLost initiators u → ClosesAt t.scheduler past → ClosesAt u.scheduler (past ++ e ∷ [])
@@ -254,17 +250,17 @@ exact_start c m g = grind (arith, common_steps)
 -- an element's operation is made on an element
 on_element : (c : Setup) (s : System) (k : ℕ) (o : Object) (op : ElementOp) → admitted c s k o (Op.Element op) ≡ true
     → (m : ℕ) × (o ≡ Element m)
-on_element c s k y op a = first_of (grind (arith, common_steps, false≢true), search (rules, false≢true))
+on_element c s k y op a = grind (arith, common_steps, false≢true)
 
 released-step : (j : ℕ) (e : Entry) (es : List Entry)
     → released_codes j (e ∷ es) ≡ with_code (naming j (released_code e.op)) (released_codes j es)
 released-step j e es = search rules
 
 naming_same : (j : ℕ) (slot : Option ℕ) (code : ℕ) → naming j slot ≡ Some code → slot ≡ Some code
-naming_same j x2 code e = first_of (grind (arith, common_steps), search rules)
+naming_same j x2 code e = grind (arith, common_steps)
 
 release_is : (op : Op) (code : ℕ) → released_code op ≡ Some code → (g : ℕ) × (op ≡ Op.Element (ElementOp.Release g code))
-release_is op code e = first_of (grind (arith, common_steps), search rules)
+release_is op code e = grind (arith, common_steps)
 
 -- the mark of the release that names a job
 pub release_marks : (c : Setup) (deck : List JobData) (s : System) (es : List Entry) (j : ℕ) (skipped : Bool) → LegalFrom c s es
@@ -276,8 +272,7 @@ release_marks c deck s (x ∷ es) j skipped l a lt e =
     (release_marks c deck (next s x) es j skipped l.1 a.1 lt) where
       go : (slot : Option ℕ) → naming j (released_code x.op) ≡ slot → with_code slot (released_codes j es) ≡ code_of j skipped ∷ []
           → (released_codes j es ≡ code_of j skipped ∷ [] → skipped ≡ (end_of deck j == not_run)) → skipped ≡ (end_of deck j == not_run)
-      go x1 q f rest =
-          first_of (grind (arith, common_steps, release_is, naming_same, on_element), search (rules, release_is, naming_same, on_element))
+      go x1 q f rest = search (rules, release_is, naming_same, on_element)
 
 module _ (deck : List JobData) (initiators : ℕ) (some : 1 ≤ initiators) (sound : IsPlanned deck initiators) (es : List Entry)
     (run : IsRun deck initiators es) where

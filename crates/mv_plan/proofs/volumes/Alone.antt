@@ -8,7 +8,7 @@ use Rattle.mv_plan.proofs.walks.{Always, always_now, always_next, AreSound, Move
 use Rattle.mv_plan.proofs.walks.{WalkTo, always_rest, always_front, mover_goes, walk-parts}
 use Rattle.mv_plan.proofs.latches.{touched, counted_on, excludes, Apart, hands_next, hands_start}
 use Rattle.mv_plan.proofs.latches.Hands.{Hands}
-use Rattle.mv_plan.proofs.points.{At, InitiatorAt, Reading, Writing, Scanning, Rescanning, initiator_asks, InJob, Running, Hand}
+use Rattle.mv_plan.proofs.points.{At, InitiatorAt, Reading, Writing, initiator_asks, InJob, Running, Hand}
 use Rattle.mv_plan.proofs.volumes.Values.{read_keeps, write_other, Values, values_next, LeadsTo, leads}
 use Rattle.mv_plan.specs.CountingAlone.{IsCountedBy}
 
@@ -51,11 +51,11 @@ quiet_point c deck initiators i s t u (e ∷ es) w q =
 -- ---- events on volumes
 
 asks_volume : (n i v : ℕ) (x : InitiatorAt) → (initiator_asks n i x).0 ≡ Volume v → touched (At x) ≡ Some v
-asks_volume n i v x e = first_of (grind (arith, common_steps), search rules)
+asks_volume n i v x e = grind (arith, common_steps)
 
 asks_write : (n i v m : ℕ) (x : InitiatorAt) → (initiator_asks n i x).0 ≡ Volume v
     → (initiator_asks n i x).1 ≡ Op.Volume (VolumeOp.Write m) → counted_on (At x) ≡ Some v
-asks_write n i v m x e f = first_of (grind (arith, common_steps), search rules)
+asks_write n i v m x e f = grind (arith, common_steps)
 
 -- the initiator that moves on a volume
 pub mover : (deck : List JobData) (initiators v : ℕ) (t u : Points) (e : Entry) → Move deck initiators t e u → e.object ≡ Volume v

@@ -2,17 +2,16 @@
 -- what the named jobs add, so a COUNT's sum has 32 bits; and in the end that is the deck's total.
 use Rattle.mv_plan.proofs.Words.{◌≡◌, ℕ, suc, ◌+◌, Bool, true, false, List, [], ◌∷◌, length, refl, sym, ap, ◌∙◌, arith, Reply, Setup}
 use Rattle.mv_plan.proofs.Words.{System, with_at, advanced, gift_code, JobData, Step, Count, job_at, before_end, added, IsNext, initiator}
-use Rattle.mv_plan.proofs.Words.{ElementReply, LatchReply, VolumeReply, common_steps, inl, inr, zero, ◌*◌, ◌^◌, ◌<◌, ◌≤◌, if◌then◌else◌}
+use Rattle.mv_plan.proofs.Words.{ElementReply, LatchReply, VolumeReply, common_steps, inl, inr, ◌*◌, ◌^◌, ◌<◌, ◌≤◌, if◌then◌else◌}
 use Rattle.mv_plan.proofs.Words.{◌++◌, None, subst, append-nil, eq-eqb, Entry, next, opening, moved, ◌==◌, slice_index, ne_eqb, given_codes}
 use Rattle.mv_plan.proofs.Words.{sum_by-cons, end_of, not_run, ends, total, code_of, one_end_per_job, sum_by, rules}
 use Rattle.mv_machine.proofs.EntryRuns.{entry_of}
 use Rattle.mv_plan.proofs.volumes.GivenCodes.{added_by, added_by_is, with_code, adds_if, adds_named, adds, adds_all, adds_high, codes_of}
 use Rattle.mv_plan.proofs.volumes.GivenCodes.{codes-push, full, adds-append, adds_by_jobs}
-use Rattle.mv_plan.proofs.points.{Point, At, Running, Hand, empty_hand, InitiatorAt, Pausing, Resuming, Obtaining, Confirming, Freeing}
+use Rattle.mv_plan.proofs.points.{Point, At, Running, Hand, InitiatorAt, Pausing, Resuming, Obtaining, Confirming, Freeing}
 use Rattle.mv_plan.proofs.points.{Reading, Writing, Scanning, Rescanning, initiator_goes, steps_at, running, job_start, given_at}
 use Rattle.mv_plan.proofs.points.{initiator_asks, InJob, IsNotLost, given_lands, no_gift}
 use Rattle.mv_plan.proofs.volumes.Values.{ValueAt, read_keeps, volumes_asked, Values, volumes_same}
-use Rattle.std.proofs.Common.{suc-mul}
 use Rattle.mv_plan.proofs.deck.{steps_events, all_events, all_events_are, Held, ArePlannedSteps, ArePlannedJobs, IsPlanned}
 use Rattle.mv_plan.proofs.walks.{NoneLost, none_lost_before, who_moved, mover_asked, mover_goes, mover_sum, Points, start_points, Move}
 use Rattle.mv_plan.proofs.lists.{sum_to, sum_zero, sum_le, sum_member, sum_front, times, times_once, count_of, sum_ext}
@@ -44,7 +43,7 @@ module _ (v : ℕ) where
 
   due_start : (deck : List JobData) (run : Running) (job : ℕ) (skipped : Bool) → IsNotLost (job_start skipped run (job_at deck job))
       → due v (job_start skipped run (job_at deck job)) ≡ adds_if deck v job skipped
-  due_start deck run job x4 n = first_of (grind (arith, common_steps, due_steps), search (rules, due_steps))
+  due_start deck run job x4 n = grind (arith, common_steps, due_steps)
 
   due_given : (deck : List JobData) (more : ℕ) (before : List ℕ) (code g : ℕ) → IsNotLost (given_at deck more before code g)
       → due v (given_at deck more before code g) ≡ adds deck v code
@@ -140,7 +139,7 @@ fulls_bound v k (job ∷ jobs) s =
     let one = steps_bound v job.steps [] s.0.steps in omega arith
 
 few_events : (deck : List JobData) (initiators : ℕ) → 1 ≤ initiators → IsPlanned deck initiators → all_events deck ≤ 524287
-few_events deck x2 some sound = first_of (grind (arith, common_steps, all_events_are), search (rules, all_events_are))
+few_events deck x2 some sound = grind (arith, common_steps, all_events_are)
 
 -- each job was named to be run at most once
 abbrev pub OnceEach : List JobData → List ℕ → Type 0
@@ -208,9 +207,14 @@ total_from v [] [] e = refl
 total_from v [] (job ∷ jobs) e = absurd (omega arith)
 total_from v (x ∷ es) [] e = absurd (omega arith)
 total_from v (x ∷ es) (job ∷ jobs) e =
-    first_of (grind (arith, common_steps, sum_front, added_by_is, sum_by-cons,
-    total_from v es jobs (let f : suc (length es) ≡ suc (length jobs) = e in omega arith)), search (rules, sum_front, added_by_is,
-    sum_by-cons, total_from v es jobs (let f : suc (length es) ≡ suc (length jobs) = e in omega arith)))
+    grind (
+      arith,
+      common_steps,
+      sum_front,
+      added_by_is,
+      sum_by-cons,
+      total_from v es jobs (let f : suc (length es) ≡ suc (length jobs) = e in omega arith),
+    )
 
 -- each job was given once, to be run unless its end says that it is not
 abbrev pub GivenByEnds : List JobData → List Entry → Type 0
