@@ -1,9 +1,9 @@
 -- An initiator's program goes from point to point. Used by Following.
 use Rattle.mv_plan.proofs.Words.{◌≡◌, ℕ, zero, suc, ◌+◌, ◌-◌, ◌<◌, ◌≤◌, ◌==◌, nat_lt, Bool, true, false, not, ◌&&◌, if◌then◌else◌, List, []}
 use Rattle.mv_plan.proofs.Words.{◌∷◌, ◌++◌, length, Option, Some, None, Ok, refl, ap, ◌∙◌, arith, AllByRecursion, list_any, lt-ltb, Wake}
-use Rattle.mv_plan.proofs.Words.{Mode, Latches, Reply, Setup, JobData, Step, Print, Use, job_at, Kept, nothing_kept, obtained}
-use Rattle.mv_plan.proofs.Words.{token_of, deallocate, Woke, each_posted, posted_next, post_within, wake_posted, Program, Do, Done, Heard}
-use Rattle.mv_plan.proofs.Words.{asks, heard, and_then, going_on, unrefused, accepted, followed, finished, unless_refused, on_latch}
+use Rattle.mv_plan.proofs.Words.{Mode, Latches, Reply, Setup, JobData, Step, Print, Use, job_at, Kept, nothing_kept, obtained, token_of}
+use Rattle.mv_plan.proofs.Words.{deallocate, Woke, each_posted, posted_next, post_within, wake_posted, Program, Do, Done, Heard, asks}
+use Rattle.mv_plan.proofs.Words.{heard, and_then, going_on, unrefused, accepted, followed, finished, unless_refused, on_latch}
 use Rattle.mv_plan.proofs.Words.{end_for_scheduler, end_for_writer, initiator, Named, job_named, named_by, run_job, granted_as, rounds}
 use Rattle.mv_plan.proofs.Words.{refused_if, done, EcbReply, ElementReply, LatchOp, LatchReply, LatchForm, Op, VolumeReply, common_steps}
 use Rattle.mv_plan.proofs.Words.{rules, Counts}
@@ -20,9 +20,7 @@ use Rattle.mv_plan.proofs.points.Points.{Offering, Pausing, Resuming, Obtaining,
 use Rattle.mv_plan.proofs.points.Points.{Rescanning, Purging, EndingJob, EndingForScheduler, EndingForWriter, Closing, initiator_asks}
 use Rattle.mv_plan.proofs.points.Points.{initiator_goes, rounds_from, rounds_after, steps_at, running, job_start, named_at, given_at, InJob}
 use Rattle.mv_plan.proofs.points.Programs.{program_at, posting_next, rounds_rest, given_rest, ending, stepping, steps_rest, obtained_rest}
-use Rattle.mv_plan.proofs.points.Programs.{initiator_program}
-use Rattle.mv_plan.proofs.points.PostsAndWaits.{post_is_now, IsPlainPost, posted_goes}
-use Rattle.mv_plan.proofs.points.ReaderAndWriter.{keeps}
+use Rattle.mv_plan.proofs.points.Programs.{initiator_program, post_is_now, IsPlainPost, posted_goes, keeps}
 use Rattle.mv_plan.proofs.points.InitiatorSound.{IsRound, IsStepping, InitiatorKept, InitiatorStands, standing_of, rises_few, named_is}
 use Rattle.mv_plan.proofs.points.InitiatorSound.{job_sound, obtained_stand, pushed_kept, freed_stand, freed_kept, step_done}
 

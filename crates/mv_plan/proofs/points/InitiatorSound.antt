@@ -11,8 +11,7 @@ use Rattle.mv_plan.proofs.points.Points.{Point, At, Grant, Running, Hand, hand_w
 use Rattle.mv_plan.proofs.points.Points.{Opening, Offering, Pausing, Resuming, Obtaining, Confirming, Freeing, Reading, Writing, Scanning}
 use Rattle.mv_plan.proofs.points.Points.{Rescanning, Purging, EndingJob, EndingForScheduler, EndingForWriter, initiator_asks}
 use Rattle.mv_plan.proofs.points.Points.{initiator_goes, rounds_after, steps_at, running, job_start, given_at, InJob}
-use Rattle.mv_plan.proofs.points.PostsAndWaits.{on_posted_keeps}
-use Rattle.mv_plan.proofs.points.ReaderAndWriter.{keeps}
+use Rattle.mv_plan.proofs.points.Programs.{on_posted_keeps, keeps}
 use Rattle.mv_plan.proofs.points.Lands.{rounds_land, given_lands, ended_lands}
 
 -- ---- rounds

@@ -1,5 +1,5 @@
--- The rest of a task's program at each of its points, for what the task keeps by then: how points and the programs of
--- specs/SpoolTasks hang together.
+-- The program of each task at each point. Posts and waits, which all tasks make, point by point: programs and points go alike, and what
+-- holds of each point that may follow holds of the one that does. And so the reader's and the writer's. Used by Following.
 use Rattle.mv_plan.proofs.Words.{ℕ, suc, ◌+◌, ◌-◌, List, [], ◌∷◌, ◌++◌, length, map, false, Option, Some, Result, Ok, ◌==◌, if◌then◌else◌}
 use Rattle.mv_plan.proofs.Words.{range_with_len, Ecb, Element, Volume, Latches, Setup, with_at, JobData, Step, Kept, Counts, obtained}
 use Rattle.mv_plan.proofs.Words.{token_of, closed, release, deallocate, pause, Posting, Woke, post, post_within, each_posted, wake_posted}
@@ -7,11 +7,12 @@ use Rattle.mv_plan.proofs.Words.{Program, Do, Done, Early, Wrong, Call, and_then
 use Rattle.mv_plan.proofs.Words.{on_latch, followed, accepted, Refusal, entered, end_for_scheduler, end_for_writer, idle, initiator, lowest}
 use Rattle.mv_plan.proofs.Words.{some_end_above, ends_awaited, hand_over, code_of, granted_as, named_by, run_job, rounds, job_named}
 use Rattle.mv_plan.proofs.Words.{first_of, arm_all, settle_all, enough, the_word, extended, extend, done, EcbOp, ElementOp, LatchOp}
-use Rattle.mv_plan.proofs.Words.{LatchForm, Op, VolumeOp, Bool}
+use Rattle.mv_plan.proofs.Words.{LatchForm, Op, VolumeOp, Bool, ◌≡◌, ◌<◌, ◌≤◌, None, arith, Reply, posted_next, EcbReply, common_steps}
+use Rattle.mv_plan.proofs.Words.{zero, refl, ap, Object, kept_after, Heard, asks, heard, writer}
 use Rattle.mv_calls.specs.LatchCalls.{confirmed, let_go, purged}
 use Rattle.mv_calls.specs.Pauses.{Gift, opened, paused, resumed}
 use Rattle.mv_calls.specs.Program.{for_each, on_volume}
-use Rattle.mv_calls.specs.Waits.{the_value, stored, read_volume}
+use Rattle.mv_calls.specs.Waits.{the_value, stored, read_volume, armed, settled}
 use Rattle.mv_calls.specs.Endings.{end_of_job}
 use Rattle.mv_plan.specs.SpoolTasks.{dispatch_all, dismiss, counted, run_steps, ends_kept}
 use Rattle.mv_plan.proofs.points.Points.{Point, At, Finished, TooSoon, Astray, ReaderAt, Entering, WaitAt, Arming, Settling, Stage}
@@ -19,7 +20,10 @@ use Rattle.mv_plan.proofs.points.Points.{Dispatching, Dismissing, Awaited, ForEn
 use Rattle.mv_plan.proofs.points.Points.{Extends, Clears, Releases, awaited_blocks, awaited_count, WriterAt, Keeping, Running, Hand}
 use Rattle.mv_plan.proofs.points.Points.{InitiatorAt, Opening, Offering, Pausing, Resuming, Obtaining, Confirming, Freeing, Reading}
 use Rattle.mv_plan.proofs.points.Points.{Writing, Scanning, Rescanning, Purging, EndingJob, EndingForScheduler, EndingForWriter, Closing}
-use Rattle.mv_plan.proofs.points.Points.{InJob}
+use Rattle.mv_plan.proofs.points.Points.{InJob, on_posted, on_armed, on_settled, lowest_at, if_enough, entering_from, reader_asks}
+use Rattle.mv_plan.proofs.points.Points.{reader_goes, writing_from, writer_asks, writer_goes}
+use Rattle.mv_calls.specs.Posts.{posting}
+use Rattle.mv_plan.proofs.deck.{Facts}
 
 -- a point's program, and those of programs that have ended
 abbrev pub program_at : {X : Type 0} → (X → Program (List ℕ)) → Point X → Program (List ℕ)
@@ -185,3 +189,121 @@ initiator_program c deck i kept (InJob run (EndingForWriter code counts)) = endi
 initiator_program c deck i kept (Closing g) = going_on kept
     (Do (Element (initiator i)) (Op.Element (ElementOp.Close g)) (λ h. on_element h.entry.reply closed))
     (unrefused (λ closed. finished []))
+
+-- ---- posts and waits
+
+-- a post is its own first event
+pub post_is_now : (c : Setup) (e code : ℕ) (kept : Kept) → 1 ≤ length c.owners → post c e code kept ≡ posting_now c e code
+post_is_now c e code kept le = grind (arith, common_steps)
+
+-- a reply to a post that starts no exit's posts
+abbrev pub IsPlainPost : Reply → Type 0
+IsPlainPost (Reply.Ecb (EcbReply.Woke (suc x))) = ⊥
+IsPlainPost r = Unit {0}
+
+-- what a reply to a plain post leads to, where g is what goes on
+pub posted_goes : {X : Type 0} (c : Setup) (each : ℕ → Program Posting) (g : Program Posting → Program (List ℕ))
+    (f : X → Program (List ℕ)) (pt : Point X) (r : Reply)
+    → ((p : Posting) → g (Done p) ≡ program_at f pt) → g Wrong ≡ Wrong → IsPlainPost r
+    → g (on_ecb r (posting (λ p. each_posted each (posted_next c p) p))) ≡ program_at f (on_posted pt r)
+posted_goes c each g f pt r done lost plain = grind (arith, common_steps)
+
+-- what a reply to an arm leads to
+pub armed_goes : {A X : Type 0} (g : Program A → Program (List ℕ)) (f : X → Program (List ℕ)) (p : Program A) (pt : Point X) (r : Reply)
+    → g p ≡ program_at f pt → g Wrong ≡ Wrong → g (on_ecb r (armed p)) ≡ program_at f (on_armed pt r)
+armed_goes g f p pt r same lost = grind (arith, common_steps)
+
+-- and to a settle
+pub settled_goes : {A X : Type 0} (g : Program A → Program (List ℕ)) (f : X → Program (List ℕ)) (p : Option ℕ → Program A)
+    (pt : Option ℕ → Point X) (r : Reply)
+    → ((slot : Option ℕ) → g (p slot) ≡ program_at f (pt slot)) → g Wrong ≡ Wrong
+    → g (on_ecb r (settled p)) ≡ program_at f (on_settled pt r)
+settled_goes g f p pt r same lost = grind (arith, common_steps)
+
+-- the lowest that was found complete, at a position below a bound
+pub lowest_goes : {A X : Type 0} (g : Program A → Program (List ℕ)) (f : X → Program (List ℕ)) (call : ℕ → ℕ → Call A)
+    (pt : ℕ → ℕ → Point X) (kept : Kept)
+    (p bound : ℕ) (found : List (Option ℕ)) → p + length found ≤ bound
+    → ((i code : ℕ) → i < bound → g (call i code kept) ≡ program_at f (pt i code)) → g Wrong ≡ Wrong
+    → g (lowest call p found kept) ≡ program_at f (lowest_at pt p found)
+lowest_goes g f call pt kept p bound (None ∷ found) le same lost =
+    lowest_goes g f call pt kept (p + 1) bound found (omega arith) same lost
+lowest_goes g f call pt kept p bound found le same lost = grind (arith, common_steps)
+
+-- enough were found, or the wait ended too soon
+pub enough_goes : {X : Type 0} (g : Program (Result (List (Option ℕ)) Refusal) → Program (List ℕ)) (f : X → Program (List ℕ))
+    (count : ℕ) (found : List (Option ℕ)) (pt : Point X)
+    → g (Done (Ok found)) ≡ program_at f pt → g Early ≡ Early → g (enough count found) ≡ program_at f (if_enough count found pt)
+enough_goes g f count found pt same early = grind (arith, common_steps)
+
+-- ---- what holds of a point after a post, an arm or a settle
+
+pub on_posted_keeps : {X : Type 0} (P : Point X → Type 0) (pt : Point X) (r : Reply) → P pt → P Astray → P (on_posted pt r)
+on_posted_keeps x pt r p a = grind (arith, common_steps)
+
+pub on_armed_keeps : {X : Type 0} (P : Point X → Type 0) (pt : Point X) (r : Reply) → P pt → P Astray → P (on_armed pt r)
+on_armed_keeps x pt r p a = grind (arith, common_steps)
+
+pub on_settled_keeps : {X : Type 0} (P : Point X → Type 0) (pt : Option ℕ → Point X) (r : Reply) → ((slot : Option ℕ) → P (pt slot))
+    → P Astray → P (on_settled pt r)
+on_settled_keeps x pt r p a = grind (arith, common_steps)
+
+pub lowest_keeps : {X : Type 0} (P : Point X → Type 0) (f : ℕ → ℕ → Point X) (p : ℕ) (found : List (Option ℕ))
+    → ((i code : ℕ) → P (f i code)) → P Astray → P (lowest_at f p found)
+lowest_keeps P f p (None ∷ found) each lost = lowest_keeps P f (p + 1) found each lost
+lowest_keeps P f p found each lost = grind (arith, common_steps)
+
+-- ---- the reader and the writer: their programs go from point to point, where they may stand, and what the writer keeps
+
+-- what is kept after what was heard
+abbrev pub keeps : Kept → Object × Op → Reply → Kept
+keeps kept ask r = kept_after kept ask.0 ask.1 r
+
+-- ---- the reader
+
+pub reader_enters : (c : Setup) (j more : ℕ) (kept : Kept) → 1 ≤ length c.owners
+    → reading_rest c j more kept ≡ program_at (reader_program c kept) (entering_from j more)
+reader_enters c j zero kept le = refl
+reader_enters c j (suc more) kept le =
+    ap (λ p. going_on kept p (λ posted. reading_rest c (j + 1) more)) (post_is_now c (entered j) 0 kept le)
+
+pub reader_says : (c : Setup) (kept : Kept) (x : ReaderAt) → asks (reader_program c kept x) ≡ Some (reader_asks x)
+reader_says c kept (Entering j more) = refl
+
+pub reader_hears : (c : Setup) (kept : Kept) (x : ReaderAt) (h : Heard) → 1 ≤ length c.owners → IsPlainPost h.entry.reply
+    → heard (reader_program c kept x) h ≡ program_at (reader_program c (keeps kept (reader_asks x) h.entry.reply))
+    (reader_goes x h.entry.reply)
+reader_hears c kept x h le plain = grind (arith, common_steps, posted_goes, reader_enters)
+
+-- where it may stand, with n jobs
+abbrev pub IsReaderAt : ℕ → Point ReaderAt → Type 0
+IsReaderAt n (At (Entering j more)) = j + suc more ≡ n
+IsReaderAt n p = Unit {0}
+
+-- ---- the writer
+
+-- what the writer keeps: no block is extended
+pub record WriterKept (initiators : ℕ) (kept : Kept) : Type 0 where
+  pub caller : kept.caller ≡ writer initiators
+  pub plain : (e : ℕ) → kept.extended e ≡ false
+
+-- where it may stand, with n jobs
+abbrev pub IsWriterAt : ℕ → Point WriterAt → Type 0
+IsWriterAt n (At (Keeping j more ends (Arming e todo))) = (j + suc more ≡ n) × (e ≡ end_for_writer n j) × (todo ≡ [])
+IsWriterAt n (At (Keeping j more ends (Settling e todo found))) =
+    (j + suc more ≡ n) × (e ≡ end_for_writer n j) × (todo ≡ []) × (found ≡ [])
+IsWriterAt n p = Unit {0}
+
+pub writer_enters : (c : Setup) (n initiators j more : ℕ) (ends : List ℕ) (kept : Kept) → Facts c n initiators
+    → WriterKept initiators kept → j + more ≡ n
+    → writing_rest c n j more ends kept ≡ program_at (writer_program c n kept) (writing_from n j more ends)
+writer_enters c n initiators j x ends kept facts w e = grind (arith, common_steps)
+
+pub writer_says : (c : Setup) (n : ℕ) (kept : Kept) (x : WriterAt) → asks (writer_program c n kept x) ≡ Some (writer_asks x)
+writer_says c n kept x = grind (arith, common_steps)
+
+module _ (c : Setup) (n initiators : ℕ) (facts : Facts c n initiators) where
+  pub writer_hears : (kept : Kept) (x : WriterAt) (h : Heard) → WriterKept initiators kept → IsWriterAt n (At x)
+      → heard (writer_program c n kept x) h ≡ program_at (writer_program c n (keeps kept (writer_asks x) h.entry.reply))
+      (writer_goes n x h.entry.reply)
+  writer_hears kept x h w at = grind (arith, common_steps)

@@ -6,7 +6,7 @@ use Rattle.mv_plan.proofs.points.Points.{Point, At, Astray, Running, Hand, Initi
 use Rattle.mv_plan.proofs.points.Points.{steps_at, job_start, rounds_after, empty_hand, rounds_from, running, given_at, JobAt, InJob}
 use Rattle.mv_plan.proofs.points.Points.{EndingJob, EndingForScheduler, EndingForWriter}
 use Rattle.mv_plan.proofs.points.InitiatorSound.{IsRunning, IsInitiatorAt}
-use Rattle.mv_plan.proofs.points.PostsAndWaits.{on_posted_keeps}
+use Rattle.mv_plan.proofs.points.Programs.{on_posted_keeps}
 use Rattle.mv_plan.proofs.points.Views.{run_of, IsNotLost}
 use Rattle.mv_plan.proofs.points.Asks.{Elsewhere}
 use Rattle.mv_plan.proofs.points.Lands.{given_lands, ended_lands, freeing_lands, counting_lands, rounds_land}

@@ -7,11 +7,10 @@ use Rattle.mv_plan.proofs.Words.{task_program, done, EcbReply, rules}
 use Rattle.mv_plan.proofs.deck.{IsPlanned, few_jobs, Facts, facts}
 use Rattle.mv_plan.proofs.ends.{HasEnd, done_has, scheduler_has, writer_has, Codes, KeepsEnds, codes_keep, codes_first, EndMoment}
 use Rattle.mv_plan.proofs.ends.{IsFreeToOffer, traces_keep, IsComplete, posted_keeps, posted_first, HasRightMark, code_list, traces_first}
-use Rattle.mv_plan.proofs.ends.{WriterHas, HasFound, writer_has_keeps, writer_has_first}
+use Rattle.mv_plan.proofs.ends.{WriterHas, HasFound, writer_has_keeps, writer_has_first, Traces}
 use Rattle.mv_plan.proofs.standing.{RowAt}
 use Rattle.mv_plan.proofs.points.{program_at, writer_program, Point, Finished, SchedulerAt, InitiatorAt}
 use Rattle.mv_plan.proofs.ends.Posted.{Posted}
-use Rattle.mv_plan.proofs.ends.Traces.{Traces}
 use Rattle.mv_plan.proofs.walks.{Stood, stood, AreFinished, run_finished, none_lost_at_end, Points, start_points, Move, TasksStand}
 use Rattle.mv_plan.proofs.walks.{standing, NoneLost}
 use Rattle.mv_plan.proofs.places.{run_released, Moment, walk_moments}

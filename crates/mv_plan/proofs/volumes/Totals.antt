@@ -2,16 +2,16 @@
 -- what the named jobs add, so a COUNT's sum has 32 bits; and in the end that is the deck's total.
 use Rattle.mv_plan.proofs.Words.{◌≡◌, ℕ, suc, ◌+◌, Bool, true, false, List, [], ◌∷◌, length, refl, sym, ap, ◌∙◌, arith, Reply, Setup}
 use Rattle.mv_plan.proofs.Words.{System, with_at, advanced, gift_code, JobData, Step, Count, job_at, before_end, added, IsNext, initiator}
-use Rattle.mv_plan.proofs.Words.{ElementReply, LatchReply, VolumeReply, common_steps, inl, inr, ◌*◌, ◌^◌, ◌<◌, ◌≤◌, if◌then◌else◌}
-use Rattle.mv_plan.proofs.Words.{◌++◌, None, subst, append-nil, eq-eqb, Entry, next, opening, moved, ◌==◌, slice_index, ne_eqb, given_codes}
+use Rattle.mv_plan.proofs.Words.{ElementReply, LatchReply, VolumeReply, common_steps, inl, inr, ◌*◌, ◌^◌, ◌<◌, ◌≤◌, if◌then◌else◌, ◌++◌}
+use Rattle.mv_plan.proofs.Words.{None, subst, append-nil, eq-eqb, Entry, next, opening, moved, ◌==◌, slice_index, ne_eqb, given_codes}
 use Rattle.mv_plan.proofs.Words.{sum_by-cons, end_of, not_run, ends, total, code_of, one_end_per_job, sum_by, rules}
 use Rattle.mv_machine.proofs.EntryRuns.{entry_of}
 use Rattle.mv_plan.proofs.volumes.GivenCodes.{added_by, added_by_is, with_code, adds_if, adds_named, adds, adds_all, adds_high, codes_of}
 use Rattle.mv_plan.proofs.volumes.GivenCodes.{codes-push, full, adds-append, adds_by_jobs}
-use Rattle.mv_plan.proofs.points.{Point, At, Running, Hand, InitiatorAt, Pausing, Resuming, Obtaining, Confirming, Freeing}
-use Rattle.mv_plan.proofs.points.{Reading, Writing, Scanning, Rescanning, initiator_goes, steps_at, running, job_start, given_at}
-use Rattle.mv_plan.proofs.points.{initiator_asks, InJob, IsNotLost, given_lands, no_gift}
-use Rattle.mv_plan.proofs.volumes.Values.{ValueAt, read_keeps, volumes_asked, Values, volumes_same}
+use Rattle.mv_plan.proofs.points.{Point, At, Running, Hand, InitiatorAt, Pausing, Resuming, Obtaining, Confirming, Freeing, Reading}
+use Rattle.mv_plan.proofs.points.{Writing, Scanning, Rescanning, initiator_goes, steps_at, running, job_start, given_at, initiator_asks}
+use Rattle.mv_plan.proofs.points.{InJob, IsNotLost, given_lands, no_gift}
+use Rattle.mv_plan.proofs.volumes.Alone.{ValueAt, read_keeps, volumes_asked, Values, volumes_same}
 use Rattle.mv_plan.proofs.deck.{steps_events, all_events, all_events_are, Held, ArePlannedSteps, ArePlannedJobs, IsPlanned}
 use Rattle.mv_plan.proofs.walks.{NoneLost, none_lost_before, who_moved, mover_asked, mover_goes, mover_sum, Points, start_points, Move}
 use Rattle.mv_plan.proofs.lists.{sum_to, sum_zero, sum_le, sum_member, sum_front, times, times_once, count_of, sum_ext}
