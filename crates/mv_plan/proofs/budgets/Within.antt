@@ -4,8 +4,8 @@ use Rattle.mv_plan.proofs.Words.{◌≡◌, ℕ, suc, ◌+◌, ◌*◌, ◌≤�
 use Rattle.mv_plan.proofs.Words.{length-map, length-map-range_with_len, Reply, After, Step, JobData, complete_count, EcbReply, common_steps}
 use Rattle.mv_plan.proofs.Words.{rules, ◌<◌, ◌==◌, Bool, if◌then◌else◌, refl, ap, list_any, eq-eqb, ne_eqb, job_at, slice_index, Some, sym}
 use Rattle.mv_plan.proofs.Words.{subst, Entry, Object, Op, of, opening, asks, left_in, Follows, spool_setup, task_budgets}
-use Rattle.mv_plan.proofs.Words.{initiator, task_program, Program, cases_eq, inl, inr}
-use Rattle.mv_plan.proofs.deck.{after_parts, steps_events, all_events, IsPlanned, after_parts_are, all_events_are}
+use Rattle.mv_plan.proofs.Words.{initiator, task_program, Program, cases_eq, inl, inr, step_events, sum_by, sum_by-cons}
+use Rattle.mv_plan.proofs.deck.{IsPlanned}
 use Rattle.mv_plan.proofs.points.{Point, At, TooSoon, ReaderAt, Entering, entering_from, reader_goes, Arming, Settling, Stage, Dispatching}
 use Rattle.mv_plan.proofs.points.{Dismissing, Awaited, ForEntry, ForEnds, ForIdle, ToDismiss, SchedulerAt, Waits, Extends, Clears, Releases}
 use Rattle.mv_plan.proofs.points.{awaited_blocks, arming_first, ends_at, stage_at, found_at, settling_from, arming_from, scheduler_goes}
@@ -18,7 +18,11 @@ use Rattle.mv_plan.proofs.lists.{sum_to, sum_front, sum_change}
 use Rattle.mv_plan.specs.StayingWithin.{IsWithinBudgets}
 use Rattle.mv_plan.proofs.walks.{Who, is_reader, is_scheduler, is_initiator, is_writer, who, Stood, stood, Points, start_points, Move}
 use Rattle.mv_plan.proofs.walks.{reads, schedules, initiates, writes, walk_keeps}
-use Rattle.mv_deck.specs.Weight as heavy
+use Rattle.mv_deck.specs.Weight.{all_events, after_parts}
+
+-- the events of some steps
+abbrev steps_events : List Step → ℕ
+steps_events steps = sum_by step_events steps
 
 -- ---- the reader: one event for each job
 
@@ -147,7 +151,7 @@ module _ (n initiators : ℕ) where
   pub jobs_rest_is : (jobs : List JobData)
       → jobs_rest jobs ≡ 5 * length jobs + 2 * length jobs * initiators + 2 * after_parts jobs
   jobs_rest_is [] = omega arith
-  jobs_rest_is (job ∷ jobs) = grind (arith, common_steps, jobs_rest_is jobs)
+  jobs_rest_is (job ∷ jobs) = grind (arith, common_steps, jobs_rest_is jobs, sum_by-cons)
 
 -- ---- jobs that were not named before
 
@@ -188,7 +192,7 @@ round_taken deck before j lt new =
 -- the rounds of all jobs
 pub all_rounds : (deck : List JobData) → rounds_to_come deck [] ≡ 7 * length deck + all_events deck
 all_rounds [] = refl
-all_rounds (job ∷ jobs) = grind (arith, common_steps, sum_front, all_rounds jobs)
+all_rounds (job ∷ jobs) = grind (arith, common_steps, sum_front, sum_by-cons, all_rounds jobs)
 
 -- ---- what an initiator may still do
 
@@ -225,7 +229,7 @@ module _ (deck : List JobData) where
   steps_rest : (run : Running) (hand : Hand) (steps : List Step)
       → initiator_rest (steps_at run hand steps) ≤ 4 + (steps_events steps + behind_job run)
   steps_rest run hand [] = grind (arith, common_steps)
-  steps_rest run hand (first ∷ steps) = grind (arith, common_steps, steps_rest run hand steps)
+  steps_rest run hand (first ∷ steps) = grind (arith, common_steps, sum_by-cons, steps_rest run hand steps)
 
   -- where a job begins
   start_rest : (skipped : Bool) (run : Running) (job : JobData)
@@ -266,8 +270,8 @@ module _ (deck : List JobData) (initiators : ℕ) where
   -- the budgets, task by task
   abbrev budget_of : {k : ℕ} → Who initiators k → ℕ
   budget_of (is_reader e) = length deck
-  budget_of (is_scheduler e) = 5 * length deck + 2 * length deck * initiators + 2 * heavy.after_parts deck + 4 * initiators
-  budget_of (is_initiator i lt e) = 5 + 7 * length deck + heavy.all_events deck
+  budget_of (is_scheduler e) = 5 * length deck + 2 * length deck * initiators + 2 * after_parts deck + 4 * initiators
+  budget_of (is_initiator i lt e) = 5 + 7 * length deck + all_events deck
   budget_of (is_writer e) = 2 * length deck
 
   budget_is : (k : ℕ) (w : Who initiators k) → slice_index (task_budgets deck initiators) k ≡ budget_of w
@@ -288,8 +292,8 @@ module _ (deck : List JobData) (initiators : ℕ) where
   within_start k (is_reader e) = let le = entering_rest 0 (length deck) in omega arith
   within_start k (is_scheduler e) =
       let le = stage_starts (length deck) initiators (Dispatching 0 deck) in
-      omega (arith, jobs_rest_is (length deck) initiators deck, after_parts_are deck)
-  within_start k (is_initiator i lt e) = omega (arith, all_rounds deck, all_events_are deck)
+      omega (arith, jobs_rest_is (length deck) initiators deck)
+  within_start k (is_initiator i lt e) = omega (arith, all_rounds deck)
   within_start k (is_writer e) = let le = writing_rest (length deck) 0 (length deck) [] in omega arith
 
   -- each event takes one of what its caller may still do, and none of what the others may

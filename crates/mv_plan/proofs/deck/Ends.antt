@@ -1,10 +1,9 @@
 -- Sound decks: each job's end by the ends of the whole deck, which jobs are not to be run, and that jobs are few enough for
 -- codes to name them; the budgets of all tasks are the weight. Used by the layer of ends, by totals, and by all results.
-use Rattle.mv_plan.proofs.Words.{◌≡◌, ℕ, ◌+◌, List, [], ◌∷◌, length, refl, ap, ◌∙◌, sum_by-cons, Step, JobData, step_events, sum_by, suc}
+use Rattle.mv_plan.proofs.Words.{◌≡◌, ℕ, ◌+◌, List, [], ◌∷◌, length, refl, ap, ◌∙◌, Step, JobData, suc}
 use Rattle.mv_plan.proofs.Words.{◌<◌, ◌≤◌, ◌++◌, get_or, sum, if◌then◌else◌, sym, subst, arith, zero-add, ◌==◌, Bool, true, false, cond}
 use Rattle.mv_plan.proofs.Words.{no_job, job_at, end_of, weight, not_run, some_unaccepted, own_end, ends, not_to_run, task_budgets, eq-eqb}
 use Rattle.mv_plan.proofs.Words.{ne_eqb, common_steps}
-use Rattle.mv_deck.specs.Weight as heavy
 use Rattle.std.proofs.Common.{add-zero}
 use Rattle.mv_report.specs.Outcome.{end_behind}
 use Rattle.std.specs.Prelude.{All, take, drop}
@@ -12,40 +11,6 @@ use Rattle.std.proofs.lemmas.List.{length-take-le, set-get_or, set_split}
 use Rattle.std.proofs.lemmas.List.Elements.{All-from_recursion}
 use Rattle.mv_report.proofs.Ends.{ends_by_accepted_codes}
 use Rattle.mv_plan.proofs.deck.Plans.{IsPlannedJob, ArePlannedJobs, IsPlanned, Held, ArePlannedSteps}
-
--- the events of some steps
-abbrev pub steps_events : List Step → ℕ
-steps_events [] = 0
-steps_events (step ∷ steps) = step_events step + steps_events steps
-
--- the events of all jobs
-abbrev pub all_events : List JobData → ℕ
-all_events [] = 0
-all_events (job ∷ jobs) = steps_events job.steps + all_events jobs
-
--- the AFTER parts of all jobs
-abbrev pub after_parts : List JobData → ℕ
-after_parts [] = 0
-after_parts (job ∷ jobs) = length job.after + after_parts jobs
-
--- the sum over steps
-steps_events_are : (steps : List Step) → sum_by step_events steps ≡ steps_events steps
-steps_events_are [] = refl
-steps_events_are (step ∷ steps) = sum_by-cons step_events step steps ∙ ap (λ n. step_events step + n) (steps_events_are steps)
-
--- the sum over jobs
-pub all_events_are : (jobs : List JobData) → heavy.all_events jobs ≡ all_events jobs
-all_events_are [] = refl
-all_events_are (job ∷ jobs) =
-    sum_by-cons (λ (j : JobData). sum_by step_events j.steps) job jobs
-    ∙ ap (λ n. n + heavy.all_events jobs) (steps_events_are job.steps)
-    ∙ ap (λ n. steps_events job.steps + n) (all_events_are jobs)
-
--- the sum of parts
-pub after_parts_are : (jobs : List JobData) → heavy.after_parts jobs ≡ after_parts jobs
-after_parts_are [] = refl
-after_parts_are (job ∷ jobs) =
-    sum_by-cons (λ (j : JobData). length j.after) job jobs ∙ ap (λ n. length job.after + n) (after_parts_are jobs)
 
 -- ---- ends
 

@@ -1,18 +1,9 @@
 -- The codes that pauses are given in a history, and what the jobs that they name add to a volume.
-use Rattle.mv_plan.proofs.Words.{◌≡◌, ℕ, ◌+◌, List, [], ◌∷◌, refl, ap, ◌∙◌, sum_by-cons, Step, added, suc, ◌-◌, ◌<◌, ◌≤◌, nat_le, Bool}
+use Rattle.mv_plan.proofs.Words.{◌≡◌, ℕ, ◌+◌, List, [], ◌∷◌, refl, ap, ◌∙◌, suc, ◌-◌, ◌<◌, ◌≤◌, nat_le, Bool}
 use Rattle.mv_plan.proofs.Words.{true, false, ◌&&◌, if◌then◌else◌, ◌++◌, length, Option, Some, None, sym, arith, eq-eqb, leb-true}
 use Rattle.mv_plan.proofs.Words.{and_parts, Entry, gift_code, JobData, job_at, before_end, Named, job_named, common_steps}
-use Rattle.mv_report.specs.Outcome as outcome
+use Rattle.mv_report.specs.Outcome.{added_by}
 use Rattle.mv_plan.proofs.lists.{sum_to, sum_zero, sum_change, times, count_of}
-
--- what these steps add
-abbrev pub added_by : ℕ → List Step → ℕ
-added_by v [] = 0
-added_by v (step ∷ steps) = added v step + added_by v steps
-
-pub added_by_is : (v : ℕ) (steps : List Step) → outcome.added_by v steps ≡ added_by v steps
-added_by_is v [] = refl
-added_by_is v (step ∷ steps) = sum_by-cons (added v) step steps ∙ ap (λ n. added v step + n) (added_by_is v steps)
 
 -- ---- codes
 

@@ -4,19 +4,19 @@ use Rattle.mv_plan.proofs.Words.{◌≡◌, ℕ, suc, ◌+◌, Bool, true, false
 use Rattle.mv_plan.proofs.Words.{System, with_at, advanced, gift_code, JobData, Step, Count, job_at, before_end, added, IsNext, initiator}
 use Rattle.mv_plan.proofs.Words.{ElementReply, LatchReply, VolumeReply, common_steps, inl, inr, ◌*◌, ◌^◌, ◌<◌, ◌≤◌, if◌then◌else◌, ◌++◌}
 use Rattle.mv_plan.proofs.Words.{None, subst, append-nil, eq-eqb, Entry, next, opening, moved, ◌==◌, slice_index, ne_eqb, given_codes}
-use Rattle.mv_plan.proofs.Words.{sum_by-cons, end_of, not_run, ends, total, code_of, one_end_per_job, sum_by, rules}
+use Rattle.mv_plan.proofs.Words.{step_events, sum_by-cons, end_of, not_run, ends, total, code_of, one_end_per_job, sum_by, rules}
 use Rattle.mv_machine.proofs.EntryRuns.{entry_of}
-use Rattle.mv_plan.proofs.volumes.GivenCodes.{added_by, added_by_is, with_code, adds_if, adds_named, adds, adds_all, adds_high, codes_of}
+use Rattle.mv_plan.proofs.volumes.GivenCodes.{with_code, adds_if, adds_named, adds, adds_all, adds_high, codes_of}
 use Rattle.mv_plan.proofs.volumes.GivenCodes.{codes-push, full, adds-append, adds_by_jobs}
 use Rattle.mv_plan.proofs.points.{Point, At, Running, Hand, InitiatorAt, Pausing, Resuming, Obtaining, Confirming, Freeing, Reading}
 use Rattle.mv_plan.proofs.points.{Writing, Scanning, Rescanning, initiator_goes, steps_at, running, job_start, given_at, initiator_asks}
 use Rattle.mv_plan.proofs.points.{InJob, IsNotLost, given_lands, no_gift}
 use Rattle.mv_plan.proofs.volumes.Alone.{ValueAt, read_keeps, volumes_asked, Values, volumes_same}
-use Rattle.mv_plan.proofs.deck.{steps_events, all_events, all_events_are, Held, ArePlannedSteps, ArePlannedJobs, IsPlanned}
+use Rattle.mv_plan.proofs.deck.{Held, ArePlannedSteps, ArePlannedJobs, IsPlanned}
 use Rattle.mv_plan.proofs.walks.{NoneLost, none_lost_before, who_moved, mover_asked, mover_goes, mover_sum, Points, start_points, Move}
 use Rattle.mv_plan.proofs.lists.{sum_to, sum_zero, sum_le, sum_member, sum_front, times, times_once, count_of, sum_ext}
-use Rattle.mv_report.specs.Outcome.{steps_with, all_steps_with}
-use Rattle.mv_report.specs.Outcome as outcome
+use Rattle.mv_deck.specs.Weight.{all_events}
+use Rattle.mv_report.specs.Outcome.{steps_with, all_steps_with, added_by}
 
 -- ---- what is still to be added
 
@@ -39,7 +39,7 @@ module _ (v : ℕ) where
   due_steps : (run : Running) (hand : Hand) (steps : List Step) → IsNotLost (steps_at run hand steps)
       → due v (steps_at run hand steps) ≡ added_by v (before_end steps)
   due_steps run hand [] n = grind (arith, common_steps)
-  due_steps run hand (first ∷ steps) n = grind (arith, common_steps, due_steps run hand steps)
+  due_steps run hand (first ∷ steps) n = grind (arith, common_steps, sum_by-cons, due_steps run hand steps)
 
   due_start : (deck : List JobData) (run : Running) (job : ℕ) (skipped : Bool) → IsNotLost (job_start skipped run (job_at deck job))
       → due v (job_start skipped run (job_at deck job)) ≡ adds_if deck v job skipped
@@ -127,19 +127,20 @@ balance_next c deck initiators s t u past e h moves values w n v = elim (who_mov
 -- ---- how much a volume may have
 
 steps_bound : (v : ℕ) (steps : List Step) (held : List Held) → ArePlannedSteps held steps
-    → 2 * added_by v (before_end steps) ≤ 9999 * steps_events steps
+    → 2 * added_by v (before_end steps) ≤ 9999 * sum_by step_events steps
 steps_bound v [] held s = grind (arith, common_steps)
-steps_bound v (first ∷ steps) held s = grind (arith, common_steps, steps_bound v steps)
+steps_bound v (first ∷ steps) held s = grind (arith, common_steps, sum_by-cons, steps_bound v steps)
 
 fulls_bound : (v k : ℕ) (jobs : List JobData) → ArePlannedJobs k jobs → 2 * sum_to (length jobs) (full jobs v) ≤ 9999 * all_events jobs
 fulls_bound v k [] s = omega arith
 fulls_bound v k (job ∷ jobs) s =
     let first = sum_front (length jobs) (full (job ∷ jobs) v) in
     let rest = fulls_bound v (k + 1) jobs s.1 in
+    let more = sum_by-cons (λ (j : JobData). sum_by step_events j.steps) job jobs in
     let one = steps_bound v job.steps [] s.0.steps in omega arith
 
 few_events : (deck : List JobData) (initiators : ℕ) → 1 ≤ initiators → IsPlanned deck initiators → all_events deck ≤ 524287
-few_events deck x2 some sound = grind (arith, common_steps, all_events_are)
+few_events deck x2 some sound = grind (arith, common_steps)
 
 -- each job was named to be run at most once
 abbrev pub OnceEach : List JobData → List ℕ → Type 0
@@ -202,7 +203,7 @@ done_by deck j = steps_with (end_of deck j) (job_at deck j).steps
 
 total_from : (v : ℕ) (es : List ℕ) (jobs : List JobData) → length es ≡ length jobs
     → sum_to (length jobs) (λ j. added_by v (steps_with (slice_index es j) (job_at jobs j).steps))
-    ≡ sum_by (outcome.added_by v) (all_steps_with es jobs)
+    ≡ sum_by (added_by v) (all_steps_with es jobs)
 total_from v [] [] e = refl
 total_from v [] (job ∷ jobs) e = absurd (omega arith)
 total_from v (x ∷ es) [] e = absurd (omega arith)
@@ -211,7 +212,6 @@ total_from v (x ∷ es) (job ∷ jobs) e =
       arith,
       common_steps,
       sum_front,
-      added_by_is,
       sum_by-cons,
       total_from v es jobs (let f : suc (length es) ≡ suc (length jobs) = e in omega arith),
     )
