@@ -16,8 +16,10 @@ use Rattle.mv_deck.specs.EndCode.{abended}
 use Rattle.mv_deck.specs.Operand.{is_name, latch_of}
 use Rattle.mv_deck.specs.Statement.{Statement, Null, JobOf, PrintOf, FreeOf, ScanOf, AbendOf, AfterPart, statements_of, version_of}
 use Rattle.mv_deck.specs.Deck.{JobData, after_of, fresh_job, step_of, jobs_of, deck_of, with_step, last_steps}
-use Rattle.mv_deck.specs.Fault.{is_null, is_job, kinds_of_statement, faults_from, first_fault, awaits_no_job, has_bad_name}
-use Rattle.mv_line.specs.Fault.{first_of_list}
+use Rattle.mv_deck.specs.Fault.{is_null, is_job, kinds_of_statement, line_rules, first_fault, awaits_no_job, has_bad_name}
+use Rattle.mv_line.specs.Fault.{faults_by_line, first_of_list}
+use Rattle.mv_line.specs.Fault as of_lines
+use Rattle.mv_line.proofs.Faults.{line_passed}
 use Rattle.mv_deck.specs.Fault.{has_bad_number, is_crowded}
 use Rattle.mv_deck.specs.Held.{is_end, is_out_of_order, lacks_latch}
 use Rattle.mv_deck.specs.Sound.{IsSoundStep, AreSoundSteps}
@@ -30,7 +32,6 @@ use Rattle.mv_deck.proofs.Steps.{is_step, is_outside}
 use Rattle.mv_deck.proofs.Told.{job_fine, job_placed, step_fine, null_fine}
 use Rattle.mv_latch.proofs.Joined.{same_any, some_any}
 use Rattle.mv_deck.proofs.Behind.{jobs-push, inside}
-use Rattle.mv_deck.proofs.Passes.{one_line}
 use Rattle.mv_deck.proofs.Sounds.{sound}
 use Rattle.mv_deck.proofs.LoadLines.{digit_is, name_is_good, latch_again, amount_again, user_code_again}
 use Rattle.mv_deck.proofs.LoadJobs.{load_jobs-more, name_is_new, name_is_known, load_is_sound, load_is_light, job_is_light}
@@ -257,14 +258,14 @@ load_is_fine k n le few =
 -- ---- the whole text
 
 faults_none : (k number : ℕ) (earlier : List Statement) (lines : List (List ℕ)) (statements : List Statement) → AllState lines statements
-    → AreFine k earlier statements → list_any is_null (earlier ++ statements) ≡ true → faults_from k One number earlier lines ≡ []
-unfolding faults_from
+    → AreFine k earlier statements → list_any is_null (earlier ++ statements) ≡ true
+    → faults_by_line (line_rules k One) number earlier lines ≡ []
 faults_none k number earlier [] [] are fine e =
     let null : list_any is_null earlier ≡ true = ap (list_any is_null) (sym (append-nil earlier)) ∙ e in rw null refl
 faults_none k number earlier (line ∷ lines) (s ∷ statements) are fine e =
     let is = is_stated k earlier line s are.0 in
-    one_line k One number earlier line lines (is.kinds ∙ fine.0)
-    ∙ ap (λ (o : Option Statement). faults_from k One (number + 1) (earlier ++ option_to_list o) lines) is.statement
+    line_passed (line_rules k One) number earlier line lines (is.kinds ∙ fine.0)
+    ∙ ap (λ (o : Option Statement). faults_by_line (line_rules k One) (number + 1) (earlier ++ option_to_list o) lines) is.statement
     ∙ faults_none k (number + 1) (earlier ++ s ∷ []) lines statements are.1 fine.1
     (ap (list_any is_null) (append_assoc earlier (s ∷ []) statements) ∙ e)
 faults_none k number earlier [] (s ∷ statements) are fine e = absurd are
@@ -275,10 +276,11 @@ null_stands : (n : ℕ) → list_any is_null (load_statements n) ≡ true
 null_stands n = some_any is_null (first_statements n) Null refl
 
 pub no_fault : (n initiators : ℕ) → 1 ≤ n → n ≤ most_jobs → initiators ≤ 8 → first_fault (load_text n) initiators ≡ None
+unfolding first_fault
 no_fault n k some few le =
     let lines = first_lines n ++ codes "//" ∷ [] in
-    ap (λ (ls : List (List ℕ)). first_of_list (faults_from k (version_of ls) 1 [] ls)) (load_lines n (omega arith))
-    ∙ ap (λ (v : Version). first_of_list (faults_from k v 1 [] lines)) (load_version n some)
+    ap (λ (ls : List (List ℕ)). of_lines.first_fault (line_rules k (version_of ls)) [] ls) (load_lines n (omega arith))
+    ∙ ap (λ (v : Version). of_lines.first_fault (line_rules k v) [] lines) (load_version n some)
     ∙ ap first_of_list (faults_none k 1 [] lines (load_statements n) (load_lines_state n (omega arith)) (load_is_fine k n le few)
     (null_stands n))
 

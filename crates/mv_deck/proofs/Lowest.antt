@@ -13,7 +13,7 @@ use Rattle.mv_deck.specs.Statement.{Statement, statement_of}
 use Rattle.mv_deck.specs.Deck.{JobData, jobs_of}
 use Rattle.mv_deck.specs.Fault.{is_misplaced, is_behind_end, is_late_deck, is_too_heavy}
 use Rattle.mv_deck.specs.Fault.{has_no_form, has_bad_name, has_bad_number, repeats_name, awaits_no_job, is_crowded, uses_out_of_order}
-use Rattle.mv_deck.specs.Fault.{needs_latch, kinds_of, kinds_of_statement, kinds_behind, kind_number, faults_from, first_fault}
+use Rattle.mv_deck.specs.Fault.{needs_latch, kinds_of, kinds_of_statement, kinds_behind, kind_number, first_fault}
 use Rattle.mv_deck.specs.Fault.{line_rules, HasFault}
 use Rattle.mv_deck.proofs.Passes.{version_in}
 
@@ -49,6 +49,6 @@ line_rises n v earlier line =
 -- the law
 pub lowest : (bytes : List ℕ) (n : ℕ) → MatchOption (first_fault bytes n) ((f : TextFault) → ¬ HasFault bytes n f)
     (λ f. HasFault bytes n f × ((g : TextFault) → HasFault bytes n g → IsNoLater f g))
-unfolding faults_from
+unfolding first_fault
 lowest bytes n =
     lowest_from (line_rules n (version_in bytes)) (line_rises n (version_in bytes)) 1 [] (lines_of bytes)

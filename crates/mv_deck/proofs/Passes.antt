@@ -1,13 +1,12 @@
 -- The one pass over the lines.
-use Rattle.std.proofs.Common.{◌≡◌, ℕ, ◌+◌, List, [], ◌∷◌, ◌++◌, Option, Some, None, sym, ap, ◌∙◌, append_assoc}
+use Rattle.std.proofs.Common.{◌≡◌, ℕ, List, [], ◌∷◌, ◌++◌, Option, Some, None, sym, ap, ◌∙◌, append_assoc}
 use Rattle.std.proofs.lemmas.List.{append-nil}
 use Rattle.std.specs.Prelude.{fold, option_to_list}
 use Rattle.std.specs.List.{cons_option}
 use Rattle.mv_deck.specs.declared.form.Version.{Version}
 use Rattle.mv_line.specs.Line.{lines_of}
-use Rattle.mv_line.proofs.Faults.{line_passed}
 use Rattle.mv_deck.specs.Statement.{Statement, statement_of, statements_of, version_of}
-use Rattle.mv_deck.specs.Fault.{kinds_of, faults_from, line_rules}
+use Rattle.mv_deck.specs.Fault.{line_rules}
 
 -- the version of a text
 abbrev pub version_in : List ℕ → Version
@@ -25,10 +24,3 @@ all_said n v earlier [] = sym (append-nil earlier)
 all_said n v earlier (line ∷ lines) =
     all_said n v (earlier ++ option_to_list (statement_of v line)) lines
     ∙ sym (earlier_more earlier (statement_of v line) (statements_of v lines))
-
--- a line without fault is passed
-pub one_line : (n : ℕ) (v : Version) (number : ℕ) (earlier : List Statement) (line : List ℕ) (lines : List (List ℕ))
-    → kinds_of n v earlier line ≡ [] → faults_from n v number earlier (line ∷ lines) ≡ faults_from n v (number + 1)
-    (earlier ++ option_to_list (statement_of v line)) lines
-unfolding faults_from
-one_line n v number earlier line lines none = line_passed (line_rules n v) number earlier line lines none

@@ -14,7 +14,7 @@ use Rattle.mv_deck.specs.Operand.{latch_of, amount_of, code_of, end_code_of}
 use Rattle.mv_deck.specs.Statement.{Null, JobOf, PrintOf, UseOf, CountOf, AbendOf, ReturnOf, form_of, statement_of, version_of}
 use Rattle.mv_deck.specs.Deck.{JobData, deck_of}
 use Rattle.mv_line.specs.Fault.{fault_at}
-use Rattle.mv_deck.specs.Fault.{first_fault, faults_from}
+use Rattle.mv_deck.specs.Fault.{first_fault}
 use Rattle.mv_deck.specs.Held.{lacks_latch}
 use Rattle.mv_deck.specs.Sound.{IsSound}
 use Rattle.mv_deck.specs.Weight.{weight}
@@ -174,7 +174,7 @@ small_weight : weight small_jobs 1 ≡ 66
 small_weight = refl
 
 small_has_no_fault : first_fault small 1 ≡ None
-unfolding faults_from parts_at
+unfolding first_fault parts_at
 small_has_no_fault = refl
 
 -- ---- a deck with latches and volumes, and its weight for two initiators
@@ -198,48 +198,48 @@ counting_weight : weight counting_jobs 2 ≡ 92
 counting_weight = refl
 
 counting_has_no_fault : first_fault counting 2 ≡ None
-unfolding faults_from
+unfolding first_fault
 counting_has_no_fault = refl
 
 -- ---- first faults
 
 a_lower_latch : first_fault (codes "//A JOB" ++ lf ++ codes "// USE 3 X" ++ lf ++ codes "// USE 1 S" ++ lf ++ codes "//") 1 ≡ Some
     (fault_at 3 9)
-unfolding faults_from
+unfolding first_fault
 a_lower_latch = refl
 
 a_job_after_itself : first_fault (codes "//A JOB AFTER=A") 1 ≡ Some (fault_at 1 6)
-unfolding faults_from parts_at
+unfolding first_fault parts_at
 a_job_after_itself = refl
 
 a_use_before_any_job : first_fault (codes "// USE 1 S") 1 ≡ Some (fault_at 1 11)
-unfolding faults_from
+unfolding first_fault
 a_use_before_any_job = refl
 
 a_count_under_a_shared_latch : first_fault (codes "//A JOB" ++ lf ++ codes "// USE 0 S" ++ lf ++ codes "// COUNT 0 1" ++ lf ++ codes "//")
     1 ≡ Some (fault_at 3 10)
-unfolding faults_from
+unfolding first_fault
 a_count_under_a_shared_latch = refl
 
 a_return_code_too_high : first_fault (codes "// DECK 2" ++ lf ++ codes "//A JOB" ++ lf ++ codes "// RETURN 4096") 1 ≡ Some (fault_at 3 8)
-unfolding faults_from
+unfolding first_fault
 a_return_code_too_high = refl
 
 a_return_in_a_deck_of_version_1 : first_fault (codes "//A JOB" ++ lf ++ codes "// RETURN 1" ++ lf ++ codes "//") 1 ≡ Some (fault_at 2 3)
-unfolding faults_from
+unfolding first_fault
 a_return_in_a_deck_of_version_1 = refl
 
 a_late_deck : first_fault (codes "//A JOB" ++ lf ++ codes "// DECK 2" ++ lf ++ codes "//") 1 ≡ Some (fault_at 2 15)
-unfolding faults_from
+unfolding first_fault
 a_late_deck = refl
 
 an_ended_job : first_fault (codes "// DECK 2" ++ lf ++ codes "//A JOB" ++ lf ++ codes "// RETURN 0" ++ lf ++ codes "// DECK 2") 1 ≡ Some
     (fault_at 4 13)
-unfolding faults_from
+unfolding first_fault
 an_ended_job = refl
 
 nothing : first_fault [] 1 ≡ Some (fault_at 1 12)
-unfolding faults_from
+unfolding first_fault
 nothing = refl
 
 -- ---- decks that are not sound, each of one job

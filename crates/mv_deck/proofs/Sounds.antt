@@ -24,10 +24,10 @@ use Rattle.mv_deck.specs.Deck.{last_steps}
 use Rattle.mv_deck.specs.Held.{is_out_of_order, lacks_latch, is_end}
 use Rattle.mv_line.specs.Line.{is_foreign, is_too_long}
 use Rattle.mv_deck.specs.Fault.{is_job, is_null, is_deck, has_no_form, kinds_of, kinds_of_statement}
-use Rattle.mv_deck.specs.Fault.{faults_from, first_fault, kinds_behind, has_bad_name, has_bad_number}
+use Rattle.mv_deck.specs.Fault.{first_fault, kinds_behind, has_bad_name, has_bad_number}
 use Rattle.mv_deck.specs.Fault.{line_rules}
-use Rattle.mv_line.specs.Fault.{first_of_list}
-use Rattle.mv_line.proofs.Faults.{none_when, no_kinds, no_fault_at_end}
+use Rattle.mv_line.specs.Fault.{faults_by_line, first_of_list}
+use Rattle.mv_line.proofs.Faults.{none_when, line_passed, no_kinds, no_fault_at_end}
 use Rattle.mv_latch.proofs.Joined.{same_any}
 use Rattle.mv_deck.specs.Fault.{accepts_no_code, has_double, repeats_name, awaits_no_job, is_crowded, is_step_that, uses_out_of_order}
 use Rattle.mv_deck.specs.Fault.{needs_latch, is_misplaced, is_behind_end, is_too_heavy}
@@ -36,7 +36,7 @@ use Rattle.mv_deck.specs.Weight.{weight, heaviest}
 use Rattle.mv_deck.proofs.Jobs.{stepped, last_steps-push, with_step-push}
 use Rattle.mv_deck.proofs.Steps.{is_step}
 use Rattle.mv_deck.proofs.Behind.{jobs-push, some_stated, stated_before}
-use Rattle.mv_deck.proofs.Passes.{version_in, one_line, earlier_more}
+use Rattle.mv_deck.proofs.Passes.{version_in, earlier_more}
 use Rattle.std.proofs.lemmas.Bool.{or_parts, not-false}
 
 -- ---- one more step, and one more job
@@ -495,8 +495,7 @@ stated_kinds n v sts line e =
 
 -- from a line on
 sound_from : (n : ℕ) (v : Version) (number : ℕ) (sts : List Statement) (lines : List (List ℕ)) → IsFine n sts
-    → first_of_list (faults_from n v number sts lines) ≡ None → IsSound (jobs_of (sts ++ statements_of v lines)) n
-unfolding faults_from
+    → first_of_list (faults_by_line (line_rules n v) number sts lines) ≡ None → IsSound (jobs_of (sts ++ statements_of v lines)) n
 sound_from n v number sts [] fine e =
     subst (λ (x : List Statement). IsSound (jobs_of x) n) (sym (append-nil sts))
     (record {
@@ -508,9 +507,10 @@ sound_from n v number sts (line ∷ lines) fine e =
     let next = fine_line n sts (statement_of v line) fine (stated_kinds n v sts line none) in
     subst (λ (x : List Statement). IsSound (jobs_of x) n) (sym (earlier_more sts (statement_of v line) (statements_of v lines)))
     (sound_from n v (number + 1) (sts ++ option_to_list (statement_of v line)) lines next
-    (ap first_of_list (sym (one_line n v number sts line lines none)) ∙ e))
+    (ap first_of_list (sym (line_passed (line_rules n v) number sts line lines none)) ∙ e))
 
 -- the law
 pub sound : (bytes : List ℕ) (n : ℕ) → first_fault bytes n ≡ None → IsSound (deck_of bytes) n
+unfolding first_fault
 sound bytes n e = sound_from n (version_in bytes) 1 [] (lines_of bytes)
     (record { jobs = tt; light = λ some. absurd cc; begun = λ any. absurd cc }) e

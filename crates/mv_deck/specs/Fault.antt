@@ -11,7 +11,8 @@ use Rattle.mv_deck.specs.declared.fault.Kind.TheVariants.{LateDeck}
 use Rattle.mv_deck.specs.declared.form.Version.{Version}
 use Rattle.mv_line.specs.Line.{lines_of, is_foreign, is_too_long}
 use Rattle.mv_line.specs.declared.fault.TextFault.{TextFault}
-use Rattle.mv_line.specs.Fault.{LineRules, HasFaultAt, faults_by_line, first_of_list, when}
+use Rattle.mv_line.specs.Fault.{LineRules, HasFaultAt, when}
+use Rattle.mv_line.specs.Fault as of_lines
 pub use Rattle.mv_line.specs.Fault.{TellsFirst}
 use Rattle.mv_deck.specs.Line.{is_passed}
 use Rattle.mv_deck.specs.Operand.{is_name, code_of, most_after}
@@ -190,17 +191,9 @@ line_rules initiators v = record {
   cut_short = kind_number NoNull;
 }
 
--- the faults of lines that are numbered from here on, behind the earlier statements: by line, and in a line by kind
-unfoldable pub faults_from : ℕ → Version → ℕ → List Statement → List (List ℕ) → List TextFault
-faults_from initiators v number earlier lines = faults_by_line (line_rules initiators v) number earlier lines
-
--- the faults of a text for so many initiators
-abbrev pub faults_of : List ℕ → ℕ → List TextFault
-faults_of bytes initiators = faults_from initiators (version_of (lines_of bytes)) 1 [] (lines_of bytes)
-
--- the fault with the lowest line, and there with the lowest kind
-abbrev pub first_fault : List ℕ → ℕ → Option TextFault
-first_fault bytes initiators = first_of_list (faults_of bytes initiators)
+-- the first fault of a text for so many initiators: the one with the lowest line, and there with the lowest kind
+unfoldable pub first_fault : List ℕ → ℕ → Option TextFault
+first_fault bytes initiators = of_lines.first_fault (line_rules initiators (version_of (lines_of bytes))) [] (lines_of bytes)
 
 -- The line of this number has a fault of this kind: by what it is and the statements before it, or, behind the last
 -- line, for want of a null statement.

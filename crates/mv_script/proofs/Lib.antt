@@ -12,7 +12,6 @@ pub mod Behind
 pub mod Valid
 -- the pass, and the first fault
 pub mod Lines
-pub mod Passes
 pub mod Lowest
 -- the law that scripts are sound
 pub mod Sounds

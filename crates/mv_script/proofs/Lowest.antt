@@ -10,7 +10,7 @@ use Rattle.mv_script.specs.declared.fault.Kind.TheVariants.{NoObtain, TooCostly,
 use Rattle.mv_script.specs.declared.statement.Statement.{Statement}
 use Rattle.mv_script.specs.Fault.{has_no_form, has_bad_number, is_out_of_order, is_miscounted, uses_table, is_bad_table}
 use Rattle.mv_script.specs.Fault.{leads_down, lacks_obtain, is_too_costly, kinds_of, kinds_of_statement, kinds_behind, kind_number}
-use Rattle.mv_script.specs.Fault.{line_rules, faults_from, first_fault, HasFault}
+use Rattle.mv_script.specs.Fault.{line_rules, first_fault, HasFault}
 use Rattle.mv_script.specs.Script.{sizes_behind}
 use Rattle.mv_script.specs.Statement.{line_states}
 use Rattle.mv_script.specs.Words.{Read}
@@ -45,6 +45,6 @@ line_rises earlier line =
 -- the law
 pub lowest : (bytes : List ℕ) → MatchOption (first_fault bytes) ((f : TextFault) → ¬ HasFault bytes f)
     (λ f. HasFault bytes f × ((g : TextFault) → HasFault bytes g → IsNoLater f g))
-unfolding faults_from
+unfolding first_fault
 lowest bytes =
     lowest_from line_rules line_rises 1 [] (lines_of bytes)

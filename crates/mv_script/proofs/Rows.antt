@@ -13,7 +13,7 @@ use Rattle.mv_script.specs.declared.words.Misread.TheVariants.{NoForm, BadNumber
 use Rattle.mv_script.specs.declared.operand.Sizes.{Sizes}
 use Rattle.mv_script.specs.Costs.{script_setup}
 use Rattle.mv_line.specs.Fault.{fault_at}
-use Rattle.mv_script.specs.Fault.{first_fault, faults_from}
+use Rattle.mv_script.specs.Fault.{first_fault}
 use Rattle.mv_script.specs.Operand.{table_with}
 use Rattle.mv_script.specs.Script.{ScriptData, script_of}
 use Rattle.mv_script.specs.Sound.{IsSound, IsObtainOf}
@@ -134,7 +134,7 @@ unfolding exits_setup
 exits_script = refl
 
 exits_have_no_fault : first_fault exits ≡ None
-unfolding faults_from
+unfolding first_fault
 exits_have_no_fault = refl
 
 -- a script whose one task checks an OBTAIN that it did not make
@@ -149,39 +149,39 @@ unasked_is_not_sound h =
 -- ---- first faults
 
 nothing : first_fault [] ≡ Some (fault_at 1 9)
-unfolding faults_from
+unfolding first_fault
 nothing = refl
 
 no_obtain_yet : first_fault (codes "SCRIPT 1" ++ lf ++ codes "TASK" ++ lf ++ codes "CHECK 1" ++ lf ++ codes "END") ≡ Some (fault_at 3 8)
-unfolding faults_from
+unfolding first_fault
 no_obtain_yet = refl
 
 an_exit_to_itself : first_fault (codes "SCRIPT 1" ++ lf ++ codes "ECB 0" ++ lf ++ codes "EXIT 0 0") ≡ Some (fault_at 3 7)
-unfolding faults_from
+unfolding first_fault
 an_exit_to_itself = refl
 
 no_block_before_the_script : first_fault (codes "TEST 0") ≡ Some (fault_at 1 4)
-unfolding faults_from
+unfolding first_fault
 no_block_before_the_script = refl
 
 a_volume_before_the_script : first_fault (codes "READ 0") ≡ Some (fault_at 1 5)
-unfolding faults_from
+unfolding first_fault
 a_volume_before_the_script = refl
 
 too_few_tasks : first_fault (codes "SCRIPT 2" ++ lf ++ codes "TASK" ++ lf ++ codes "END") ≡ Some (fault_at 3 6)
-unfolding faults_from
+unfolding first_fault
 too_few_tasks = refl
 
 too_many_tasks : first_fault (codes "SCRIPT 1" ++ lf ++ codes "TASK" ++ lf ++ codes "TASK") ≡ Some (fault_at 3 6)
-unfolding faults_from
+unfolding first_fault
 too_many_tasks = refl
 
 a_second_end : first_fault (codes "SCRIPT 1" ++ lf ++ codes "TASK" ++ lf ++ codes "END" ++ lf ++ codes "END") ≡ Some (fault_at 4 5)
-unfolding faults_from
+unfolding first_fault
 a_second_end = refl
 
 a_late_block : first_fault (codes "SCRIPT 1" ++ lf ++ codes "TASK" ++ lf ++ codes "ECB 0") ≡ Some (fault_at 3 5)
-unfolding faults_from
+unfolding first_fault
 a_late_block = refl
 
 -- six blocks of the one task, and a table of them
@@ -193,20 +193,20 @@ events table =
 
 -- three events in a row, and their slots behind them
 a_use_of_an_event : first_fault (events (codes "TABLE 0 0 0 0 3 3") ++ codes "POST 0 1") ≡ Some (fault_at 10 11)
-unfolding faults_from
+unfolding first_fault
 a_use_of_an_event = refl
 
 -- three slots from the last event on
 a_table_that_meets_itself : first_fault (events (codes "TABLE 0 0 0 0 2 3")) ≡ Some (fault_at 8 12)
-unfolding faults_from
+unfolding first_fault
 a_table_that_meets_itself = refl
 
 a_second_table : first_fault (events (codes "TABLE 0 0 0 0 3 3" ++ lf ++ codes "TABLE 0 0 0 0 2 3")) ≡ Some (fault_at 9 6)
-unfolding faults_from
+unfolding first_fault
 a_second_table = refl
 
 a_long_line_of_spaces : first_fault
     (codes "SCRIPT 1" ++ lf ++ codes "                                                                                 ")
     ≡ Some (fault_at 2 2)
-unfolding faults_from
+unfolding first_fault
 a_long_line_of_spaces = refl

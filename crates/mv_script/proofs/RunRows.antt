@@ -15,7 +15,7 @@ use Rattle.mv_calls.proofs.Computed.{legal_by}
 use Rattle.mv_calls.proofs.Examples as examples
 use Rattle.mv_script.specs.declared.answer.Answer.TheVariants as answer
 use Rattle.mv_script.specs.AnswerText.{answers_text}
-use Rattle.mv_script.specs.Fault.{faults_from}
+use Rattle.mv_script.specs.Fault.{first_fault}
 use Rattle.mv_script.specs.Run.{IsMet, IsScriptRun, script_answers, entries_before, answer_at, moves_in}
 use Rattle.mv_script.specs.Script.{script_of}
 use Rattle.mv_script.specs.Tasks.{Moves, Past, task_program}
@@ -144,7 +144,7 @@ tries_run = record {
 
 -- so the law on tries says of its second call what the text shows
 tries_by_law : answer_at (script_answers (script_of tries) tries_met examples.one_post) 0 1 ≡ Some (answer.Moved 35185445830661)
-unfolding faults_from
+unfolding first_fault
 tries_by_law = post_tried (script_of tries) tries_met examples.one_post 0 1 0 0 6 (sound tries refl) tries_run refl
 
 -- ---- an obtain that posts a block, granted by a release; and a release of a request that is gone

@@ -15,9 +15,9 @@ use Rattle.mv_script.specs.declared.statement.Statement.TheVariants as statement
 use Rattle.mv_script.specs.Costs.{costs_of}
 use Rattle.mv_script.specs.Fault.{has_script, has_task, has_end, is_out_of_order, is_miscounted, leads_down, lacks_obtain}
 use Rattle.mv_script.specs.Fault.{uses_table, is_bad_table}
-use Rattle.mv_script.specs.Fault.{is_too_costly, kinds_of, kinds_of_statement, kinds_behind, faults_from, first_fault}
-use Rattle.mv_line.specs.Fault.{first_of_list, when}
-use Rattle.mv_line.proofs.Faults.{none_when, no_kinds, no_fault_at_end}
+use Rattle.mv_script.specs.Fault.{is_too_costly, kinds_of, kinds_of_statement, kinds_behind, first_fault}
+use Rattle.mv_line.specs.Fault.{faults_by_line, first_of_list, when}
+use Rattle.mv_line.proofs.Faults.{none_when, line_passed, no_kinds, no_fault_at_end}
 use Rattle.mv_script.specs.Fault.{kind_number, line_rules, has_no_form, has_bad_number}
 use Rattle.mv_script.specs.Limits.{most_ecbs, most_exits, most_calls}
 use Rattle.mv_script.specs.Reading.{progress_of, budgets_in, IsSoundSoFar}
@@ -29,7 +29,6 @@ use Rattle.mv_script.specs.Statement.{line_states, text_states}
 use Rattle.mv_script.specs.Words.{Read}
 use Rattle.mv_script.proofs.Costs.{costs_same, map_same}
 use Rattle.mv_script.proofs.Good.{read_well}
-use Rattle.mv_script.proofs.Passes.{one_line}
 use Rattle.mv_script.proofs.Progresses.{one_ecb, one_exit, one_table, one_task, one_call, the_end, sound_at_first, sound_script}
 use Rattle.mv_script.proofs.Progresses.{sound_table}
 use Rattle.mv_script.proofs.Progresses.{sound_ecb, sound_exit, sound_task, sound_call, sound_end, call_cost, is_positive}
@@ -197,14 +196,13 @@ line_holds earlier line h e = go (line_states (sizes_behind earlier) line) refl 
 
 -- what holds behind all lines, where they have no fault
 lines_hold : (number : ℕ) (earlier : List Statement) (lines : List (List ℕ)) → Holds earlier
-    → first_of_list (faults_from number earlier lines) ≡ None
+    → first_of_list (faults_by_line line_rules number earlier lines) ≡ None
     → Holds (fold with_line earlier lines) × (has_end (fold with_line earlier lines) ≡ true)
-unfolding faults_from
 lines_hold number earlier [] h e = (h, no_fault_at_end line_rules number earlier e)
 lines_hold number earlier (line ∷ lines) h e =
     let none : kinds_of earlier line ≡ [] = no_kinds line_rules number earlier line lines e in
     lines_hold (number + 1) (with_line earlier line) lines (line_holds earlier line h none)
-    (ap first_of_list (sym (one_line number earlier line lines none)) ∙ e)
+    (ap first_of_list (sym (line_passed line_rules number earlier line lines none)) ∙ e)
 
 -- ---- the script
 
@@ -240,6 +238,7 @@ whole statements h e =
 
 -- the script of a text without fault
 pub sound : (bytes : List ℕ) → first_fault bytes ≡ None → IsSound (script_of bytes)
+unfolding first_fault
 sound bytes e =
     let h = lines_hold 1 [] (lines_of bytes) (record { sound = sound_at_first; first = λ f. refl }) e in
     whole (statements_of (lines_of bytes)) h.0 h.1

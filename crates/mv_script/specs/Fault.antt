@@ -5,7 +5,8 @@ use Rattle.std.specs.List.{list_any}
 use Rattle.mv_line.specs.Byte.{is_within}
 use Rattle.mv_line.specs.Line.{lines_of, is_foreign, is_too_long}
 use Rattle.mv_line.specs.declared.fault.TextFault.{TextFault}
-use Rattle.mv_line.specs.Fault.{LineRules, HasFaultAt, faults_by_line, first_of_list, when}
+use Rattle.mv_line.specs.Fault.{LineRules, HasFaultAt, when}
+use Rattle.mv_line.specs.Fault as of_lines
 pub use Rattle.mv_line.specs.Fault.{TellsFirst}
 use Rattle.mv_machine.specs.Limits.{events_limit}
 use Rattle.mv_calls.specs.Table.{table_refusal}
@@ -211,17 +212,9 @@ kinds_of earlier line =
 abbrev pub line_rules : LineRules (List Statement)
 line_rules = record { with_line = with_line; kinds_of = kinds_of; is_whole = has_end; cut_short = kind_number NoEnd }
 
--- the faults of lines that are numbered from here on, behind the earlier statements: by line, and in a line by kind
-unfoldable pub faults_from : ℕ → List Statement → List (List ℕ) → List TextFault
-faults_from number earlier lines = faults_by_line line_rules number earlier lines
-
--- the faults of a text
-abbrev pub faults_of : List ℕ → List TextFault
-faults_of bytes = faults_from 1 [] (lines_of bytes)
-
--- the fault with the lowest line, and there with the lowest kind
-abbrev pub first_fault : List ℕ → Option TextFault
-first_fault bytes = first_of_list (faults_of bytes)
+-- the first fault of a text: the one with the lowest line, and there with the lowest kind
+unfoldable pub first_fault : List ℕ → Option TextFault
+first_fault bytes = of_lines.first_fault line_rules [] (lines_of bytes)
 
 -- The line of this number has a fault of this kind: by what it is and the statements before it, or, behind the last line, for
 -- want of an END.

@@ -2,7 +2,7 @@ use Rattle.std.proofs.Common.{[], refl, ap, subst, ◌∙◌}
 use Rattle.mv_line.specs.Line.{lines_of}
 use Rattle.mv_deck.specs.declared.form.Version.{Version}
 use Rattle.mv_deck.specs.Deck.{jobs_of}
-use Rattle.mv_deck.specs.Fault.{faults_from}
+use Rattle.mv_deck.specs.Fault.{first_fault}
 use Rattle.mv_deck.specs.Reading.{IsBehind}
 use Rattle.mv_deck.proofs.Passes.{all_said, version_in}
 use Rattle.mv_deck.proofs.reading.read_deck.Goals.{After-new-reading}
@@ -26,12 +26,12 @@ read_lines-requires c = λ lifetimes. (
 )
 
 pub returns-in-Err-clause-fault : goal.returns-in-Err-clause-fault
-unfolding faults_from
+unfolding first_fault
 returns-in-Err-clause-fault c =
     c.in-Err.ensures (c.args.initiators, version_in c.args.bytes.now) [] (begins (goal.at.returns-in-Err-clause-fault c).After-new-reading)
 
 pub returns-clause-deck : goal.returns-clause-deck
-unfolding faults_from
+unfolding first_fault
 returns-clause-deck c =
     let n = c.args.initiators in
     let v = version_in c.args.bytes.now in
