@@ -1,8 +1,8 @@
 -- Legal histories that are no runs: another end posted, the closing release left out, a volume read before its latch was granted,
 -- and a job released twice. Each is legal by computing it, and what its program says at the wrong entry is another event.
-use Rattle.mv_plan.proofs.Words.{◌≡◌, ℕ, ◌++◌, List, [], ◌∷◌, Some, None, refl, ap, arith, some_pair_parts, Entry, Object, Ecb, Element, Volume}
-use Rattle.mv_plan.proofs.Words.{Latches, Op, asks, legal_by, at_block, at_element, at_volume, Follows, IsRun, spool_setup, take, EcbOp}
-use Rattle.mv_plan.proofs.Words.{EcbReply, ElementOp, ElementReply, LatchOp, VolumeOp, VolumeReply}
+use Rattle.mv_plan.proofs.Words.{◌≡◌, ℕ, ◌++◌, List, [], ◌∷◌, Some, None, refl, ap, arith, some_pair_parts, Entry, Object, Ecb, Element}
+use Rattle.mv_plan.proofs.Words.{Volume, Latches, Op, asks, legal_by, at_block, at_element, at_volume, Follows, IsRun, spool_setup, take}
+use Rattle.mv_plan.proofs.Words.{EcbOp, EcbReply, ElementOp, ElementReply, LatchOp, VolumeOp, VolumeReply}
 use Rattle.mv_machine.specs.Legal.{Legal}
 use Rattle.mv_plan.proofs.examples.Runs.{empty_deck, empty_journal, night_deck, night_journal}
 

@@ -226,8 +226,8 @@ module _ (deck : List JobData) (initiators : ℕ) where
           ends_next setup deck initiators (facts deck initiators some) sound s t u past e safe.now n m h.0,
           served_next setup deck initiators s t u past e (few_jobs deck initiators sound) safe.now n m h.1,
         ))
-        (ends_first setup deck initiators sound, served_start setup deck initiators) es st.points st.walk (none_lost_at_start deck initiators)
-        (in_time deck initiators some sound es f st)
+        (ends_first setup deck initiators sound, served_start setup deck initiators) es st.points st.walk
+        (none_lost_at_start deck initiators) (in_time deck initiators some sound es f st)
 
     -- where a history follows, no task's program is Wrong on its part of it
     pub none_wrong : (es : List Entry) → Follows deck initiators es → (k : ℕ) → k < initiators + 3

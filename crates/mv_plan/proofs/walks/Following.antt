@@ -111,128 +111,124 @@ module _ (c : Setup) (deck : List JobData) (initiators : ℕ) (facts : Facts c (
         → with_at programs e.caller (heard (programs e.caller) (hearing s e)) k ≡ program_at (f (kept_next kept e k)) p
     own_is f ask k x p same o op q h = grind (arith, common_steps)
 
-  pub record Moved (s : System) (kept : ℕ → Kept) (t : Points) (programs : ℕ → Program (List ℕ)) (e : Entry) : Type 0 where
-    pub points : Points
-    pub move : Move deck initiators t e points
-    pub tasks : TasksAt c deck initiators (kept_next kept e) points
-        (with_at programs e.caller (heard (programs e.caller) (hearing s e)))
+    pub record Moved : Type 0 where
+      pub points : Points
+      pub move : Move deck initiators t e points
+      pub tasks : TasksAt c deck initiators (kept_next kept e) points
+          (with_at programs e.caller (heard (programs e.caller) (hearing s e)))
 
-  -- an entry that is the machine's next and what its caller's program says is a move
-  pub moves : (s : System) (kept : ℕ → Kept) (t : Points) (programs : ℕ → Program (List ℕ)) (e : Entry) → e.caller < initiators + 3
-      → Fits c s → IsNext c s e → Stand deck initiators kept t
-      → TasksAt c deck initiators kept t programs → asks (programs e.caller) ≡ Some (e.object, e.op) → Moved s kept t programs e
-  moves s kept t programs e below f n st tasks says = by (who initiators e.caller below) where
-    by_reader : e.caller ≡ reader → (x : ReaderAt) × (t.reader ≡ At x) × (e.object ≡ (reader_asks x).0) × (e.op ≡ (reader_asks x).1)
-        → Moved s kept t programs e
-    by_reader k a = record {
-      points = record t { reader = reader_goes a.0 e.reply };
-      move = reads a.0 k a.1 a.2 a.3 refl;
-      tasks = record {
-        at_reader = own_is s kept t programs e (reader_program c) (reader_asks a.0) reader a.0 (reader_goes a.0 e.reply) k a.2 a.3
-            (tasks.at_reader ∙ ap (λ p. program_at (reader_program c (kept reader)) p) a.1)
-            (reader_hears c (kept reader) a.0 (hearing s e) (some_blocks facts.size facts.some)
-            (plain a.0 (subst (λ p. IsReaderAt (length deck) p) a.1 st.at_reader) (reply_is c s e (reader_asks a.0) n a.2 a.3)));
-        at_scheduler = other_is s kept t programs e (scheduler_program c (length deck) initiators) reader scheduler t.scheduler k
-            (λ q. absurd (omega arith)) tasks.at_scheduler;
-        at_initiator = λ i lt. other_is s kept t programs e (initiator_program c deck i) reader (initiator i) (t.initiators i) k
-            (λ q. absurd (omega arith)) (tasks.at_initiator i lt);
-        at_writer = other_is s kept t programs e (writer_program c (length deck)) reader (writer initiators) t.writer k
-            (λ q. absurd (omega arith)) tasks.at_writer;
-      };
-    } where
-      some_blocks : length c.owners ≡ 4 * length deck + initiators → 1 ≤ initiators → 1 ≤ length c.owners
-      some_blocks p q = omega arith
+    -- an entry that is the machine's next and what its caller's program says is a move
+    pub moves : e.caller < initiators + 3 → Fits c s → IsNext c s e → Stand deck initiators kept t
+        → TasksAt c deck initiators kept t programs → asks (programs e.caller) ≡ Some (e.object, e.op) → Moved
+    moves below f n st tasks says = by (who initiators e.caller below) where
+      by_reader : e.caller ≡ reader → (x : ReaderAt) × (t.reader ≡ At x) × (e.object ≡ (reader_asks x).0) × (e.op ≡ (reader_asks x).1)
+          → Moved
+      by_reader k a = record {
+        points = record t { reader = reader_goes a.0 e.reply };
+        move = reads a.0 k a.1 a.2 a.3 refl;
+        tasks = record {
+          at_reader = own_is (reader_program c) (reader_asks a.0) reader a.0 (reader_goes a.0 e.reply) k a.2 a.3
+              (tasks.at_reader ∙ ap (λ p. program_at (reader_program c (kept reader)) p) a.1)
+              (reader_hears c (kept reader) a.0 (hearing s e) (some_blocks facts.size facts.some)
+              (plain a.0 (subst (λ p. IsReaderAt (length deck) p) a.1 st.at_reader) (reply_is c s e (reader_asks a.0) n a.2 a.3)));
+          at_scheduler = other_is (scheduler_program c (length deck) initiators) reader scheduler t.scheduler k
+              (λ q. absurd (omega arith)) tasks.at_scheduler;
+          at_initiator = λ i lt. other_is (initiator_program c deck i) reader (initiator i) (t.initiators i) k
+              (λ q. absurd (omega arith)) (tasks.at_initiator i lt);
+          at_writer = other_is (writer_program c (length deck)) reader (writer initiators) t.writer k
+              (λ q. absurd (omega arith)) tasks.at_writer;
+        };
+      } where
+        some_blocks : length c.owners ≡ 4 * length deck + initiators → 1 ≤ initiators → 1 ≤ length c.owners
+        some_blocks p q = omega arith
 
-      plain : (x : ReaderAt) → IsReaderAt (length deck) (At x) → Some e.reply ≡ reply_to s e.caller (reader_asks x).0 (reader_asks x).1
-          → IsPlainPost e.reply
-      plain (Entering j more) at r = plain_post c s e.caller (entered j) 0 e.reply f
-          (no_exit (entered j) (λ m lt q. absurd (omega arith))) r
+        plain : (x : ReaderAt) → IsReaderAt (length deck) (At x) → Some e.reply ≡ reply_to s e.caller (reader_asks x).0 (reader_asks x).1
+            → IsPlainPost e.reply
+        plain (Entering j more) at r = plain_post c s e.caller (entered j) 0 e.reply f
+            (no_exit (entered j) (λ m lt q. absurd (omega arith))) r
 
-    by_scheduler : e.caller ≡ scheduler → (x : SchedulerAt) × (t.scheduler ≡ At x) × (e.object ≡ (scheduler_asks (length deck) x).0)
-        × (e.op ≡ (scheduler_asks (length deck) x).1) → Moved s kept t programs e
-    by_scheduler k a = record {
-      points = record t { scheduler = scheduler_goes (length deck) initiators a.0 e.reply };
-      move = schedules a.0 k a.1 a.2 a.3 refl;
-      tasks = record {
-        at_reader = other_is s kept t programs e (reader_program c) scheduler reader t.reader k
-            (λ q. absurd (omega arith)) tasks.at_reader;
-        at_scheduler = own_is s kept t programs e (scheduler_program c (length deck) initiators)
-            (scheduler_asks (length deck) a.0) scheduler a.0 (scheduler_goes (length deck) initiators a.0 e.reply) k a.2 a.3
-            (tasks.at_scheduler ∙ ap (λ p. program_at (scheduler_program c (length deck) initiators (kept scheduler)) p) a.1)
-            (scheduler_hears c deck initiators facts sound (kept scheduler) a.0 (hearing s e)
-            (subst (λ p. SchedulerStands deck initiators (kept scheduler) p) a.1 st.at_scheduler));
-        at_initiator = λ i lt. other_is s kept t programs e (initiator_program c deck i) scheduler (initiator i) (t.initiators i) k
-            (λ q. absurd (omega arith)) (tasks.at_initiator i lt);
-        at_writer = other_is s kept t programs e (writer_program c (length deck)) scheduler (writer initiators) t.writer k
-            (λ q. absurd (omega arith)) tasks.at_writer;
-      };
-    }
+      by_scheduler : e.caller ≡ scheduler → (x : SchedulerAt) × (t.scheduler ≡ At x) × (e.object ≡ (scheduler_asks (length deck) x).0)
+          × (e.op ≡ (scheduler_asks (length deck) x).1) → Moved
+      by_scheduler k a = record {
+        points = record t { scheduler = scheduler_goes (length deck) initiators a.0 e.reply };
+        move = schedules a.0 k a.1 a.2 a.3 refl;
+        tasks = record {
+          at_reader = other_is (reader_program c) scheduler reader t.reader k (λ q. absurd (omega arith)) tasks.at_reader;
+          at_scheduler = own_is (scheduler_program c (length deck) initiators)
+              (scheduler_asks (length deck) a.0) scheduler a.0 (scheduler_goes (length deck) initiators a.0 e.reply) k a.2 a.3
+              (tasks.at_scheduler ∙ ap (λ p. program_at (scheduler_program c (length deck) initiators (kept scheduler)) p) a.1)
+              (scheduler_hears c deck initiators facts sound (kept scheduler) a.0 (hearing s e)
+              (subst (λ p. SchedulerStands deck initiators (kept scheduler) p) a.1 st.at_scheduler));
+          at_initiator = λ i lt. other_is (initiator_program c deck i) scheduler (initiator i) (t.initiators i) k
+              (λ q. absurd (omega arith)) (tasks.at_initiator i lt);
+          at_writer = other_is (writer_program c (length deck)) scheduler (writer initiators) t.writer k
+              (λ q. absurd (omega arith)) tasks.at_writer;
+        };
+      }
 
-    by_initiator : (i : ℕ) → i < initiators → e.caller ≡ initiator i
-        → (x : InitiatorAt) × (t.initiators i ≡ At x) × (e.object ≡ (initiator_asks (length deck) i x).0)
-        × (e.op ≡ (initiator_asks (length deck) i x).1) → Moved s kept t programs e
-    by_initiator i lt k a = record {
-      points = record t { initiators = with_at t.initiators i (initiator_goes deck a.0 e.reply) };
-      move = initiates i a.0 lt k a.1 a.2 a.3 refl;
-      tasks = record {
-        at_reader = other_is s kept t programs e (reader_program c) (initiator i) reader t.reader k
-            (λ q. absurd (omega arith)) tasks.at_reader;
-        at_scheduler = other_is s kept t programs e (scheduler_program c (length deck) initiators) (initiator i) scheduler t.scheduler k
-            (λ q. absurd (omega arith)) tasks.at_scheduler;
-        at_initiator = λ m less. all_but (λ m p. with_at programs e.caller (heard (programs e.caller) (hearing s e)) (initiator m)
-            ≡ program_at (initiator_program c deck m (kept_next kept e (initiator m))) p) t.initiators i (initiator_goes deck a.0 e.reply)
-            m there (λ other. other_is s kept t programs e (initiator_program c deck m) (initiator i) (initiator m) (t.initiators m) k
-            (λ q. other (omega arith)) (tasks.at_initiator m less));
-        at_writer = other_is s kept t programs e (writer_program c (length deck)) (initiator i) (writer initiators) t.writer k
-            (λ q. absurd (omega arith)) tasks.at_writer;
-      };
-    } where
-      stands : InitiatorStands deck i (kept (initiator i)) (At a.0)
-      stands = subst (λ p. InitiatorStands deck i (kept (initiator i)) p) a.1 (st.at_initiator i lt)
+      by_initiator : (i : ℕ) → i < initiators → e.caller ≡ initiator i
+          → (x : InitiatorAt) × (t.initiators i ≡ At x) × (e.object ≡ (initiator_asks (length deck) i x).0)
+          × (e.op ≡ (initiator_asks (length deck) i x).1) → Moved
+      by_initiator i lt k a = record {
+        points = record t { initiators = with_at t.initiators i (initiator_goes deck a.0 e.reply) };
+        move = initiates i a.0 lt k a.1 a.2 a.3 refl;
+        tasks = record {
+          at_reader = other_is (reader_program c) (initiator i) reader t.reader k (λ q. absurd (omega arith)) tasks.at_reader;
+          at_scheduler = other_is (scheduler_program c (length deck) initiators) (initiator i) scheduler t.scheduler k
+              (λ q. absurd (omega arith)) tasks.at_scheduler;
+          at_initiator = λ m less. all_but (λ m p. with_at programs e.caller (heard (programs e.caller) (hearing s e)) (initiator m)
+              ≡ program_at (initiator_program c deck m (kept_next kept e (initiator m))) p) t.initiators i (initiator_goes deck a.0 e.reply)
+              m there (λ other. other_is (initiator_program c deck m) (initiator i) (initiator m) (t.initiators m) k
+              (λ q. other (omega arith)) (tasks.at_initiator m less));
+          at_writer = other_is (writer_program c (length deck)) (initiator i) (writer initiators) t.writer k
+              (λ q. absurd (omega arith)) tasks.at_writer;
+        };
+      } where
+        stands : InitiatorStands deck i (kept (initiator i)) (At a.0)
+        stands = subst (λ p. InitiatorStands deck i (kept (initiator i)) p) a.1 (st.at_initiator i lt)
 
-      there : with_at programs e.caller (heard (programs e.caller) (hearing s e)) (initiator i) ≡ program_at
-          (initiator_program c deck i (kept_next kept e (initiator i))) (initiator_goes deck a.0 e.reply)
-      there = own_is s kept t programs e (initiator_program c deck i) (initiator_asks (length deck) i a.0) (initiator i) a.0
-          (initiator_goes deck a.0 e.reply) k a.2 a.3
-          (tasks.at_initiator i lt ∙ ap (λ p. program_at (initiator_program c deck i (kept (initiator i))) p) a.1)
-          (initiator_hears c deck initiators i facts sound (kept (initiator i)) a.0 (hearing s e) stands
-          (foreseen s i (kept (initiator i)) e.caller a.0 e.reply (hearing s e).wakes f stands (fits_wakes c s e.caller e.object e.op f)
-          (reply_is c s e (initiator_asks (length deck) i a.0) n a.2 a.3)))
+        there : with_at programs e.caller (heard (programs e.caller) (hearing s e)) (initiator i) ≡ program_at
+            (initiator_program c deck i (kept_next kept e (initiator i))) (initiator_goes deck a.0 e.reply)
+        there = own_is (initiator_program c deck i) (initiator_asks (length deck) i a.0) (initiator i) a.0
+            (initiator_goes deck a.0 e.reply) k a.2 a.3
+            (tasks.at_initiator i lt ∙ ap (λ p. program_at (initiator_program c deck i (kept (initiator i))) p) a.1)
+            (initiator_hears c deck initiators i facts sound (kept (initiator i)) a.0 (hearing s e) stands
+            (foreseen s i (kept (initiator i)) e.caller a.0 e.reply (hearing s e).wakes f stands (fits_wakes c s e.caller e.object e.op f)
+            (reply_is c s e (initiator_asks (length deck) i a.0) n a.2 a.3)))
 
-    by_writer : e.caller ≡ writer initiators → (x : WriterAt) × (t.writer ≡ At x) × (e.object ≡ (writer_asks x).0)
-        × (e.op ≡ (writer_asks x).1) → Moved s kept t programs e
-    by_writer k a = record {
-      points = record t { writer = writer_goes (length deck) a.0 e.reply };
-      move = writes a.0 k a.1 a.2 a.3 refl;
-      tasks = record {
-        at_reader = other_is s kept t programs e (reader_program c) (writer initiators) reader t.reader k
-            (λ q. absurd (omega arith)) tasks.at_reader;
-        at_scheduler = other_is s kept t programs e (scheduler_program c (length deck) initiators)
-            (writer initiators) scheduler t.scheduler k (λ q. absurd (omega arith)) tasks.at_scheduler;
-        at_initiator = λ i lt. other_is s kept t programs e (initiator_program c deck i) (writer initiators) (initiator i)
-            (t.initiators i) k (λ q. absurd (omega arith)) (tasks.at_initiator i lt);
-        at_writer = own_is s kept t programs e (writer_program c (length deck)) (writer_asks a.0) (writer initiators) a.0
-            (writer_goes (length deck) a.0 e.reply) k a.2 a.3
-            (tasks.at_writer ∙ ap (λ p. program_at (writer_program c (length deck) (kept (writer initiators))) p) a.1)
-            (writer_hears c (length deck) initiators facts (kept (writer initiators)) a.0 (hearing s e) st.writer_kept
-            (subst (λ p. IsWriterAt (length deck) p) a.1 st.at_writer));
-      };
-    }
+      by_writer : e.caller ≡ writer initiators → (x : WriterAt) × (t.writer ≡ At x) × (e.object ≡ (writer_asks x).0)
+          × (e.op ≡ (writer_asks x).1) → Moved
+      by_writer k a = record {
+        points = record t { writer = writer_goes (length deck) a.0 e.reply };
+        move = writes a.0 k a.1 a.2 a.3 refl;
+        tasks = record {
+          at_reader = other_is (reader_program c) (writer initiators) reader t.reader k (λ q. absurd (omega arith)) tasks.at_reader;
+          at_scheduler = other_is (scheduler_program c (length deck) initiators)
+              (writer initiators) scheduler t.scheduler k (λ q. absurd (omega arith)) tasks.at_scheduler;
+          at_initiator = λ i lt. other_is (initiator_program c deck i) (writer initiators) (initiator i)
+              (t.initiators i) k (λ q. absurd (omega arith)) (tasks.at_initiator i lt);
+          at_writer = own_is (writer_program c (length deck)) (writer_asks a.0) (writer initiators) a.0
+              (writer_goes (length deck) a.0 e.reply) k a.2 a.3
+              (tasks.at_writer ∙ ap (λ p. program_at (writer_program c (length deck) (kept (writer initiators))) p) a.1)
+              (writer_hears c (length deck) initiators facts (kept (writer initiators)) a.0 (hearing s e) st.writer_kept
+              (subst (λ p. IsWriterAt (length deck) p) a.1 st.at_writer));
+        };
+      }
 
-    by : Who initiators e.caller → Moved s kept t programs e
-    by (is_reader k) = by_reader k (at_point (reader_program c (kept reader)) reader_asks (reader_says c (kept reader))
-        (programs reader) t.reader e.object e.op tasks.at_reader (subst (λ j. asks (programs j) ≡ Some (e.object, e.op)) k says))
-    by (is_scheduler k) = by_scheduler k
-        (at_point (scheduler_program c (length deck) initiators (kept scheduler)) (scheduler_asks (length deck))
-        (scheduler_says c (length deck) initiators (kept scheduler)) (programs scheduler) t.scheduler e.object e.op tasks.at_scheduler
-        (subst (λ j. asks (programs j) ≡ Some (e.object, e.op)) k says))
-    by (is_initiator i lt k) = by_initiator i lt k
-        (at_point (initiator_program c deck i (kept (initiator i))) (initiator_asks (length deck) i)
-        (initiator_says c deck i (kept (initiator i))) (programs (initiator i)) (t.initiators i) e.object e.op (tasks.at_initiator i lt)
-        (subst (λ j. asks (programs j) ≡ Some (e.object, e.op)) k says))
-    by (is_writer k) = by_writer k (at_point (writer_program c (length deck) (kept (writer initiators))) writer_asks
-        (writer_says c (length deck) (kept (writer initiators))) (programs (writer initiators)) t.writer e.object e.op tasks.at_writer
-        (subst (λ j. asks (programs j) ≡ Some (e.object, e.op)) k says))
+      by : Who initiators e.caller → Moved
+      by (is_reader k) = by_reader k (at_point (reader_program c (kept reader)) reader_asks (reader_says c (kept reader))
+          (programs reader) t.reader e.object e.op tasks.at_reader (subst (λ j. asks (programs j) ≡ Some (e.object, e.op)) k says))
+      by (is_scheduler k) = by_scheduler k
+          (at_point (scheduler_program c (length deck) initiators (kept scheduler)) (scheduler_asks (length deck))
+          (scheduler_says c (length deck) initiators (kept scheduler)) (programs scheduler) t.scheduler e.object e.op tasks.at_scheduler
+          (subst (λ j. asks (programs j) ≡ Some (e.object, e.op)) k says))
+      by (is_initiator i lt k) = by_initiator i lt k
+          (at_point (initiator_program c deck i (kept (initiator i))) (initiator_asks (length deck) i)
+          (initiator_says c deck i (kept (initiator i))) (programs (initiator i)) (t.initiators i) e.object e.op (tasks.at_initiator i lt)
+          (subst (λ j. asks (programs j) ≡ Some (e.object, e.op)) k says))
+      by (is_writer k) = by_writer k (at_point (writer_program c (length deck) (kept (writer initiators))) writer_asks
+          (writer_says c (length deck) (kept (writer initiators))) (programs (writer initiators)) t.writer e.object e.op tasks.at_writer
+          (subst (λ j. asks (programs j) ≡ Some (e.object, e.op)) k says))
 
   pub record Walked (s : System) (t : Points) (es : List Entry) (programs : ℕ → Program (List ℕ)) : Type 0 where
     pub points : Points
