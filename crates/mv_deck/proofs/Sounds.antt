@@ -31,7 +31,7 @@ use Rattle.mv_line.proofs.Faults.{none_when, line_passed, no_kinds, no_fault_at_
 use Rattle.mv_latch.proofs.Joined.{same_any}
 use Rattle.mv_deck.specs.Fault.{accepts_no_code, has_double, repeats_name, awaits_no_job, is_crowded, is_step_that, uses_out_of_order}
 use Rattle.mv_deck.specs.Fault.{needs_latch, is_misplaced, is_behind_end, is_too_heavy}
-use Rattle.mv_deck.specs.Sound.{HasGoodNumbers, IsSoundStep, AreSoundSteps, IsSoundAfter, AreDistinct, IsSoundJob, AreSoundJobs, IsSound}
+use Rattle.mv_deck.specs.Sound.{EachBehind, HasGoodNumbers, IsSoundStep, IsSoundAfter, AreDistinct, IsSoundJob, AreSoundJobs, IsSound}
 use Rattle.mv_deck.specs.Weight.{weight, heaviest}
 use Rattle.mv_deck.proofs.Jobs.{stepped, last_steps-push, with_step-push}
 use Rattle.mv_deck.proofs.Steps.{is_step}
@@ -41,24 +41,13 @@ use Rattle.std.proofs.lemmas.Bool.{or_parts, not-false}
 
 -- ---- one more step, and one more job
 
--- one more step behind sound ones
-steps_push : (done steps : List Step) (step : Step) → AreSoundSteps done steps → IsSoundStep (done ++ steps) step
-    → AreSoundSteps done (steps ++ step ∷ [])
-steps_push done [] step are is = (subst (λ (x : List Step). IsSoundStep x step) (append-nil done) is, tt)
-steps_push done (s ∷ steps) step are is = (
+-- one more behind those that stand so
+push_behind : {A : Type 0} (May : List A → A → Type 0) (before xs : List A) (x : A) → EachBehind May before xs → May (before ++ xs) x
+    → EachBehind May before (xs ++ x ∷ [])
+push_behind May before [] x are is = (subst (λ ys. May ys x) (append-nil before) is, tt)
+push_behind May before (y ∷ xs) x are is = (
   are.0,
-  steps_push (done ++ s ∷ []) steps step are.1
-      (subst (λ (x : List Step). IsSoundStep x step) (sym (append_assoc done (s ∷ []) steps)) is),
-)
-
--- one more job behind sound ones
-jobs_push : (before jobs : List JobData) (j : JobData) → AreSoundJobs before jobs → IsSoundJob (before ++ jobs) j
-    → AreSoundJobs before (jobs ++ j ∷ [])
-jobs_push before [] j are is = (subst (λ (x : List JobData). IsSoundJob x j) (append-nil before) is, tt)
-jobs_push before (i ∷ jobs) j are is = (
-  are.0,
-  jobs_push (before ++ i ∷ []) jobs j are.1
-      (subst (λ (x : List JobData). IsSoundJob x j) (sym (append_assoc before (i ∷ []) jobs)) is),
+  push_behind May (before ++ y ∷ []) xs x are.1 (subst (λ ys. May ys x) (sym (append_assoc before (y ∷ []) xs)) is),
 )
 
 -- the last of sound jobs
@@ -75,19 +64,19 @@ pub step_push : (jobs : List JobData) (j : JobData) (step : Step) → AreSoundJo
 step_push jobs j step are is =
     let parts = jobs_split [] jobs j are in
     let old = parts.1 in
-    jobs_push [] jobs (stepped j step) parts.0
+    push_behind IsSoundJob [] jobs (stepped j step) parts.0
     (record {
       named = old.named;
       new = old.new;
       few = old.few;
       distinct = old.distinct;
       earlier = old.earlier;
-      steps = steps_push [] j.steps step old.steps is;
+      steps = push_behind IsSoundStep [] j.steps step old.steps is;
     })
 
 -- the same from the first job on
 pub job_push : (jobs : List JobData) (j : JobData) → AreSoundJobs [] jobs → IsSoundJob jobs j → AreSoundJobs [] (jobs ++ j ∷ [])
-job_push jobs j are is = jobs_push [] jobs j are is
+job_push jobs j are is = push_behind IsSoundJob [] jobs j are is
 
 -- ---- numbers and codes
 

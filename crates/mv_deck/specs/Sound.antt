@@ -10,6 +10,11 @@ use Rattle.mv_deck.specs.Deck.{JobData, place_of}
 use Rattle.mv_deck.specs.Held.{is_out_of_order, lacks_latch, is_end}
 use Rattle.mv_deck.specs.Weight.{weight, heaviest}
 
+-- each of these may stand behind those before it, where a rule says what may stand behind which
+abbrev pub EachBehind : {A : Type 0} → (List A → A → Type 0) → List A → List A → Type 0
+EachBehind May before [] = Unit {0}
+EachBehind May before (x ∷ xs) = May before x × EachBehind May (before ++ x ∷ []) xs
+
 -- ---- steps
 
 -- the numbers of a step are in their ranges
@@ -31,8 +36,7 @@ pub record IsSoundStep (done : List Step) (step : Step) : Type 0 where
 
 -- each of these steps may stand behind those before it
 abbrev pub AreSoundSteps : List Step → List Step → Type 0
-AreSoundSteps done [] = Unit {0}
-AreSoundSteps done (step ∷ steps) = IsSoundStep done step × AreSoundSteps (done ++ step ∷ []) steps
+AreSoundSteps = EachBehind IsSoundStep
 
 -- ---- jobs
 
@@ -56,8 +60,7 @@ pub record IsSoundJob (before : List JobData) (job : JobData) : Type 0 where
 
 -- each of these jobs may stand behind those before it
 abbrev pub AreSoundJobs : List JobData → List JobData → Type 0
-AreSoundJobs before [] = Unit {0}
-AreSoundJobs before (job ∷ jobs) = IsSoundJob before job × AreSoundJobs (before ++ job ∷ []) jobs
+AreSoundJobs = EachBehind IsSoundJob
 
 -- a deck that so many initiators can run
 pub record IsSound (jobs : List JobData) (initiators : ℕ) : Type 0 where
