@@ -268,7 +268,8 @@ not_cut : (b : Bool) (f : TextFault) → cond b (Some f) None ≡ None → b ≡
 not_cut true f e = absurd cc
 not_cut false f e = refl
 
-is_over : (number : ℕ) (d : Draft) (last : List ℕ) → cond (is_cut d last) (Some (fault_at number (kind_number Cut))) None ≡ None → IsOver d last
+is_over : (number : ℕ) (d : Draft) (last : List ℕ) → cond (is_cut d last) (Some (fault_at number (kind_number Cut))) None ≡ None
+    → IsOver d last
 is_over number d last e =
     let whole = not_cut (is_cut d last) (fault_at number (kind_number Cut)) e in
     let both = and_parts (is_ended d.stage) (eqb (length last) 0) (not-false _ whole) in

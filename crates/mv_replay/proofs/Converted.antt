@@ -40,8 +40,8 @@ is_converted v bytes c es h text =
     ap converted text ∙ told_text (journal_of (text_of v c es (calls_in v c es))) c es back.1 back.2
 
 -- and what was made of it for a conversion is that text
-pub made_so : (v : Version) (bytes : List ℕ) (c : Setup) (es : List Entry) (made : Option (List ℕ)) → bytes ≡ text_of v c es (calls_in v c es)
-    → IsMade (is_copied Convert v) c es made → made_of bytes made ≡ journal_text c es
+pub made_so : (v : Version) (bytes : List ℕ) (c : Setup) (es : List Entry) (made : Option (List ℕ))
+    → bytes ≡ text_of v c es (calls_in v c es) → IsMade (is_copied Convert v) c es made → made_of bytes made ≡ journal_text c es
 made_so One bytes c es (Some text) is m = m
 made_so One bytes c es None is m = absurd m
 made_so Two bytes c es (Some text) is m = absurd m

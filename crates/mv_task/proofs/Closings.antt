@@ -163,7 +163,8 @@ all_closed c first a b t u over own so_far = λ p.
     let all = used_between t first b in
     subst (λ (xs : List ℕ). Runs (length xs) (close_all (keeps t) xs p) p t u) own
     (runs_within so_far.made (length all) (close_all (keeps t) all p) p t u (omega arith)
-    (subst (λ m. Runs so_far.made (close_all (keeps t) all p) (close_all (keeps t) (filter (keeps t).in_use (range_with_len a m)) p) t u) none
+    (subst (λ m. Runs so_far.made (close_all (keeps t) all p) (close_all (keeps t) (filter (keeps t).in_use (range_with_len a m)) p) t u)
+    none
     (so_far.runs p)))
 
 -- ---- no more elements are in use than the task has

@@ -51,7 +51,8 @@ give_back-requires-clause-left g c =
     let known = c.loop-element.invariant in
     subst (λ (n : ℕ). (keeps u).in_use n ≡ true → 0 < u.left) (sym steps.1.1)
     (close_fits own.start at own.end t u (omega (arith, known.end, steps.1.0)) known.closing
-    (subst (λ (xs : List ℕ). length xs ≤ t.left) (sym (own_used g (goal.at.give_back-requires-clause-left g c).After-into_iter-element-iterator))
+    (subst (λ (xs : List ℕ). length xs ≤ t.left)
+    (sym (own_used g (goal.at.give_back-requires-clause-left g c).After-into_iter-element-iterator))
     c.requires.left))
 
 pub loop-element-preserved : goal.loop-element-preserved
@@ -80,5 +81,6 @@ returns-clause-closed g c =
     let own = c.into_iter-element-iterator.result in
     let known = c.loop-element.invariant in
     all_closed c.args.station.now.config own.start c.loop-element.element-iterator.start own.end c.args.task.now c.loop-element.task
-    (omega (arith, known.end, c.in-None.ensures.steps.1.0)) (own_used g (goal.at.returns-clause-closed g c).After-into_iter-element-iterator)
+    (omega (arith, known.end, c.in-None.ensures.steps.1.0))
+    (own_used g (goal.at.returns-clause-closed g c).After-into_iter-element-iterator)
     known.closing
