@@ -397,10 +397,11 @@ fn assert_fault<X: Abort + AllocGlobal + Threads + Wait + Sync>(
 ) -> Result<(), Fail> {
     let (line, told) = row.split_once(' ').ok_or("no line")?;
     let (kind, text) = told.split_once(' ').ok_or("no kind")?;
+    let kind = kind.parse::<u8>()?;
     let text = format!(in rt.alloc(); "{front}{text}{behind}")?;
     let mut on = streams_over(rt.alloc(), text.as_bytes())?;
     let status = run(rt, format.words, &mut on)?;
-    if kind == "0" {
+    if kind == 0 {
         assert_eq!(rt; status, Status::Done, "{row}");
         return Ok(());
     }
@@ -408,6 +409,10 @@ fn assert_fault<X: Abort + AllocGlobal + Threads + Wait + Sync>(
     let note = format!(in rt.alloc(); "{name} LINE {line} KIND {kind}\n")?;
     assert_eq!(rt; status.exit(), format.exit, "{row}");
     assert_eq!(rt; on.notes.bytes(), note.as_bytes(), "{row}");
+    assert!(rt;
+        on.report.bytes().is_empty() && on.journal.bytes().is_empty(),
+        "{row}"
+    );
     Ok(())
 }
 
@@ -459,6 +464,16 @@ fn words_that_are_no_command(rt: HostRuntime) -> Result<(), Fail> {
     for words in NO_COMMANDS.lines() {
         assert_run(&rt, words, PAYROLL, 2, USAGE, "")?;
     }
+    Ok(())
+}
+
+// Bytes that no UTF-8 text has.
+#[test]
+fn texts_that_are_no_utf_8(rt: HostRuntime) -> Result<(), Fail> {
+    let mut on = streams_over(rt.alloc(), b"\x80")?;
+    assert_ends(&rt, "script", &mut on, 9, "", "SCRIPT LINE 1 KIND 1\n")?;
+    let mut on = streams_over(rt.alloc(), b"JOURNAL 1\n\xff\n")?;
+    assert_ends(&rt, "replay", &mut on, 11, "", "JOURNAL LINE 2 KIND 1\n")?;
     Ok(())
 }
 

@@ -188,7 +188,7 @@ fn journals_with_a_fault_in_an_entry(rt: HostRuntime) -> Result<(), Fail> {
     assert_faults(&rt, &JOURNAL, HEAD, ENDS, "")
 }
 
-// As many blocks as there may be for sixteen callers, and one more; the line is that of EVENTS.
+// One block more than the 131,072 that there may be; the line is that of EVENTS.
 #[test]
 fn a_journal_with_a_block_too_many(rt: HostRuntime) -> Result<(), Fail> {
     let blocks = "ECB 0\n".repeat(rt.alloc(), 131_073)?;

@@ -254,7 +254,7 @@ const MANY_CALLS: &str = "\
     131 4 READ 8;\
     131 6 END";
 
-// Behind a line that stands so many times.
+// Scripts by such rows, each behind a front and a line that stands so many times.
 fn assert_behind<X: Abort + AllocGlobal + Threads + Wait + Sync>(
     rt: &X,
     front: &str,

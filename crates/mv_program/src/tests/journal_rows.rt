@@ -189,7 +189,7 @@ EVENTS
 END 0
 ";
 
-// Each operation and each reply, with numbers at the ends of their ranges. The machine gives none to the first, so far from what it has.
+// Each operation and each reply, with numbers at the ends of their ranges. The machine has no answer to the first: it has no such caller.
 const RANGES: &str = "\
 JOURNAL 1
 CALLERS 1
