@@ -20,7 +20,7 @@
 
 -- the words of other crates, passed on
 pub mod Words
--- lists and tables
+-- lists, tables and sums
 pub mod lists
 -- what decks and the configuration say
 pub mod deck

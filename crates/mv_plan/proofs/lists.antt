@@ -1,3 +1,3 @@
--- Lists, and tables of cells.
+-- Lists, tables and sums.
 pub mod Lists
 pub use Lists.*

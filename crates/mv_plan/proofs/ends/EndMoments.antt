@@ -157,7 +157,7 @@ module _ (deck : List JobData) (initiators : ℕ) (sound : IsPlanned deck initia
 pub traces_first : (deck : List JobData) (c : Setup) → Traces deck (opening c) []
 traces_first deck c = record { codes = λ j b lt has. refl; woke = λ j lt. tt; found = tt; marked = tt; first = tt }
 
--- ---- what the traces use of a moment, and how each caller's entry adds to them
+-- ---- the writer has found the end of each job before the one that it waits for
 
 -- the ends of all jobs below are posted to the writer
 abbrev pub HasFound : ℕ → System → Point WriterAt → Type 0
@@ -241,7 +241,7 @@ module _ (deck : List JobData) (initiators : ℕ) where
   pub writer_has_first : (c : Setup) → WriterHas deck (opening c) (start_points deck initiators) []
   writer_has_first c = writing_found (length deck) 0 (length deck) (opening c) [] (omega arith) (λ k lt. absurd (omega arith))
 
--- ---- what the traces use of a moment
+-- ---- what the traces use of a moment, and how each caller's entry adds to them
 
 -- an initiator that offers itself finds its block free
 abbrev pub IsFreeToOffer : ℕ → System → ℕ → Point InitiatorAt → Type 0

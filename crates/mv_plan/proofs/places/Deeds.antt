@@ -1,5 +1,6 @@
--- The ledger: each code that was released has been given, or stands in an element; each job before the scheduler's next was
--- released once; and no initiator was named a job that was not given to it. So each job is in one place.
+-- The ledger: each code that was released has been given, or stands in an element; each job before the scheduler's next was released
+-- once; and no initiator was named a job that was not given to it. So each job is in one place. And what an initiator's event does to the
+-- jobs that it was named, and to the code in its element.
 use Rattle.mv_plan.proofs.Words.{◌≡◌, ℕ, ◌+◌, ◌<◌, ◌≤◌, Bool, List, [], ◌∷◌, ◌++◌, length, Option, Some, None, inl, inr, refl, ap, ◌∙◌}
 use Rattle.mv_plan.proofs.Words.{arith, cases_eq, cases_lt, AllByRecursion, filter_map, Entry, System, released_code, gift_code, naming}
 use Rattle.mv_plan.proofs.Words.{released_codes, given_codes, JobData, code_of, suc, eq-eqb, ElementState, element_step, Object, Op, Reply}

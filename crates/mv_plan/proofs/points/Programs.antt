@@ -1,5 +1,6 @@
 -- The program of each task at each point. Posts and waits, which all tasks make, point by point: programs and points go alike, and what
--- holds of each point that may follow holds of the one that does. And so the reader's and the writer's. Used by Following.
+-- holds of each point that may follow holds of the one that does. The reader's and the writer's programs go from point to point; where
+-- these two may stand, and what the writer keeps. Used by Following.
 use Rattle.mv_plan.proofs.Words.{ℕ, suc, ◌+◌, ◌-◌, List, [], ◌∷◌, ◌++◌, length, map, false, Option, Some, Result, Ok, ◌==◌, if◌then◌else◌}
 use Rattle.mv_plan.proofs.Words.{range_with_len, Ecb, Element, Volume, Latches, Setup, with_at, JobData, Step, Kept, Counts, obtained}
 use Rattle.mv_plan.proofs.Words.{token_of, closed, release, deallocate, pause, Posting, Woke, post, post_within, each_posted, wake_posted}
@@ -259,7 +260,7 @@ lowest_keeps P f p found each lost = grind (arith, common_steps)
 abbrev pub keeps : Kept → Object × Op → Reply → Kept
 keeps kept ask r = kept_after kept ask.0 ask.1 r
 
--- ---- the reader
+-- ---- the reader, from point to point
 
 pub reader_enters : (c : Setup) (j more : ℕ) (kept : Kept) → 1 ≤ length c.owners
     → reading_rest c j more kept ≡ program_at (reader_program c kept) (entering_from j more)
@@ -280,7 +281,7 @@ abbrev pub IsReaderAt : ℕ → Point ReaderAt → Type 0
 IsReaderAt n (At (Entering j more)) = j + suc more ≡ n
 IsReaderAt n p = Unit {0}
 
--- ---- the writer
+-- ---- the writer, from point to point
 
 -- what the writer keeps: no block is extended
 pub record WriterKept (initiators : ℕ) (kept : Kept) : Type 0 where

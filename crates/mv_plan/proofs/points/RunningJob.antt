@@ -1,5 +1,6 @@
--- An initiator that runs a job goes on with it, is done with it, or is lost; it touches no element and no initiator's block; and
--- what holds of a job when it is started holds of it as long as it is run. Used by rows, deeds, right codes and posts.
+-- An initiator that runs a job goes on with it, is done with it, or is lost; it touches no element and no initiator's block. What holds
+-- of a job when it is started holds of it as long as it is run, or by how far its end is posted. Used by rows, deeds, right codes and
+-- posts.
 use Rattle.mv_plan.proofs.Words.{◌≡◌, ℕ, suc, ◌<◌, Bool, true, false, List, [], ◌∷◌, length, Option, Some, None, ◌⊎◌, inl, refl, subst}
 use Rattle.mv_plan.proofs.Words.{arith, ◌==◌, Reply, JobData, Step, job_at, list_any, Named, job_named, ElementReply, common_steps, Print}
 use Rattle.mv_plan.proofs.points.Points.{Point, At, Astray, Running, Hand, InitiatorAt, Pausing, Resuming, initiator_asks, initiator_goes}

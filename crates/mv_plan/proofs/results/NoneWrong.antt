@@ -1,5 +1,6 @@
--- A walk on which no wait ended too soon loses no task, where an invariant shows that the other replies lead nobody astray; and
--- a task that is not lost is not wrong.
+-- A walk on which no wait ended too soon loses no task, where an invariant shows that the other replies lead nobody astray; and a task
+-- that is not lost is not wrong. So no task of the spool goes wrong: what stands of blocks, of elements and rounds, and of latches and
+-- volumes, put together.
 use Rattle.mv_plan.proofs.Words.{◌≡◌, ℕ, ◌+◌, ◌<◌, ◌≤◌, List, [], ◌∷◌, ◌++◌, length, ◌⊎◌, inl, inr, refl, sym, ◌∙◌, subst, arith, Some}
 use Rattle.mv_plan.proofs.Words.{Bool, AllByRecursion, Entry, IsNext, next, after_from, Setup, System, opening, Reply, JobData, Wrong}
 use Rattle.mv_plan.proofs.Words.{left_in, spool_setup, reader, scheduler, initiator, writer, not_to_run, task_program, Object, Op, Program}

@@ -1,5 +1,6 @@
--- How often a job's requestor is purged: as often as the job was named, but for who still works on it. So none that works
--- on a job that is named once has purged it.
+-- How often a job's requestor is purged: as often as the job was named, but for who still works on it; so none that works on a job that
+-- is named once has purged it. And what is kept of latches, volumes and requestors at each moment, in one record; so no reply at a latch
+-- or a volume leads an initiator astray.
 use Rattle.mv_plan.proofs.Words.{◌≡◌, ℕ, suc, ◌+◌, ◌<◌, ◌≤◌, ◌==◌, Bool, true, false, if◌then◌else◌, List, [], ◌∷◌, ◌++◌, length, Option}
 use Rattle.mv_plan.proofs.Words.{Some, None, inl, inr, refl, sym, ap, ◌∙◌, subst, arith, eq-eqb, ne_eqb, Entry, Reply, IsNext, Setup}
 use Rattle.mv_plan.proofs.Words.{System, gift_code, naming, given_codes, purges, JobData, Step, job_at, code_of, not_to_run, purged_by}

@@ -1,5 +1,6 @@
--- What the scheduler has found at blocks stands in them until it clears them; so the block of an initiator that it chose still
--- has the generation that was found. Used by the rows.
+-- What the scheduler has found at blocks stands in them until it clears them; so the block of an initiator that it chose still has the
+-- generation that was found. And a block is waiting only while its owner has it armed in the wait that it is in; so an arm finds it plain
+-- or complete. Used by the rows, and where no reply is to lead astray.
 use Rattle.mv_plan.proofs.Words.{◌≡◌, ℕ, zero, suc, ◌+◌, List, [], ◌∷◌, ◌++◌, length, map, Option, Some, None, refl, sym, subst, arith}
 use Rattle.mv_plan.proofs.Words.{range_with_len, ecb_step, EcbState, Complete, Object, Ecb, Op, Reply, System, Cell, moved, reply_to}
 use Rattle.mv_plan.proofs.Words.{with_at, advanced, JobData, After, Step, scheduler, idle, code_of, EcbOp, common_steps, ◌*◌, ◌<◌, ◌≤◌}

@@ -161,8 +161,6 @@ values_next c deck initiators s t u e h moves stand hands w = elim (who_moved de
       (w k less))))
 ]
 
--- ---- at the points of a walk
-
 -- ---- what holds at each moment
 
 -- The requests in the lists are those of the jobs that are run, and where an initiator is to write or to read again, the volume

@@ -1,5 +1,6 @@
--- What is known along a walk. A task is lost where it waited too soon or met a reply that nothing foresees; whoever is lost stays
--- lost, so where none is lost in the end, none was. And what holds at each moment, for results that look at two entries.
+-- What is known along a walk. A task is lost where its wait ended too soon or it met a reply that nothing foresees; whoever is lost stays
+-- lost, so where none is lost in the end, none was. Events that touch neither elements nor idle blocks. And what holds at each moment,
+-- for results that look at two entries.
 use Rattle.mv_plan.proofs.Words.{◌≡◌, ℕ, List, [], ◌∷◌, sym, subst, arith, Entry, Object, Op, next, Setup, System, moved, JobData, idle}
 use Rattle.mv_plan.proofs.Words.{common_steps, ◌++◌, refl, ap, ◌∙◌, append-nil, append_assoc, IsNext, after_from}
 use Rattle.mv_plan.proofs.points.{Point, At, Finished, IsNotLost, Elsewhere}
