@@ -15,7 +15,7 @@ use Rattle.mv_machine.specs.declared.entry.Reply.TheVariants as reply_of
 use Rattle.mv_machine.specs.declared.packing.WordState.{WordState}
 use Rattle.mv_machine.specs.declared.packing.WordState.TheVariants as word_state
 use Rattle.mv_machine.specs.Packing.{reply_in}
-use Rattle.mv_board.specs.Faces.{CallerFace}
+use Rattle.mv_board.specs.Faces.{CallerFace, IsSame}
 use Rattle.mv_calls.specs.Keeping.{kept_of}
 use Rattle.mv_calls.specs.Pauses.{try_release, same_release, same_release_reply}
 use Rattle.mv_calls.specs.Posts.{expected_of, is_expected}
@@ -108,3 +108,12 @@ tried_early t u token expected code r result x quiet e =
     ≡ Some (reply_of.Element (reply_to_release (Ok answer.Woke))) =
     sym (ap (λ s. reply_in op s) state) ∙ (x.replies ∙ ap (λ z. Some (reply_of.Element (reply_to_release z))) woke) in
     not_waking token.generation code quiet.state quiet.phase (cc reply)) e
+
+-- the task stays the same caller of the same station
+pub tried_same : (token : Token) (expected code : ℕ) (t : CallerFace) (result : Result ReleaseAnswer TryReleaseRefusal) (u : CallerFace)
+    → IsTried token expected code t result u → IsSame t u
+tried_same token expected code t (Ok answer.Early) u x = x.happened.same
+tried_same token expected code t (Ok answer.Woke) u x = x.happened.same
+tried_same token expected code t (Err (try_refused.Spent now)) u x = x.happened.same
+tried_same token expected code t (Err try_refused.Already) u x = x.happened.same
+tried_same token expected code t (Err (try_refused.Moved word)) u x = x.found.same

@@ -1,11 +1,13 @@
-//! What no clause says: two threads of which one wakes the other; and the hand-offs that `bench/run` times. Tables of calls with their
-//! answers are scripts, in mv_program.
+//! What no clause says: two threads of which one wakes the other; an exchange, whose refusals by the state scripts don't show; and the
+//! hand-offs that `bench/run` times. Tables of calls with their answers are scripts, in mv_program.
 
 ghost use Rattle.std.specs.Prelude.{◌≡◌, ◌<◌, ◌≤◌, IfOk};
+ghost use Rattle.mv_element.specs.Table.{release_limit};
 ghost use Rattle.mv_machine.specs.Limits.{highest_generation};
 ghost use Rattle.mv_machine.specs.Setup.{element_count};
 ghost use Rattle.mv_calls.specs.Rest.{IsAtRest};
 ghost use Rattle.mv_board.specs.Faces.{IsOf};
+ghost use Rattle.mv_pause.specs.Releasing.{HasNoPause};
 
 use super::*;
 use mv_element::{ElementOp, Phase, Token};
@@ -102,6 +104,71 @@ fn hand<R: Abort + Wait>(
 {
     assert!(rt; task.left() > 0);
     release(station, rt, task, token(other, generation), CODE)
+}
+
+// ---- exchanges
+
+// Stops the test where this is no word of the element, or a task pauses in it.
+fn assert_has_no_pause(rt: &impl Abort, element: u32, word: u64)
+    ensures { HasNoPause element word }
+{
+    let Some((_, WordState::Element(state))) = unpack(Object::Element(element), word) else {
+        panic!(rt; "no word of an element")
+    };
+    if state.phase == Phase::Paused {
+        panic!(rt; "a task pauses in it")
+    }
+}
+
+// A release of element 0 by one exchange.
+fn exchange(
+    rt: &impl Abort,
+    station: &Station,
+    task: &mut Task,
+    token: Token,
+    expected: u64,
+    code: u32,
+) -> Result<ReleaseAnswer, TryReleaseRefusal>
+    requires task { IsOf station.now task.old }
+    requires rest { IsAtRest task.old.log }
+    requires element { token.element < element_count station.now.config }
+    requires code { code < release_limit }
+    ensures task { IsOf station.now task.new }
+    ensures rest { IsAtRest task.new.log }
+{
+    assert_has_no_pause(rt, token.element, expected);
+    assert!(rt; task.left() > 0);
+    try_release(station, task, token, expected, code)
+}
+
+// What one more place adds to a word.
+const PLACE: u64 = 35_184_372_088_832;
+
+// The words of an element of generation 0: allocated; and released with code 5.
+const RESET: u64 = 16_777_216;
+
+const RELEASED: u64 = 33_554_437;
+
+#[test]
+fn an_exchange_releases_where_the_word_is_the_one_expected(rt: HostRuntime) -> Result<(), Fail> {
+    let (station, mut task, _other) = open_two(&rt, rt.alloc(), 20)?;
+    let first = exchange(&rt, &station, &mut task, token(0, 0), PLACE + RESET, 5);
+    assert_eq!(rt; first, Ok(ReleaseAnswer::Early));
+    let moved = exchange(&rt, &station, &mut task, token(0, 0), PLACE + RESET, 6);
+    let released = 2 * PLACE + RELEASED;
+    assert_eq!(rt; moved, Err(TryReleaseRefusal::Moved(released)));
+    let already = exchange(&rt, &station, &mut task, token(0, 0), released, 6);
+    assert_eq!(rt; already, Err(TryReleaseRefusal::Already));
+    let spent = exchange(
+        &rt,
+        &station,
+        &mut task,
+        token(0, 1),
+        3 * PLACE + RELEASED,
+        6,
+    );
+    assert_eq!(rt; spent, Err(TryReleaseRefusal::Spent(0)));
+    Ok(())
 }
 
 // ---- two threads
