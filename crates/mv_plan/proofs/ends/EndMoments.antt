@@ -8,14 +8,15 @@ use Rattle.mv_plan.proofs.Words.{common_steps, suc, Option, cases_lt, idle, read
 use Rattle.std.proofs.lemmas.List.{map-append}
 use Rattle.mv_plan.specs.PostingEnds.{post_in, FindsEnd}
 use Rattle.mv_plan.proofs.deck.{IsPlanned, is_skipped, skipped_ends, few_jobs, code_parts, never_zero}
-use Rattle.mv_plan.proofs.ends.Blocks.{HasEnd, scheduler_has, writer_has, NotComplete, BlockAfter, block_moved, moved_there, IsComplete}
-use Rattle.mv_plan.proofs.ends.Blocks.{is_moved, reader_ecb, initiator_ecb, idle_none, done_has, post_by, posts_run}
+use Rattle.mv_plan.proofs.ends.Blocks.{HasEnd, NotComplete, BlockAfter, block_moved, moved_there, IsComplete}
+use Rattle.mv_plan.proofs.ends.Blocks.{is_moved, reader_ecb, initiator_ecb, idle_none, posts_run}
 use Rattle.mv_plan.proofs.ends.RightCodes.{HoldEnds, ReleasesCodes, IsMarked, Codes, reader_releases, scheduler_releases}
 use Rattle.mv_plan.proofs.ends.RightCodes.{initiator_releases, writer_releases}
 use Rattle.mv_plan.proofs.walks.{entry_of, block, Points, start_points, HasStanding, KeepsUnder, by_moves, TasksStand}
 use Rattle.mv_plan.proofs.points.{Point, At, Finished, Arming, Settling, WriterAt, Keeping, writing_from, end_found, writer_asks}
 use Rattle.mv_plan.proofs.points.{writer_goes, reader_asks, scheduler_asks, initiator_asks, on_armed_keeps, IsWriterAt, ReaderAt}
-use Rattle.mv_plan.proofs.points.{SchedulerAt, InitiatorAt, Offering, IsReaderAt, IsInitiatorAt, run_of, next_job, IsNotLost}
+use Rattle.mv_plan.proofs.points.{SchedulerAt, InitiatorAt, Offering, IsReaderAt, IsInitiatorAt, run_of, next_job, IsNotLost, OfJob}
+use Rattle.mv_plan.proofs.points.{ForScheduler, ForWriter}
 use Rattle.mv_plan.proofs.ends.Posted.{scheduler_clears, writer_clears_none, clear_is_no_post, Posted, DoneBlocks, reader_ends}
 use Rattle.mv_plan.proofs.ends.Posted.{scheduler_no_post, writer_no_post}
 use Rattle.mv_plan.proofs.places.{RunBy}
@@ -131,8 +132,8 @@ module _ (deck : List JobData) (initiators : ℕ) (sound : IsPlanned deck initia
       ends j b code lt has (complete_reply w.0 (block s b) code (cc (sym (replied c s k b p o op r w.0 next f w.1) ∙ e)))
 
   finds_next : FindsEnd deck e
-  finds_next j code lt (inl f) q = finds_at (end_for_scheduler (length deck) j) j code lt (scheduler_has refl) f q
-  finds_next j code lt (inr f) q = finds_at (end_for_writer (length deck) j) j code lt (writer_has refl) f q
+  finds_next j code lt (inl f) q = finds_at (end_for_scheduler (length deck) j) j code lt (ForScheduler, refl) f q
+  finds_next j code lt (inr f) q = finds_at (end_for_writer (length deck) j) j code lt (ForWriter, refl) f q
 
   mark_next : HasRightMark deck e
   mark_next m g j skipped lt f q = elim (releases m g (code_of j skipped) f q) [
@@ -282,8 +283,7 @@ module _ (deck : List JobData) (initiators : ℕ) (sound : IsPlanned deck initia
       → (initiator_asks (length deck) i x).1 ≡ Op.Ecb (EcbOp.Post d) → block s (done (length deck) j) ≡ Extended (j + 1)
   initiator_extended s t i x m lt at j d below o op =
       let stands : IsInitiatorAt deck (At x) = subst (IsInitiatorAt deck) at (m.stands.each i lt) in
-      let w = posts_run deck i x j (done (length deck) j) stands below (done_has refl)
-      (post_by (length deck) i x (done (length deck) j) (EcbOp.Post d) o op) in
+      let w = posts_run deck i x j (done (length deck) j) stands below (OfJob, refl) o in
       elim (done_extended (length deck) s t.scheduler j m.going m.posted.blocks below
       (m.released i j lt below (w.0, ap run_of at ∙ w.1, w.2))) [
         | inl e ↦ e
@@ -300,7 +300,7 @@ module _ (deck : List JobData) (initiators : ℕ) (sound : IsPlanned deck initia
       traces_next deck initiators sound c s reader p (reader_asks x).0 (reader_asks x).1 r past n h q.codes.blocks
       (reader_releases deck initiators sound x)
       (reader_free s t x q at)
-      (λ j d lt o op. absurd (reader_ends deck initiators x j (done (length deck) j) stands (done_has refl) o))
+      (λ j d lt o op. absurd (reader_ends deck initiators x j (done (length deck) j) stands (OfJob, refl) o))
       (λ j b lt has o op. reader_ends deck initiators x j b stands has o))
       (λ s t past x p r at n q h. traces_next deck initiators sound c s scheduler p (scheduler_asks (length deck) x).0
       (scheduler_asks (length deck) x).1 r past n h q.codes.blocks

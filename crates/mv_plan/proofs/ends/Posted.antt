@@ -6,15 +6,15 @@ use Rattle.mv_plan.proofs.Words.{opening, with_at, JobData, entered, end_for_sch
 use Rattle.mv_plan.proofs.Words.{not_to_run, done, EcbOp, EcbReply, ElementOp, common_steps, rules}
 use Rattle.mv_plan.proofs.points.{Point, At, Finished, TooSoon, Astray, ReaderAt, Entering, reader_asks, reader_goes, rounds_after}
 use Rattle.mv_plan.proofs.points.{SchedulerAt, Waits, Extends, Clears, Releases, scheduler_asks, scheduler_goes, WriterAt, writer_asks}
-use Rattle.mv_plan.proofs.points.{Running, InitiatorAt, EndingJob, EndingForScheduler, EndingForWriter, initiator_asks, initiator_goes}
+use Rattle.mv_plan.proofs.points.{Running, InitiatorAt, Ending, OfJob, ForScheduler, ForWriter, initiator_asks, initiator_goes}
 use Rattle.mv_plan.proofs.points.{InJob, on_posted_keeps, IsReaderAt, IsWriterAt, IsSchedulerAt, stage_extended, awaited_extended}
 use Rattle.mv_plan.proofs.points.{IsInitiatorAt, named_is, ByStage, stage_map, stage_goes, NotEnding, AllNext, goes_next, next_grows}
 use Rattle.mv_plan.proofs.points.{code_held, run_of, next_job, rounds_land, ended_lands}
 use Rattle.mv_plan.proofs.walks.{Points, start_points, TasksStand, KeepsUnder, by_moves, entry_of, block, element}
 use Rattle.mv_plan.proofs.places.{Ledger, RunBy, run_alone, run_released, run_unheld}
-use Rattle.mv_plan.proofs.ends.Blocks.{HasEnd, done_has, scheduler_has, writer_has, IsComplete, NotComplete, BlockAfter, block_moved}
-use Rattle.mv_plan.proofs.ends.Blocks.{moved_there, complete_moved, not_moved, is_moved, held_moved, offers, ends_job, ends_scheduler}
-use Rattle.mv_plan.proofs.ends.Blocks.{ends_writer, post_by, initiator_no_release, run_below, posts_run, posts_no_entered, initiator_ecb}
+use Rattle.mv_plan.proofs.ends.Blocks.{HasEnd, IsComplete, NotComplete, BlockAfter, block_moved}
+use Rattle.mv_plan.proofs.ends.Blocks.{moved_there, complete_moved, not_moved, is_moved, held_moved}
+use Rattle.mv_plan.proofs.ends.Blocks.{initiator_no_release, run_below, at_post, posts_run, posts_no_entered, initiator_ecb}
 use Rattle.mv_plan.proofs.lists.{all_but}
 use Rattle.mv_plan.proofs.ends.RightCodes.{starts_held}
 use Rattle.mv_plan.proofs.standing.{wait_no_done}
@@ -123,9 +123,9 @@ stage_stays : (n : ℕ) (s s' : System) (p : Point InitiatorAt)
 stage_stays n s s' p stays =
     stage_map (NotDone n s) (NotToScheduler n s) (NotToWriter n s) (NotDone n s') (NotToScheduler n s') (NotToWriter n s') p
     (λ run e. (
-      λ f. (stays run e _ (done_has refl)).0 f,
-      λ f. ((stays run e _ (scheduler_has refl)).0 f.0, (stays run e _ (done_has refl)).1 f.1),
-      λ f. ((stays run e _ (writer_has refl)).0 f.0, (stays run e _ (scheduler_has refl)).1 f.1),
+      λ f. (stays run e _ (OfJob, refl)).0 f,
+      λ f. ((stays run e _ (ForScheduler, refl)).0 f.0, (stays run e _ (OfJob, refl)).1 f.1),
+      λ f. ((stays run e _ (ForWriter, refl)).0 f.0, (stays run e _ (ForScheduler, refl)).1 f.1),
     ))
 
 module _ (deck : List JobData) (initiators : ℕ) where
@@ -148,7 +148,7 @@ module _ (deck : List JobData) (initiators : ℕ) where
     own_end_posted : (j b code : ℕ) → j < length deck → HasEnd (length deck) j b → asks.0 ≡ Ecb b
         → asks.1 ≡ Op.Ecb (EcbOp.Post code) → RunBy t i j
     own_end_posted j b code below has o op =
-        let w = posts_run deck i x j b stands below has (post_by (length deck) i x b (EcbOp.Post code) o op) in
+        let w = posts_run deck i x j b stands below has o in
         (w.0, ap run_of at ∙ w.1, w.2)
 
     others_end : (j b : ℕ) → j < length deck → HasEnd (length deck) j b → (RunBy t i j → ⊥) → NotComplete s b
@@ -194,7 +194,7 @@ module _ (deck : List JobData) (initiators : ℕ) where
         (stage_stays (length deck) s i_after (At x)
         (λ run e b has. (λ f. plain_end run.job b plain (job_below x run refl e) has f, still b)) (its_stage x refl))
         (starts_held (λ run. NotDone (length deck) i_after run.job) deck c s i x p r next (λ code named before more g held e.
-        plain_end named.job _ plain (named_is (length deck) code named e).0 (done_has refl)
+        plain_end named.job _ plain (named_is (length deck) code named e).0 (OfJob, refl)
         (h.handed i named.job named.skipped lt (named_is (length deck) code named e).0
         (held ∙ ap (λ z. Some z) (named_is (length deck) code named e).1))))
 
@@ -203,23 +203,23 @@ module _ (deck : List JobData) (initiators : ℕ) where
 
     -- and at each point
     own_stage : (y : InitiatorAt) → x ≡ y → EndStage (length deck) i_after (initiator_goes deck y r)
-    own_stage (InJob run (EndingJob code counts)) is =
-        let free = its_stage (InJob run (EndingJob code counts)) is in
+    own_stage (InJob run (Ending OfJob code counts)) is =
+        let free = its_stage (InJob run (Ending OfJob code counts)) is in
         let asked : asks ≡ (Ecb (done (length deck) run.job), Op.Ecb (EcbOp.Post code)) =
         ap (λ z. initiator_asks (length deck) i z) is in
-        let job = job_below (InJob run (EndingJob code counts)) run is refl in
+        let job = job_below (InJob run (Ending OfJob code counts)) run is refl in
         let order = (h.order run.job job).0 in ended_lands (EndStage (length deck) i_after) tt run code counts r (
           posts_alone _ (end_for_scheduler (length deck) run.job) code asked (λ z. omega arith)
               (λ d e. let w = order (d, e) in free w.0 w.1),
           posts _ code asked,
         ) (after_job run)
-    own_stage (InJob run (EndingForScheduler code counts)) is =
-        let free = its_stage (InJob run (EndingForScheduler code counts)) is in
+    own_stage (InJob run (Ending ForScheduler code counts)) is =
+        let free = its_stage (InJob run (Ending ForScheduler code counts)) is in
         let asked : asks ≡ (Ecb (end_for_scheduler (length deck) run.job), Op.Ecb (EcbOp.Post code)) =
         ap (λ z. initiator_asks (length deck) i z) is in
-        let job = job_below (InJob run (EndingForScheduler code counts)) run is refl in
+        let job = job_below (InJob run (Ending ForScheduler code counts)) run is refl in
         let order = (h.order run.job job).1 in
-        on_posted_keeps (EndStage (length deck) i_after) (At (InJob run (EndingForWriter code counts))) r (
+        on_posted_keeps (EndStage (length deck) i_after) (At (InJob run (Ending ForWriter code counts))) r (
           posts_alone _ (end_for_writer (length deck) run.job) code asked (λ z. omega arith)
               (λ d e. let w = order (d, e) in free.0 w.0 w.1),
           posts _ code asked,
@@ -233,15 +233,8 @@ module _ (deck : List JobData) (initiators : ℕ) where
 
     for_writer : (j code : ℕ) → j < length deck → asks.0 ≡ Ecb (end_for_writer (length deck) j)
         → asks.1 ≡ Op.Ecb (EcbOp.Post code) → IsComplete s (end_for_scheduler (length deck) j)
-    for_writer j code below o op = elim (post_by (length deck) i x (end_for_writer (length deck) j) (EcbOp.Post code) o op) [
-      | offers more before g is e ↦ absurd (omega arith)
-      | ends_job run d counts is e ↦ let job = job_below (InJob run (EndingJob d counts)) run is refl in
-          absurd (omega arith)
-      | ends_scheduler run d counts is e ↦ absurd (omega arith)
-      | ends_writer run d counts is e ↦
-          let free = its_stage (InJob run (EndingForWriter d counts)) is in
-          let same : run.job ≡ j = omega arith in subst (λ z. IsComplete s (end_for_scheduler (length deck) z)) same free.1
-    ]
+    for_writer j code below o op = let w = at_post deck i x j ForWriter stands below o in
+        subst (λ z. IsComplete s (end_for_scheduler (length deck) z)) w.4 (its_stage _ w.3).1
 
     order_after : (j : ℕ) → j < length deck → IsInOrder (length deck) i_after j
     order_after j below = (
@@ -276,20 +269,20 @@ module _ (deck : List JobData) (initiators : ℕ) where
       zero_after (inl same) le = same ∙ (sp j below).1 le
       zero_after (inr w) le = let post = initiator_ecb (length deck) i x w.0 w.2 in
           let behind = run_released deck initiators s t past q.1 j below i lt
-          (own_end_posted j (done (length deck) j) post.0 below (done_has refl) w.1 (w.2 ∙ ap (λ z. Op.Ecb z) post.1)) in
+          (own_end_posted j (done (length deck) j) post.0 below (OfJob, refl) w.1 (w.2 ∙ ap (λ z. Op.Ecb z) post.1)) in
           absurd (omega arith)
 
     pub initiator_posted : Posted deck initiators i_after (record t { initiators = with_at t.initiators i (initiator_goes deck x r) })
     initiator_posted = record {
       entering = λ j below from. not_moved s (initiator i) asks.0 asks.1
           (entered j) (h.entering j below from)
-          (λ code o op. posts_no_entered (length deck) i x j below (post_by (length deck) i x (entered j) (EcbOp.Post code) o op));
-      coming = λ j below from. others_end j _ below (done_has refl) (λ z.
+          (λ code o op. posts_no_entered (length deck) i x j below o);
+      coming = λ j below from. others_end j _ below (OfJob, refl) (λ z.
           let behind = run_released deck initiators s t past q.1 j below i lt z in omega arith) (h.coming j below from);
       handed = λ m j skipped lm below e. elim
           (held_moved s (initiator i) asks.0 asks.1 (initiator m)
           (code_of j skipped) e) [
-            | inl before ↦ others_end j _ below (done_has refl) (λ z.
+            | inl before ↦ others_end j _ below (OfJob, refl) (λ z.
                 run_unheld deck initiators s t past q.1 j below i m skipped lt lm z before) (h.handed m j skipped lm below before)
             | inr w ↦ absurd (initiator_no_release (length deck) i x w.0 (code_of j skipped) w.2)
           ];
@@ -321,8 +314,8 @@ module _ (deck : List JobData) (initiators : ℕ) where
 
     quiet_order : (j : ℕ) → j < length deck → IsInOrder (length deck) (moved s k o op) j
     quiet_order j below = (
-      λ w. quiet_still j _ below (done_has refl) ((h.order j below).0 (quiet_was j _ below (scheduler_has refl) w)),
-      λ w. quiet_still j _ below (scheduler_has refl) ((h.order j below).1 (quiet_was j _ below (writer_has refl) w)),
+      λ w. quiet_still j _ below (OfJob, refl) ((h.order j below).0 (quiet_was j _ below (ForScheduler, refl) w)),
+      λ w. quiet_still j _ below (ForScheduler, refl) ((h.order j below).1 (quiet_was j _ below (ForWriter, refl) w)),
     )
 
     quiet_split : ((j : ℕ) → j < length deck → o ≡ Ecb (done (length deck) j) → ⊥) → (m : ℕ) → IsSplit (length deck) s m
@@ -337,9 +330,9 @@ module _ (deck : List JobData) (initiators : ℕ) where
         → Posted deck initiators (moved s k o op) (record t { reader = next_reader; writer = next_writer })
     quiet_posted next_reader next_writer each entering no_element untouched = record {
       entering = entering;
-      coming = λ j below from. quiet_free j _ below (done_has refl) (h.coming j below from);
+      coming = λ j below from. quiet_free j _ below (OfJob, refl) (h.coming j below from);
       handed = λ m j skipped lm below e. elim (held_moved s k o op (initiator m) (code_of j skipped) e) [
-        | inl before ↦ quiet_free j _ below (done_has refl) (h.handed m j skipped lm below before)
+        | inl before ↦ quiet_free j _ below (OfJob, refl) (h.handed m j skipped lm below before)
         | inr w ↦ absurd (no_element (initiator m) w.1)
       ];
       stages = λ m lm. quiet_stage (t.initiators m) (each m lm) (h.stages m lm);

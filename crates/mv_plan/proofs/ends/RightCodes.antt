@@ -13,11 +13,10 @@ use Rattle.mv_plan.proofs.points.{scheduler_goes, settling_from, found_at, ends_
 use Rattle.mv_plan.proofs.points.{IsAwaited, IsWaitAt, IsSchedulerAt, Finished, ReaderAt, Entering, reader_asks, running, scheduler_asks}
 use Rattle.mv_plan.proofs.points.{WriterAt, Keeping, writing_from, end_found, writer_asks, writer_goes, Running, InitiatorAt}
 use Rattle.mv_plan.proofs.points.{initiator_asks, initiator_goes, IsReaderAt, IsWriterAt, IsInitiatorAt, IsEnding, OfRun, Starts, runs_goes}
-use Rattle.mv_plan.proofs.points.{code_held}
+use Rattle.mv_plan.proofs.points.{code_held, ForScheduler, ForWriter}
 use Rattle.mv_plan.proofs.lists.{all_map, all_with}
 use Rattle.mv_plan.proofs.walks.{Points, start_points, HasStanding, KeepsUnder, by_moves, entry_of, block, element, block_reply}
-use Rattle.mv_plan.proofs.ends.Blocks.{complete_moved, held_moved, settled_code, HasEnd, scheduler_has, writer_has, post_by, posts_run}
-use Rattle.mv_plan.proofs.ends.Blocks.{posts_ending}
+use Rattle.mv_plan.proofs.ends.Blocks.{complete_moved, held_moved, settled_code, HasEnd, posts_run, posts_ending}
 
 -- what was found at the blocks of these parts are the ends of their jobs
 abbrev pub AreFound : List JobData → List After → List (Option ℕ) → Type 0
@@ -274,7 +273,7 @@ module _ (deck : List JobData) (initiators : ℕ) (sound : IsPlanned deck initia
   initiator_posts : (i : ℕ) (x : InitiatorAt) → IsInitiatorAt deck (At x) → OfRun (IsMarkedRun deck) (At x)
       → PostsEnds deck (initiator_asks (length deck) i x).0 (initiator_asks (length deck) i x).1
   initiator_posts i x at f m d p q j lt has =
-      let w = posts_run deck i x j m at lt has (post_by (length deck) i x m (EcbOp.Post d) p q) in
+      let w = posts_run deck i x j m at lt has p in
       ending_is deck initiators w.0 d sound (posts_ending deck i x w.0 d at w.1 q) (f w.0 w.1) ∙ ap (λ k. end_of deck k) w.2
 
   pub initiator_releases : (i : ℕ) (x : InitiatorAt)
@@ -299,14 +298,14 @@ module _ (deck : List JobData) (initiators : ℕ) (sound : IsPlanned deck initia
   finds_ends : (c : Setup) (s : System) (x : SchedulerAt) (k p : ℕ) (r : Reply)
       → IsNext c s (entry_of k p (scheduler_asks (length deck) x) r) → HoldEnds deck s → FindsEnds deck initiators x r
   finds_ends c s (Waits a (Settling e todo found)) k p (Reply.Ecb (EcbReply.Complete code)) n h = λ j lt at.
-      h j e code lt (scheduler_has at)
+      h j e code lt (ForScheduler, at)
       (settled_code (block s e) code (cc (sym (block_reply c s k e EcbOp.Settle p (Reply.Ecb (EcbReply.Complete code)) n))))
   finds_ends c s x k p r n h = tt
 
   finds_end : (c : Setup) (s : System) (x : WriterAt) (k p : ℕ) (r : Reply) → IsNext c s (entry_of k p (writer_asks x) r)
       → IsWriterAt (length deck) (At x) → HoldEnds deck s → WriterFindsEnd deck x r
   finds_end c s (Keeping j more kept (Settling e todo found)) k p (Reply.Ecb (EcbReply.Complete code)) n at h =
-      h j e code (let t = at.0 in omega arith) (writer_has at.1)
+      h j e code (let t = at.0 in omega arith) (ForWriter, at.1)
       (settled_code (block s e) code (cc (sym (block_reply c s k e EcbOp.Settle p (Reply.Ecb (EcbReply.Complete code)) n))))
   finds_end c s x k p r n at h = tt
 

@@ -1,7 +1,7 @@
 -- Each move keeps the hands, where no two initiators run one job.
 use Rattle.mv_plan.proofs.Words.{inl, inr, ◌≡◌, ℕ, ◌+◌, ◌<◌, ◌==◌, Bool, true, false, ◌||◌, if◌then◌else◌, List, [], ◌∷◌, length, replicate}
 use Rattle.mv_plan.proofs.Words.{Option, Some, None, refl, sym, ap, ◌∙◌, subst, arith, list_any, LatchOp, LatchReply, Request, list_of}
-use Rattle.mv_plan.proofs.Words.{Entry, Object, Element, Volume, Latches, Op, Reply, IsNext, next, Setup, System, moved}
+use Rattle.mv_plan.proofs.Words.{Entry, Object, Latches, Op, Reply, IsNext, next, Setup, System, moved}
 use Rattle.mv_plan.proofs.Words.{JobData, initiator, ElementReply, LatchForm, VolumeReply, common_steps}
 use Rattle.mv_machine.proofs.EntryRuns.{entry_of}
 use Rattle.mv_machine.proofs.Replies.{latches_answer}
@@ -10,7 +10,7 @@ use Rattle.mv_plan.proofs.deck.{is_held}
 use Rattle.mv_plan.proofs.latches.Hands.{Grip, Works, grip, OwnsBy, IsKnown, Hands, SparesJob, other_owns, obtain_owns, obtain_holds}
 use Rattle.mv_plan.proofs.latches.Hands.{confirm_owns, free_stands, free_owns, purge_owns, steps_own, given_owns, counting_owns}
 use Rattle.mv_plan.proofs.points.{held_of, IsInitiatorAt, Point, At, Grant, InitiatorAt, Opening, Pausing, Resuming, Obtaining, Confirming}
-use Rattle.mv_plan.proofs.points.{Freeing, Reading, Writing, Rescanning, Purging, initiator_asks, initiator_goes, InJob, IsSignal}
+use Rattle.mv_plan.proofs.points.{Freeing, Reading, Writing, Rescanning, Purging, Ending, OfJob, initiator_asks, initiator_goes, InJob, IsSignal}
 use Rattle.mv_plan.proofs.latches.Lists.{obtained_reply, confirm_granted, all_asked, AllAsked}
 use Rattle.mv_plan.proofs.walks.{Mover, who_moved, mover_asked, Points, Move}
 use Rattle.mv_plan.proofs.lists.{all_but}
@@ -91,6 +91,7 @@ module _ (c : Setup) (s : System) (deck : List JobData) (i : ℕ) where
       steps_own lists k run hand steps w
   own_next (InJob run (Purging hand code)) p (Reply.Latch (LatchReply.Purged removed count)) h a w =
       purge_owns k place run.job lists hand.holding w
+  own_next (InJob run (Ending OfJob code counts)) p r h a w = grind (arith, common_steps)
   own_next x p r h a w = grind (arith, common_steps)
 
 -- ---- the others

@@ -13,7 +13,7 @@ use Rattle.mv_plan.proofs.latches.Lists.{asked_below, asked_freed, asked_kept, a
 use Rattle.mv_plan.proofs.latches.Lists.{obtained_elsewhere, granted_new, released_list, released_elsewhere, purged_list, granted_in}
 use Rattle.mv_plan.proofs.latches.Lists.{mine_pushed, mine_without, mine_purged, Spares, mine_kept, AllAsked}
 use Rattle.mv_plan.proofs.points.{held_of, Point, At, Finished, Grant, Running, Hand, empty_hand, without_latch, InitiatorAt, hand_at}
-use Rattle.mv_plan.proofs.points.{EndingJob, EndingForScheduler, EndingForWriter, Confirming, steps_at, running, job_start, given_at}
+use Rattle.mv_plan.proofs.points.{Ending, Confirming, steps_at, running, job_start, given_at}
 use Rattle.mv_plan.proofs.points.{counting_at, InJob, freeing_lands, given_lands, counting_lands}
 use Rattle.mv_plan.proofs.lists.{all_map, all_join}
 
@@ -27,9 +27,7 @@ pub data Grip : Type 0 where
 abbrev pub grip : Point InitiatorAt → Grip
 grip (At (InJob run (Confirming hand latch mode id steps))) =
     Works run.job hand.holding (record { latch = latch; mode = mode; id = id } ∷ [])
-grip (At (InJob run (EndingJob code counts))) = Idle
-grip (At (InJob run (EndingForScheduler code counts))) = Idle
-grip (At (InJob run (EndingForWriter code counts))) = Idle
+grip (At (InJob run (Ending post code counts))) = Idle
 grip (At (InJob run w)) = Works run.job (hand_at w).holding []
 grip (At x) = Idle
 grip (Finished answer) = Idle

@@ -17,7 +17,7 @@ use Rattle.mv_plan.specs.SpoolTasks.{job_done}
 use Rattle.mv_plan.proofs.deck.{ArePlannedJobs, Facts}
 use Rattle.mv_plan.proofs.points.Points.{At, Astray, Grant, Running, Hand, empty_hand, hand_with, hand_without, InitiatorAt, Opening}
 use Rattle.mv_plan.proofs.points.Points.{Offering, Pausing, Resuming, Obtaining, Confirming, Freeing, Reading, Writing, Scanning}
-use Rattle.mv_plan.proofs.points.Points.{Rescanning, Purging, EndingJob, EndingForScheduler, EndingForWriter, Closing, initiator_asks}
+use Rattle.mv_plan.proofs.points.Points.{Rescanning, Purging, Ending, OfJob, ForScheduler, ForWriter, Closing, initiator_asks}
 use Rattle.mv_plan.proofs.points.Points.{initiator_goes, rounds_from, rounds_after, steps_at, running, job_start, named_at, given_at, InJob}
 use Rattle.mv_plan.proofs.points.Programs.{program_at, posting_next, rounds_rest, given_rest, ending, stepping, steps_rest, obtained_rest}
 use Rattle.mv_plan.proofs.points.Programs.{initiator_program, post_is_now, IsPlainPost, posted_goes, keeps}
@@ -46,9 +46,8 @@ WokeAs j r = Unit {0}
 
 abbrev pub IsPlainReply : InitiatorAt → Reply → List Wake → Type 0
 IsPlainReply (Offering more before g) r ws = IsPlainPost r
-IsPlainReply (InJob run (EndingForScheduler code counts)) r ws = IsPlainPost r
-IsPlainReply (InJob run (EndingForWriter code counts)) r ws = IsPlainPost r
-IsPlainReply (InJob run (EndingJob code counts)) r ws = WokeAs run.job r
+IsPlainReply (InJob run (Ending OfJob code counts)) r ws = WokeAs run.job r
+IsPlainReply (InJob run (Ending post code counts)) r ws = IsPlainPost r
 IsPlainReply (InJob run (Freeing hand latch id steps)) r ws = PostNothing ws
 IsPlainReply (InJob run (Purging hand code)) r ws = PostNothing ws
 IsPlainReply x r ws = Unit {0}
@@ -206,23 +205,23 @@ module _ (c : Setup) (deck : List JobData) (initiators i : ℕ) (facts : Facts c
 
           counts : Counts
           counts = record { removed = removed; granted = granted }
-    goes (InJob run (EndingJob code counts)) (Reply.Ecb (EcbReply.Woke (suc x))) s f =
+    goes (InJob run (Ending OfJob code counts)) (Reply.Ecb (EcbReply.Woke (suc x))) s f =
         ap (λ m. after (length c.owners - 1) (posted_next c (Woke m)) m) f
         ∙ ap (λ es. after (length c.owners - 1) es (run.job + 1)) (facts.targets run.job s.0.round.job)
         ∙ ap (λ d. after d (end_for_scheduler (length deck) run.job ∷ end_for_writer (length deck) run.job ∷ []) (run.job + 1))
         (deeper run s.0.round.job) where
           after : ℕ → List ℕ → ℕ → Program (List ℕ)
-          after depth es m = ending c deck i run (kept_by kept (InJob run (EndingJob code counts)) (Reply.Ecb (EcbReply.Woke (suc x))))
+          after depth es m = ending c deck i run (kept_by kept (InJob run (Ending OfJob code counts)) (Reply.Ecb (EcbReply.Woke (suc x))))
               (and_then (each_posted (post_within depth c code) es (Woke m)) (λ p. Done counts))
-    goes (InJob run (EndingJob code counts)) (Reply.Ecb (EcbReply.Woke zero)) s f = rounds_after_enter run _
-    goes (InJob run (EndingJob code counts)) (Reply.Ecb EcbReply.Posted) s f = rounds_after_enter run _
-    goes (InJob run (EndingJob code counts)) (Reply.Ecb (EcbReply.Already old)) s f = rounds_after_enter run _
-    goes (InJob run (EndingForScheduler code counts)) r s f = grind (arith, common_steps)
-    goes (InJob run (EndingForWriter code counts)) r s f =
+    goes (InJob run (Ending OfJob code counts)) (Reply.Ecb (EcbReply.Woke zero)) s f = rounds_after_enter run _
+    goes (InJob run (Ending OfJob code counts)) (Reply.Ecb EcbReply.Posted) s f = rounds_after_enter run _
+    goes (InJob run (Ending OfJob code counts)) (Reply.Ecb (EcbReply.Already old)) s f = rounds_after_enter run _
+    goes (InJob run (Ending ForScheduler code counts)) r s f = grind (arith, common_steps)
+    goes (InJob run (Ending ForWriter code counts)) r s f =
         posted_goes c _ (λ p. ending c deck i run now
         (and_then (and_then p (λ p. each_posted (posting_next c code) [] (Woke (run.job + 1)))) (λ p. Done counts)))
         (initiator_program c deck i now) (rounds_after run) r (λ p. rounds_after_enter run now) refl f where
           now : Kept
-          now = kept_by kept (InJob run (EndingForWriter code counts)) r
+          now = kept_by kept (InJob run (Ending ForWriter code counts)) r
     goes (Closing g) (Reply.Element ElementReply.Closed) s f = refl
     goes x r s f = refl

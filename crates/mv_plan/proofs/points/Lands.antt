@@ -2,7 +2,7 @@
 use Rattle.mv_plan.proofs.Words.{◌≡◌, ℕ, suc, ◌==◌, Bool, true, false, if◌then◌else◌, List, length, Option, Some, refl}
 use Rattle.mv_plan.proofs.Words.{eqb-true, Reply, Counts, list_any, JobData, Step, job_at, Named, job_named, rules, arith, common_steps}
 use Rattle.mv_plan.proofs.points.Points.{Point, At, Astray, Running, Hand, InitiatorAt, InJob, Offering, Freeing, Writing, Closing}
-use Rattle.mv_plan.proofs.points.Points.{EndingForScheduler, on_ended, rounds_after, rounds_from, freeing_at, counting_at, running}
+use Rattle.mv_plan.proofs.points.Points.{Ending, ForScheduler, on_ended, rounds_after, rounds_from, freeing_at, counting_at, running}
 use Rattle.mv_plan.proofs.points.Points.{job_start, named_at, given_at}
 
 module _ (P : Point InitiatorAt → Type 0) (lost : P Astray) where
@@ -22,7 +22,7 @@ module _ (P : Point InitiatorAt → Type 0) (lost : P Astray) where
   counting_lands run hand volume amount steps number next = grind (arith, common_steps)
 
   -- behind the post of a done block, which starts its exit or not
-  pub ended_lands : (run : Running) (code : ℕ) (counts : Counts) (r : Reply) → P (At (InJob run (EndingForScheduler code counts)))
+  pub ended_lands : (run : Running) (code : ℕ) (counts : Counts) (r : Reply) → P (At (InJob run (Ending ForScheduler code counts)))
       → P (rounds_after run) → P (on_ended run code counts r)
   ended_lands run code counts r starts ends = search rules
 

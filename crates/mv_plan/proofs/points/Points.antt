@@ -230,6 +230,18 @@ without_latch latch hs = filter (λ g. not (g.latch == latch)) hs
 abbrev pub hand_without : Hand → ℕ → Hand
 hand_without hand latch = record { requests = hand.requests; holding = without_latch latch hand.holding }
 
+-- which post of a job's end: that of its done block, or one of those of its exit
+pub data EndPost : Type 0 where
+  OfJob : EndPost
+  ForScheduler : EndPost
+  ForWriter : EndPost
+
+-- and its block, where n is the number of jobs
+abbrev pub end_block : ℕ → ℕ → EndPost → ℕ
+end_block n job OfJob = done n job
+end_block n job ForScheduler = end_for_scheduler n job
+end_block n job ForWriter = end_for_writer n job
+
 -- in a job
 pub data JobAt : Type 0 where
   -- its steps, with those that follow
@@ -240,11 +252,9 @@ pub data JobAt : Type 0 where
   Writing : (hand : Hand) (volume amount number : ℕ) (steps : List Step) → JobAt
   Scanning : (hand : Hand) (volume : ℕ) (steps : List Step) → JobAt
   Rescanning : (hand : Hand) (volume number : ℕ) (steps : List Step) → JobAt
-  -- its end with its code: the purge, the post of a done block, and the posts of its exit
+  -- its end with its code: the purge, and the posts
   Purging : (hand : Hand) (code : ℕ) → JobAt
-  EndingJob : (code : ℕ) (counts : Counts) → JobAt
-  EndingForScheduler : (code : ℕ) (counts : Counts) → JobAt
-  EndingForWriter : (code : ℕ) (counts : Counts) → JobAt
+  Ending : (post : EndPost) (code : ℕ) (counts : Counts) → JobAt
 
 -- what it has in hand there
 abbrev pub hand_at : JobAt → Hand
@@ -282,9 +292,7 @@ initiator_asks n i (InJob run (Writing hand volume amount number steps)) = (Volu
 initiator_asks n i (InJob run (Scanning hand volume steps)) = (Volume volume, Op.Volume VolumeOp.Read)
 initiator_asks n i (InJob run (Rescanning hand volume number steps)) = (Volume volume, Op.Volume VolumeOp.Read)
 initiator_asks n i (InJob run (Purging hand code)) = (Latches, Op.Latch (LatchOp.Purge (run.job + 1)))
-initiator_asks n i (InJob run (EndingJob code counts)) = (Ecb (done n run.job), Op.Ecb (EcbOp.Post code))
-initiator_asks n i (InJob run (EndingForScheduler code counts)) = (Ecb (end_for_scheduler n run.job), Op.Ecb (EcbOp.Post code))
-initiator_asks n i (InJob run (EndingForWriter code counts)) = (Ecb (end_for_writer n run.job), Op.Ecb (EcbOp.Post code))
+initiator_asks n i (InJob run (Ending post code counts)) = (Ecb (end_block n run.job post), Op.Ecb (EcbOp.Post code))
 initiator_asks n i (Closing g) = (Element (initiator i), Op.Element (ElementOp.Close g))
 
 -- so many rounds are left
@@ -371,12 +379,12 @@ on_stored p r = Astray
 
 abbrev pub on_purged : Running → ℕ → Reply → Point InitiatorAt
 on_purged run code (Reply.Latch (LatchReply.Purged removed granted)) =
-    At (InJob run (EndingJob code (record { removed = removed; granted = granted })))
+    At (InJob run (Ending OfJob code (record { removed = removed; granted = granted })))
 on_purged run code r = Astray
 
 -- the post of a done block that starts its exit is followed by those of the exit
 abbrev pub on_ended : Running → ℕ → Counts → Reply → Point InitiatorAt
-on_ended run code counts (Reply.Ecb (EcbReply.Woke (suc x))) = At (InJob run (EndingForScheduler code counts))
+on_ended run code counts (Reply.Ecb (EcbReply.Woke (suc x))) = At (InJob run (Ending ForScheduler code counts))
 on_ended run code counts r = on_posted (rounds_after run) r
 
 abbrev pub on_closed : Reply → Point InitiatorAt
@@ -396,7 +404,7 @@ initiator_goes deck (InJob run (Writing hand volume amount number steps)) r = on
 initiator_goes deck (InJob run (Scanning hand volume steps)) r = on_value (λ number. At (InJob run (Rescanning hand volume number steps))) r
 initiator_goes deck (InJob run (Rescanning hand volume number steps)) r = on_value (λ again. steps_at run hand steps) r
 initiator_goes deck (InJob run (Purging hand code)) r = on_purged run code r
-initiator_goes deck (InJob run (EndingJob code counts)) r = on_ended run code counts r
-initiator_goes deck (InJob run (EndingForScheduler code counts)) r = on_posted (At (InJob run (EndingForWriter code counts))) r
-initiator_goes deck (InJob run (EndingForWriter code counts)) r = on_posted (rounds_after run) r
+initiator_goes deck (InJob run (Ending OfJob code counts)) r = on_ended run code counts r
+initiator_goes deck (InJob run (Ending ForScheduler code counts)) r = on_posted (At (InJob run (Ending ForWriter code counts))) r
+initiator_goes deck (InJob run (Ending ForWriter code counts)) r = on_posted (rounds_after run) r
 initiator_goes deck (Closing g) r = on_closed r

@@ -20,7 +20,7 @@ use Rattle.mv_plan.proofs.points.Points.{Point, At, Finished, TooSoon, Astray, R
 use Rattle.mv_plan.proofs.points.Points.{Dispatching, Dismissing, Awaited, ForEntry, ForEnds, ForIdle, ToDismiss, SchedulerAt, Waits}
 use Rattle.mv_plan.proofs.points.Points.{Extends, Clears, Releases, awaited_blocks, awaited_count, WriterAt, Keeping, Running, Hand}
 use Rattle.mv_plan.proofs.points.Points.{InitiatorAt, Opening, Offering, Pausing, Resuming, Obtaining, Confirming, Freeing, Reading}
-use Rattle.mv_plan.proofs.points.Points.{Writing, Scanning, Rescanning, Purging, EndingJob, EndingForScheduler, EndingForWriter, Closing}
+use Rattle.mv_plan.proofs.points.Points.{Writing, Scanning, Rescanning, Purging, Ending, OfJob, ForScheduler, ForWriter, Closing}
 use Rattle.mv_plan.proofs.points.Points.{InJob, on_posted, on_armed, on_settled, lowest_at, if_enough, entering_from, reader_asks}
 use Rattle.mv_plan.proofs.points.Points.{reader_goes, writing_from, writer_asks, writer_goes}
 use Rattle.mv_calls.specs.Posts.{posting}
@@ -177,13 +177,13 @@ initiator_program c deck i kept (InJob run (Rescanning hand volume number steps)
 initiator_program c deck i kept (InJob run (Purging hand code)) = ending c deck i run kept (and_then
     (Do Latches (Op.Latch (LatchOp.Purge (run.job + 1))) (λ h. on_latch h.entry.reply (purged c h.wakes kept)))
     (λ counts. wake_posted c (Some (done (length deck) run.job)) code kept (Done counts)))
-initiator_program c deck i kept (InJob run (EndingJob code counts)) =
+initiator_program c deck i kept (InJob run (Ending OfJob code counts)) =
     ending c deck i run kept (and_then (posting_now c (done (length deck) run.job) code) (λ p. Done counts))
-initiator_program c deck i kept (InJob run (EndingForScheduler code counts)) = ending c deck i run kept (and_then (and_then
+initiator_program c deck i kept (InJob run (Ending ForScheduler code counts)) = ending c deck i run kept (and_then (and_then
     (posting_next c code (end_for_scheduler (length deck) run.job))
     (λ p. each_posted (posting_next c code) (end_for_writer (length deck) run.job ∷ []) (Woke (run.job + 1))))
     (λ p. Done counts))
-initiator_program c deck i kept (InJob run (EndingForWriter code counts)) = ending c deck i run kept (and_then (and_then
+initiator_program c deck i kept (InJob run (Ending ForWriter code counts)) = ending c deck i run kept (and_then (and_then
     (posting_next c code (end_for_writer (length deck) run.job))
     (λ p. each_posted (posting_next c code) [] (Woke (run.job + 1))))
     (λ p. Done counts))

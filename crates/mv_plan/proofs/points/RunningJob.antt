@@ -5,7 +5,7 @@ use Rattle.mv_plan.proofs.Words.{◌≡◌, ℕ, suc, ◌<◌, Bool, true, false
 use Rattle.mv_plan.proofs.Words.{arith, ◌==◌, Reply, JobData, Step, job_at, list_any, Named, job_named, ElementReply, common_steps, Print}
 use Rattle.mv_plan.proofs.points.Points.{Point, At, Astray, Running, Hand, InitiatorAt, Pausing, Resuming, initiator_asks, initiator_goes}
 use Rattle.mv_plan.proofs.points.Points.{steps_at, job_start, rounds_after, empty_hand, rounds_from, running, given_at, JobAt, InJob}
-use Rattle.mv_plan.proofs.points.Points.{EndingJob, EndingForScheduler, EndingForWriter}
+use Rattle.mv_plan.proofs.points.Points.{Ending, ForScheduler, ForWriter}
 use Rattle.mv_plan.proofs.points.InitiatorSound.{IsRunning, IsInitiatorAt}
 use Rattle.mv_plan.proofs.points.Programs.{on_posted_keeps}
 use Rattle.mv_plan.proofs.points.Views.{run_of, IsNotLost}
@@ -109,8 +109,8 @@ module _ (Q : Running → Type 0) where
 -- The job that a point runs meets the first while a job's done block is not posted, the second while the scheduler's end is not
 -- posted, and the third while the writer's is not.
 abbrev pub ByStage : (ℕ → Type 0) → (ℕ → Type 0) → (ℕ → Type 0) → Point InitiatorAt → Type 0
-ByStage Q R S (At (InJob run (EndingForScheduler code counts))) = R run.job
-ByStage Q R S (At (InJob run (EndingForWriter code counts))) = S run.job
+ByStage Q R S (At (InJob run (Ending ForScheduler code counts))) = R run.job
+ByStage Q R S (At (InJob run (Ending ForWriter code counts))) = S run.job
 ByStage Q R S (At (InJob run w)) = Q run.job
 ByStage Q R S p = Unit {0}
 
@@ -122,9 +122,7 @@ stage_map Q R S Q' R' S' p f h = grind (arith, common_steps)
 
 -- a point that does not post a job's end
 abbrev pub NotEnding : InitiatorAt → Type 0
-NotEnding (InJob run (EndingJob code counts)) = ⊥
-NotEnding (InJob run (EndingForScheduler code counts)) = ⊥
-NotEnding (InJob run (EndingForWriter code counts)) = ⊥
+NotEnding (InJob run (Ending post code counts)) = ⊥
 NotEnding x = Unit {0}
 
 module _ (Q R S : ℕ → Type 0) where

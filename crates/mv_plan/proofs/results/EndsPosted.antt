@@ -5,11 +5,11 @@ use Rattle.mv_plan.proofs.Words.{Complete, Entry, Reply, IsNext, next, after, Se
 use Rattle.mv_plan.proofs.Words.{JobData, end_of, ends, Done, left_in, IsRun, spool_setup, end_for_scheduler, end_for_writer, writer}
 use Rattle.mv_plan.proofs.Words.{task_program, done, EcbReply, rules}
 use Rattle.mv_plan.proofs.deck.{IsPlanned, few_jobs, Facts, facts}
-use Rattle.mv_plan.proofs.ends.{HasEnd, done_has, scheduler_has, writer_has, Codes, KeepsEnds, codes_keep, codes_first, EndMoment}
+use Rattle.mv_plan.proofs.ends.{HasEnd, Codes, KeepsEnds, codes_keep, codes_first, EndMoment}
 use Rattle.mv_plan.proofs.ends.{IsFreeToOffer, traces_keep, IsComplete, posted_keeps, posted_first, HasRightMark, code_list, traces_first}
 use Rattle.mv_plan.proofs.ends.{WriterHas, HasFound, writer_has_keeps, writer_has_first, Traces}
 use Rattle.mv_plan.proofs.standing.{RowAt}
-use Rattle.mv_plan.proofs.points.{program_at, writer_program, Point, Finished, SchedulerAt, InitiatorAt}
+use Rattle.mv_plan.proofs.points.{program_at, writer_program, Point, Finished, SchedulerAt, InitiatorAt, OfJob, ForScheduler, ForWriter}
 use Rattle.mv_plan.proofs.ends.Posted.{Posted}
 use Rattle.mv_plan.proofs.walks.{Stood, stood, AreFinished, run_finished, none_lost_at_end, Points, start_points, Move, TasksStand}
 use Rattle.mv_plan.proofs.walks.{standing, NoneLost}
@@ -93,9 +93,9 @@ module _ (deck : List JobData) (initiators : ℕ) (some : 1 ≤ initiators) (sou
       let w : IsComplete s (end_for_writer (length deck) j) = all j lt in
       let v : IsComplete s (end_for_scheduler (length deck) j) = (h.posted.order j lt).1 w in
       let d : IsComplete s (done (length deck) j) = (h.posted.order j lt).0 v in (
-        of (done (length deck) j) (done_has refl) d,
-        of (end_for_scheduler (length deck) j) (scheduler_has refl) v,
-        of (end_for_writer (length deck) j) (writer_has refl) w,
+        of (done (length deck) j) (OfJob, refl) d,
+        of (end_for_scheduler (length deck) j) (ForScheduler, refl) v,
+        of (end_for_writer (length deck) j) (ForWriter, refl) w,
       ) where
         of : (b : ℕ) → HasEnd (length deck) j b → IsComplete s b → post_codes b es ≡ end_of deck j ∷ []
         of b has w = h.traces.codes j b lt has ∙ complete_list (s.ecb b).state w.0 w.1

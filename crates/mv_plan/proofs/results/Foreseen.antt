@@ -17,7 +17,7 @@ use Rattle.mv_plan.proofs.points.{Astray, Awaited, ForEntry, ForEnds, ForIdle, T
 use Rattle.mv_plan.proofs.points.{reader_goes, SchedulerAt, Waits, Extends, awaited_blocks, awaited_count, scheduler_asks, scheduler_goes}
 use Rattle.mv_plan.proofs.points.{arming_first, arming_from, settling_from, found_at, ends_at, lowest_at, on_posted, on_armed, on_settled}
 use Rattle.mv_plan.proofs.points.{WriterAt, Keeping, writer_asks, writer_goes, writing_from, writer_arming, end_found, Hand, Running}
-use Rattle.mv_plan.proofs.points.{running, InitiatorAt, Opening, Pausing, Resuming, EndingJob, EndingForWriter, Closing, initiator_asks}
+use Rattle.mv_plan.proofs.points.{running, InitiatorAt, Opening, Pausing, Resuming, Ending, OfJob, ForWriter, Closing, initiator_asks}
 use Rattle.mv_plan.proofs.points.{initiator_goes, rounds_from, rounds_after, freeing_at, steps_at, job_start, named_at, given_at, on_opened}
 use Rattle.mv_plan.proofs.points.{on_paused, on_resumed, on_closed, on_ended, InJob, IsSchedulerAt, code_held, jobs_of, IsNotLost}
 use Rattle.mv_plan.proofs.points.{IsOfRounds}
@@ -271,9 +271,9 @@ module _ (deck : List JobData) (initiators : ℕ) (sound : ArePlannedJobs 0 deck
   initiator_foreseen Opening r d st over w a = opened_foreseen deck _ _ (element_of s i) r (cc a) w
   initiator_foreseen (Pausing more before g) r d st over w a = grind (arith, common_steps, paused_foreseen, gift_foreseen)
   initiator_foreseen (Resuming more before g) r d st over w a = grind (arith, common_steps, resumed_foreseen, gift_foreseen)
-  initiator_foreseen (InJob run (EndingJob code counts)) r d st over w a =
+  initiator_foreseen (InJob run (Ending OfJob code counts)) r d st over w a =
       ended_foreseen run code counts (s.ecb (done size run.job)).state r (cc a) (after_foreseen size run st.round)
-  initiator_foreseen (InJob run (EndingForWriter code counts)) r d st over w a =
+  initiator_foreseen (InJob run (Ending ForWriter code counts)) r d st over w a =
       post_foreseen (rounds_after run) code (s.ecb (end_for_writer size run.job)).state r (cc a) (after_foreseen size run st.round)
   initiator_foreseen (Closing g) r d st over w a = closed_foreseen deck _ _ g (element_of s i) r (cc a) w
   initiator_foreseen x r d st over w a = grind (arith, common_steps)

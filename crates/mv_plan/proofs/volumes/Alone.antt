@@ -10,7 +10,7 @@ use Rattle.mv_plan.proofs.latches.{touched, counted_on, excludes, Apart, hands_n
 use Rattle.mv_plan.proofs.latches.Hands.{Hands}
 use Rattle.mv_plan.proofs.points.{IsInitiatorAt, on_posted_keeps, Point, At, Running, Hand, empty_hand, InitiatorAt, Opening, Offering}
 use Rattle.mv_plan.proofs.points.{Pausing, Resuming, Obtaining, Confirming, Freeing, Reading, Writing, Scanning, Rescanning, Purging}
-use Rattle.mv_plan.proofs.points.{EndingJob, EndingForScheduler, EndingForWriter, Closing, initiator_asks, initiator_goes, rounds_from}
+use Rattle.mv_plan.proofs.points.{Ending, OfJob, ForScheduler, ForWriter, Closing, initiator_asks, initiator_goes, rounds_from}
 use Rattle.mv_plan.proofs.points.{rounds_after, steps_at, running, job_start, given_at, InJob, IsSignal, freeing_lands, given_lands}
 use Rattle.mv_plan.proofs.points.{counting_lands, ended_lands}
 use Rattle.mv_plan.proofs.walks.{who_moved, mover_asked, Points, Move, Always, always_now, always_next, AreSound, Mover, mover_else}
@@ -107,12 +107,12 @@ leads deck (InJob run (Writing hand volume amount number steps)) (Reply.Volume V
 leads deck (InJob run (Scanning hand volume steps)) (Reply.Volume (VolumeReply.Value number)) = (refl, refl)
 leads deck (InJob run (Rescanning hand volume number steps)) (Reply.Volume (VolumeReply.Value again)) = steps_lead _ _ run hand steps
 leads deck (InJob run (Purging hand code)) (Reply.Latch (LatchReply.Purged removed count)) = tt
-leads deck (InJob run (EndingJob code counts)) r =
-    ended_lands (LeadsTo (InJob run (EndingJob code counts)) r) tt run code counts r tt (rounds_lead _ _ run.more _ run.generation)
-leads deck (InJob run (EndingForScheduler code counts)) r =
-    on_posted_keeps (LeadsTo (InJob run (EndingForScheduler code counts)) r) (At (InJob run (EndingForWriter code counts))) r tt tt
-leads deck (InJob run (EndingForWriter code counts)) r =
-    on_posted_keeps (LeadsTo (InJob run (EndingForWriter code counts)) r) (rounds_after run) r
+leads deck (InJob run (Ending OfJob code counts)) r =
+    ended_lands (LeadsTo (InJob run (Ending OfJob code counts)) r) tt run code counts r tt (rounds_lead _ _ run.more _ run.generation)
+leads deck (InJob run (Ending ForScheduler code counts)) r =
+    on_posted_keeps (LeadsTo (InJob run (Ending ForScheduler code counts)) r) (At (InJob run (Ending ForWriter code counts))) r tt tt
+leads deck (InJob run (Ending ForWriter code counts)) r =
+    on_posted_keeps (LeadsTo (InJob run (Ending ForWriter code counts)) r) (rounds_after run) r
     (rounds_lead _ _ run.more _ run.generation) tt
 leads deck (Closing g) (Reply.Element ElementReply.Closed) = tt
 leads deck x r = tt

@@ -2,15 +2,14 @@
 -- of a history, caller by caller, to walks.
 use Rattle.mv_plan.proofs.Words.{◌≡◌, ℕ, zero, suc, ◌+◌, ◌*◌, ◌<◌, ◌≤◌, true, List, [], ◌∷◌, length, Some, inl, inr, refl, ap, ◌∙◌, subst}
 use Rattle.mv_plan.proofs.Words.{arith, AllByRecursion, cases_eq, ecb_step, Wake, Entry, Object, Ecb, Op, Reply, IsNext, next, Setup}
-use Rattle.mv_plan.proofs.Words.{is_exit_of, System, reply_to, with_at, JobData, Kept, Program, asks, heard, entered, end_for_scheduler}
-use Rattle.mv_plan.proofs.Words.{end_for_writer, idle, reader, scheduler, initiator, writer, programs_after, done, EcbOp, EcbReply}
-use Rattle.mv_plan.proofs.Words.{common_steps}
+use Rattle.mv_plan.proofs.Words.{is_exit_of, System, reply_to, with_at, JobData, Kept, Program, asks, heard, entered, idle, reader}
+use Rattle.mv_plan.proofs.Words.{scheduler, initiator, writer, programs_after, done, EcbOp, EcbReply, common_steps}
 use Rattle.mv_calls.proofs.Interleaved.{FollowFrom}
 use Rattle.mv_calls.proofs.Hearing.{hearing}
 use Rattle.mv_plan.proofs.deck.{ArePlannedJobs, Facts}
 use Rattle.mv_plan.proofs.points.{Point, At, ReaderAt, Entering, reader_asks, reader_goes, SchedulerAt, scheduler_asks, scheduler_goes}
-use Rattle.mv_plan.proofs.points.{WriterAt, writer_asks, writer_goes, InitiatorAt, Offering, Freeing, Purging, EndingJob}
-use Rattle.mv_plan.proofs.points.{EndingForScheduler, EndingForWriter, initiator_asks, initiator_goes, InJob, program_at, reader_program}
+use Rattle.mv_plan.proofs.points.{WriterAt, writer_asks, writer_goes, InitiatorAt, Offering, Freeing, Purging, Ending, OfJob}
+use Rattle.mv_plan.proofs.points.{end_block, initiator_asks, initiator_goes, InJob, program_at, reader_program}
 use Rattle.mv_plan.proofs.points.{scheduler_program, writer_program, initiator_program, IsPlainPost, keeps, IsReaderAt, IsWriterAt}
 use Rattle.mv_plan.proofs.points.{reader_says, reader_hears, writer_says, writer_hears, IsPlainReply, WokeAs, PostNothing, initiator_says}
 use Rattle.mv_plan.proofs.points.{initiator_hears, InitiatorStands, scheduler_says, scheduler_hears, SchedulerStands}
@@ -83,17 +82,14 @@ module _ (c : Setup) (deck : List JobData) (initiators : ℕ) (facts : Facts c (
       → Some r ≡ reply_to s k (initiator_asks (length deck) i x).0 (initiator_asks (length deck) i x).1 → IsPlainReply x r ws
   foreseen s i kept k (Offering more before g) r ws f st w e =
       plain_post c s k (idle (length deck) i) g r f (no_exit (idle (length deck) i) (λ j lt q. absurd (omega arith))) e
-  foreseen s i kept k (InJob run (EndingForScheduler code counts)) r ws f st w e =
-      plain_post c s k (end_for_scheduler (length deck) run.job) code r f
-      (no_exit (end_for_scheduler (length deck) run.job) (λ j lt q. absurd (omega arith))) e
-  foreseen s i kept k (InJob run (EndingForWriter code counts)) r ws f st w e =
-      plain_post c s k (end_for_writer (length deck) run.job) code r f
-      (no_exit (end_for_writer (length deck) run.job) (λ j lt q. absurd (omega arith))) e
-  foreseen s i kept k (InJob run (EndingJob code counts)) r ws f st w e = woke_as c s k (done (length deck) run.job) run.job code r f
+  foreseen s i kept k (InJob run (Ending OfJob code counts)) r ws f st w e = woke_as c s k (done (length deck) run.job) run.job code r f
       (λ x q. let r : (j : ℕ) × (j < length deck) × (x ≡ j + 1) × (done (length deck) run.job ≡ done (length deck) j) = facts.sources x
       (done (length deck) run.job) q in only x r.0 r.2 r.3) e where
         only : (x j : ℕ) → x ≡ j + 1 → done (length deck) run.job ≡ done (length deck) j → x ≡ run.job + 1
         only x j a b = omega arith
+  foreseen s i kept k (InJob run (Ending post code counts)) r ws f st w e =
+      plain_post c s k (end_block (length deck) run.job post) code r f
+      (no_exit (end_block (length deck) run.job post) (λ j lt q. absurd (omega arith))) e
   foreseen s i kept k (InJob run (Freeing hand latch id steps)) r ws f st w e = w
   foreseen s i kept k (InJob run (Purging hand code)) r ws f st w e = w
   foreseen s i kept k x r ws f st w e = tt
