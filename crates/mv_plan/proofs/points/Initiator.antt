@@ -17,10 +17,10 @@ use Rattle.mv_plan.specs.SpoolTasks.{job_done}
 use Rattle.mv_plan.proofs.deck.{ArePlannedJobs, Facts}
 use Rattle.mv_plan.proofs.points.Points.{At, Astray, Grant, Running, Hand, empty_hand, hand_with, hand_without, InitiatorAt, Opening}
 use Rattle.mv_plan.proofs.points.Points.{Offering, Pausing, Resuming, Obtaining, Confirming, Freeing, Reading, Writing, Scanning}
-use Rattle.mv_plan.proofs.points.Points.{Rescanning, Purging, Ending, OfJob, ForScheduler, ForWriter, Closing, initiator_asks}
+use Rattle.mv_plan.proofs.points.Points.{Rescanning, Purging, Ending, OfJob, Closing, initiator_asks}
 use Rattle.mv_plan.proofs.points.Points.{initiator_goes, rounds_from, rounds_after, steps_at, running, job_start, named_at, given_at, InJob}
-use Rattle.mv_plan.proofs.points.Programs.{program_at, posting_next, rounds_rest, given_rest, ending, stepping, steps_rest, obtained_rest}
-use Rattle.mv_plan.proofs.points.Programs.{initiator_program, post_is_now, IsPlainPost, posted_goes, keeps}
+use Rattle.mv_plan.proofs.points.Programs.{program_at, rounds_rest, given_rest, ending, stepping, steps_rest, obtained_rest}
+use Rattle.mv_plan.proofs.points.Programs.{initiator_program, post_is_now, IsPlainPost, keeps}
 use Rattle.mv_plan.proofs.points.InitiatorSound.{IsRound, IsStepping, InitiatorKept, InitiatorStands, standing_of, rises_few, named_is}
 use Rattle.mv_plan.proofs.points.InitiatorSound.{job_sound, obtained_stand, pushed_kept, freed_stand, freed_kept, step_done}
 
@@ -213,15 +213,6 @@ module _ (c : Setup) (deck : List JobData) (initiators i : ℕ) (facts : Facts c
           after : ℕ → List ℕ → ℕ → Program (List ℕ)
           after depth es m = ending c deck i run (kept_by kept (InJob run (Ending OfJob code counts)) (Reply.Ecb (EcbReply.Woke (suc x))))
               (and_then (each_posted (post_within depth c code) es (Woke m)) (λ p. Done counts))
-    goes (InJob run (Ending OfJob code counts)) (Reply.Ecb (EcbReply.Woke zero)) s f = rounds_after_enter run _
-    goes (InJob run (Ending OfJob code counts)) (Reply.Ecb EcbReply.Posted) s f = rounds_after_enter run _
-    goes (InJob run (Ending OfJob code counts)) (Reply.Ecb (EcbReply.Already old)) s f = rounds_after_enter run _
-    goes (InJob run (Ending ForScheduler code counts)) r s f = grind (arith, common_steps)
-    goes (InJob run (Ending ForWriter code counts)) r s f =
-        posted_goes c _ (λ p. ending c deck i run now
-        (and_then (and_then p (λ p. each_posted (posting_next c code) [] (Woke (run.job + 1)))) (λ p. Done counts)))
-        (initiator_program c deck i now) (rounds_after run) r (λ p. rounds_after_enter run now) refl f where
-          now : Kept
-          now = kept_by kept (InJob run (Ending ForWriter code counts)) r
+    goes (InJob run (Ending post code counts)) r s f = grind (arith, common_steps, rounds_after_enter)
     goes (Closing g) (Reply.Element ElementReply.Closed) s f = refl
     goes x r s f = refl

@@ -9,10 +9,10 @@ use Rattle.mv_machine.specs.Kept.{StandingRequest, is_named, is_for, less}
 use Rattle.mv_plan.proofs.deck.{Held, is_held, ArePlannedSteps, ArePlannedJobs, sound_job}
 use Rattle.mv_plan.proofs.points.Points.{Point, At, Grant, Running, Hand, hand_with, without_latch, hand_without, hand_at, InitiatorAt}
 use Rattle.mv_plan.proofs.points.Points.{Opening, Offering, Pausing, Resuming, Obtaining, Confirming, Freeing, Reading, Writing, Scanning}
-use Rattle.mv_plan.proofs.points.Points.{Rescanning, Purging, Ending, OfJob, ForWriter, initiator_asks}
+use Rattle.mv_plan.proofs.points.Points.{Rescanning, Purging, Ending, initiator_asks}
 use Rattle.mv_plan.proofs.points.Points.{initiator_goes, rounds_after, steps_at, running, job_start, given_at, InJob}
-use Rattle.mv_plan.proofs.points.Programs.{on_posted_keeps, keeps}
-use Rattle.mv_plan.proofs.points.Lands.{rounds_land, given_lands, ended_lands}
+use Rattle.mv_plan.proofs.points.Programs.{keeps}
+use Rattle.mv_plan.proofs.points.Lands.{rounds_land, given_lands}
 
 -- ---- rounds
 
@@ -300,11 +300,7 @@ initiator_stands deck i kept (InJob run (Writing hand volume amount number steps
     search (rules, steps_stand, step_done)
 initiator_stands deck i kept (InJob run (Rescanning hand volume number steps)) (Reply.Volume (VolumeReply.Value again)) sound s =
     search (rules, steps_stand, step_done)
-initiator_stands deck i kept (InJob run (Ending OfJob code counts)) r sound s =
-    ended_lands (InitiatorStands deck i (keeps kept (initiator_asks (length deck) i (InJob run (Ending OfJob code counts))) r)) (tt, tt)
-    run code counts r (s.0, record { caller = s.1.caller; stand = s.1.stand })
-    (rounds_stand deck i sound _ run s.0.round (record { caller = s.1.caller; stand = s.1.stand }))
-initiator_stands deck i kept (InJob run (Ending ForWriter code counts)) r sound s =
-    on_posted_keeps (InitiatorStands deck i (keeps kept (initiator_asks (length deck) i (InJob run (Ending ForWriter code counts))) r))
-    (rounds_after run) r (rounds_stand deck i sound _ run s.0.round (record { caller = s.1.caller; stand = s.1.stand })) (tt, tt)
+initiator_stands deck i kept (InJob run (Ending post code counts)) r sound s =
+    let next = rounds_stand deck i sound (keeps kept (initiator_asks (length deck) i (InJob run (Ending post code counts))) r) run
+    s.0.round (record { caller = s.1.caller; stand = s.1.stand }) in grind (arith, common_steps)
 initiator_stands deck i kept x r sound s = grind (arith, common_steps, standing_purged)

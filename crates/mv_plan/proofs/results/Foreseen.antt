@@ -4,7 +4,7 @@ use Rattle.mv_plan.proofs.Words.{◌≡◌, ℕ, ◌<◌, ◌≤◌, ◌==◌, B
 use Rattle.mv_plan.proofs.Words.{job_named, code_of, not_to_run, AreDistinct, common_steps, zero, suc, ◌+◌, true, IsTrue, if◌then◌else◌}
 use Rattle.mv_plan.proofs.Words.{◌++◌, Option, None, ◌⊎◌, inl, inr, refl, sym, ap, ◌∙◌, subst, eq-eqb, leb-true, ecb_step, EcbState}
 use Rattle.mv_plan.proofs.Words.{Extended, ElementState, element_step, Reply, Setup, owner_of, System, admitted, reply_to, JobData, After}
-use Rattle.mv_plan.proofs.Words.{Step, Print, job_at, Counts, reader, scheduler, initiator, writer, end_for_writer, complete_count, Free}
+use Rattle.mv_plan.proofs.Words.{Step, Print, job_at, reader, scheduler, initiator, writer, end_for_writer, complete_count, Free}
 use Rattle.mv_plan.proofs.Words.{done, EcbOp, EcbReply, ElementOp}
 use Rattle.mv_calls.proofs.Distinct.{few, none_found}
 use Rattle.mv_ecb.specs.Word.{Waiting}
@@ -15,12 +15,11 @@ use Rattle.mv_plan.proofs.standing.{Offers, Parks, RowAt, element_of, Row}
 use Rattle.mv_plan.proofs.points.{IsWriterAt, IsInitiatorAt, IsRound, IsRunning, held_of, held_request, job_sound, Point, At, TooSoon}
 use Rattle.mv_plan.proofs.points.{Astray, Awaited, ForEntry, ForEnds, ForIdle, ToDismiss, Arming, Settling, ReaderAt, Entering, reader_asks}
 use Rattle.mv_plan.proofs.points.{reader_goes, SchedulerAt, Waits, Extends, awaited_blocks, awaited_count, scheduler_asks, scheduler_goes}
-use Rattle.mv_plan.proofs.points.{arming_first, arming_from, settling_from, found_at, ends_at, lowest_at, on_posted, on_armed, on_settled}
-use Rattle.mv_plan.proofs.points.{WriterAt, Keeping, writer_asks, writer_goes, writing_from, writer_arming, end_found, Hand, Running}
-use Rattle.mv_plan.proofs.points.{running, InitiatorAt, Opening, Pausing, Resuming, Ending, OfJob, ForWriter, Closing, initiator_asks}
-use Rattle.mv_plan.proofs.points.{initiator_goes, rounds_from, rounds_after, freeing_at, steps_at, job_start, named_at, given_at, on_opened}
-use Rattle.mv_plan.proofs.points.{on_paused, on_resumed, on_closed, on_ended, InJob, IsSchedulerAt, code_held, jobs_of, IsNotLost}
-use Rattle.mv_plan.proofs.points.{IsOfRounds}
+use Rattle.mv_plan.proofs.points.{arming_first, arming_from, settling_from, found_at, ends_at, lowest_at, on_armed, on_settled, WriterAt}
+use Rattle.mv_plan.proofs.points.{Keeping, writer_asks, writer_goes, writing_from, writer_arming, end_found, Hand, Running, running}
+use Rattle.mv_plan.proofs.points.{InitiatorAt, Opening, Pausing, Resuming, Ending, Closing, initiator_asks, initiator_goes, rounds_from}
+use Rattle.mv_plan.proofs.points.{freeing_at, steps_at, job_start, named_at, given_at, on_opened, on_paused, on_resumed, on_closed, InJob}
+use Rattle.mv_plan.proofs.points.{IsSchedulerAt, code_held, jobs_of, IsNotLost, IsOfRounds}
 use Rattle.mv_plan.proofs.walks.Fits.{Fits}
 use Rattle.mv_plan.proofs.places.{element_code}
 use Rattle.mv_plan.proofs.ends.{IsCode}
@@ -48,10 +47,6 @@ IsForeseen Astray = ⊥
 IsForeseen p = Unit {0}
 
 -- ---- replies of blocks
-
-post_foreseen : {X : Type 0} (p : Point X) (code : ℕ) (v : EcbState) (r : Reply) → r ≡ Reply.Ecb (ecb_step (EcbOp.Post code) v).1
-    → IsForeseen p → IsForeseen (on_posted p r)
-post_foreseen p code y r e w = grind (arith, common_steps)
 
 arm_foreseen : {X : Type 0} (p : Point X) (v : EcbState) (r : Reply) → r ≡ Reply.Ecb (ecb_step EcbOp.Arm v).1 → (v ≡ Waiting → ⊥)
     → ((y : ℕ) → v ≡ Extended y → ⊥) → IsForeseen p → IsForeseen (on_armed p r)
@@ -198,13 +193,6 @@ round_left n run r =
     let lt = fewer n run.before run.job r.round.below r.round.distinct r.job (not_found run.before run.job r.new) in
     let whole = r.round.count in omega arith
 
-after_foreseen : (n : ℕ) (run : Running) → IsRunning n run → IsForeseen (rounds_after run)
-after_foreseen n run r = rounds_foreseen run.more (run.before ++ run.job ∷ []) run.generation (round_left n run r)
-
-ended_foreseen : (run : Running) (code : ℕ) (counts : Counts) (v : EcbState) (r : Reply)
-    → r ≡ Reply.Ecb (ecb_step (EcbOp.Post code) v).1 → IsForeseen (rounds_after run) → IsForeseen (on_ended run code counts r)
-ended_foreseen run code counts y r e w = grind (arith, common_steps)
-
 -- where a given code is right, and names no job that was named before
 module _ (deck : List JobData) (sound : ArePlannedJobs 0 deck) (small : length deck ≤ not_to_run) (before : List ℕ) (more : ℕ)
     (round : IsRound (length deck) more before) where
@@ -271,9 +259,8 @@ module _ (deck : List JobData) (initiators : ℕ) (sound : ArePlannedJobs 0 deck
   initiator_foreseen Opening r d st over w a = opened_foreseen deck _ _ (element_of s i) r (cc a) w
   initiator_foreseen (Pausing more before g) r d st over w a = grind (arith, common_steps, paused_foreseen, gift_foreseen)
   initiator_foreseen (Resuming more before g) r d st over w a = grind (arith, common_steps, resumed_foreseen, gift_foreseen)
-  initiator_foreseen (InJob run (Ending OfJob code counts)) r d st over w a =
-      ended_foreseen run code counts (s.ecb (done size run.job)).state r (cc a) (after_foreseen size run st.round)
-  initiator_foreseen (InJob run (Ending ForWriter code counts)) r d st over w a =
-      post_foreseen (rounds_after run) code (s.ecb (end_for_writer size run.job)).state r (cc a) (after_foreseen size run st.round)
+  initiator_foreseen (InJob run (Ending post code counts)) r d st over w a =
+      let next = rounds_foreseen run.more (run.before ++ run.job ∷ []) run.generation (round_left size run st.round) in
+      grind (arith, common_steps)
   initiator_foreseen (Closing g) r d st over w a = closed_foreseen deck _ _ g (element_of s i) r (cc a) w
   initiator_foreseen x r d st over w a = grind (arith, common_steps)

@@ -8,11 +8,9 @@ use Rattle.mv_plan.proofs.Words.{common_steps}
 use Rattle.mv_machine.proofs.EntryRuns.{entry_of}
 use Rattle.mv_plan.proofs.latches.{touched, counted_on, excludes, Apart, hands_next, hands_start}
 use Rattle.mv_plan.proofs.latches.Hands.{Hands}
-use Rattle.mv_plan.proofs.points.{IsInitiatorAt, on_posted_keeps, Point, At, Running, Hand, empty_hand, InitiatorAt, Opening, Offering}
-use Rattle.mv_plan.proofs.points.{Pausing, Resuming, Obtaining, Confirming, Freeing, Reading, Writing, Scanning, Rescanning, Purging}
-use Rattle.mv_plan.proofs.points.{Ending, OfJob, ForScheduler, ForWriter, Closing, initiator_asks, initiator_goes, rounds_from}
-use Rattle.mv_plan.proofs.points.{rounds_after, steps_at, running, job_start, given_at, InJob, IsSignal, freeing_lands, given_lands}
-use Rattle.mv_plan.proofs.points.{counting_lands, ended_lands}
+use Rattle.mv_plan.proofs.points.{IsInitiatorAt, Point, At, Running, Hand, empty_hand, InitiatorAt, Pausing, Resuming, Obtaining}
+use Rattle.mv_plan.proofs.points.{Confirming, Freeing, Reading, Writing, Scanning, Rescanning, initiator_asks, initiator_goes, rounds_from}
+use Rattle.mv_plan.proofs.points.{steps_at, running, job_start, given_at, InJob, IsSignal, freeing_lands, given_lands}
 use Rattle.mv_plan.proofs.walks.{who_moved, mover_asked, Points, Move, Always, always_now, always_next, AreSound, Mover, mover_else}
 use Rattle.mv_plan.proofs.walks.{start_points, WalkTo, always_rest, always_front, mover_goes, walk-parts}
 use Rattle.mv_plan.proofs.lists.{with_at-same, with_at-other, all_but}
@@ -95,27 +93,14 @@ module _ (x : InitiatorAt) (r : Reply) where
       (λ named left e t m. start_lead (running named before (suc left) g) (job_at deck named.job) named.skipped)
 
 pub leads : (deck : List JobData) (x : InitiatorAt) (r : Reply) → LeadsTo x r (initiator_goes deck x r)
-leads deck Opening (Reply.Element (ElementReply.Opened g)) = rounds_lead _ _ (length deck + 1) [] g
-leads deck (Offering more before g) r = on_posted_keeps (LeadsTo (Offering more before g) r) (At (Pausing more before g)) r tt tt
 leads deck (Pausing more before g) (Reply.Element (ElementReply.Given code now)) = given_lead _ _ deck more before code now
 leads deck (Resuming more before g) (Reply.Element (ElementReply.Given code now)) = given_lead _ _ deck more before code now
 leads deck (InJob run (Obtaining hand latch mode steps)) (Reply.Latch (LatchReply.Granted id)) = steps_lead _ _ run _ steps
 leads deck (InJob run (Confirming hand latch mode id steps)) (Reply.Latch (LatchReply.Granted same)) = steps_lead _ _ run _ steps
 leads deck (InJob run (Freeing hand latch id steps)) (Reply.Latch (LatchReply.Released count)) = steps_lead _ _ run _ steps
-leads deck (InJob run (Reading hand volume amount steps)) (Reply.Volume (VolumeReply.Value number)) = search (rules, counting_lands)
 leads deck (InJob run (Writing hand volume amount number steps)) (Reply.Volume VolumeReply.Stored) = steps_lead _ _ run hand steps
-leads deck (InJob run (Scanning hand volume steps)) (Reply.Volume (VolumeReply.Value number)) = (refl, refl)
 leads deck (InJob run (Rescanning hand volume number steps)) (Reply.Volume (VolumeReply.Value again)) = steps_lead _ _ run hand steps
-leads deck (InJob run (Purging hand code)) (Reply.Latch (LatchReply.Purged removed count)) = tt
-leads deck (InJob run (Ending OfJob code counts)) r =
-    ended_lands (LeadsTo (InJob run (Ending OfJob code counts)) r) tt run code counts r tt (rounds_lead _ _ run.more _ run.generation)
-leads deck (InJob run (Ending ForScheduler code counts)) r =
-    on_posted_keeps (LeadsTo (InJob run (Ending ForScheduler code counts)) r) (At (InJob run (Ending ForWriter code counts))) r tt tt
-leads deck (InJob run (Ending ForWriter code counts)) r =
-    on_posted_keeps (LeadsTo (InJob run (Ending ForWriter code counts)) r) (rounds_after run) r
-    (rounds_lead _ _ run.more _ run.generation) tt
-leads deck (Closing g) (Reply.Element ElementReply.Closed) = tt
-leads deck x r = tt
+leads deck x r = grind (arith, common_steps, rounds_lead)
 
 module _ (c : Setup) (s : System) (deck : List JobData) (i : ℕ) where
   abbrev pub volumes_asked : InitiatorAt → Numbers
