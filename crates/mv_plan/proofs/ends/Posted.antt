@@ -2,17 +2,17 @@
 -- and nothing is posted twice. Uses places only before the event.
 use Rattle.mv_plan.proofs.Words.{◌≡◌, ℕ, ◌+◌, ◌<◌, ◌≤◌, Bool, List, length, Some, ◌⊎◌, inl, inr, refl, sym, ap, ◌∙◌, subst, arith, ecb_step}
 use Rattle.mv_plan.proofs.Words.{EcbState, Zero, Extended, Complete, Entry, Object, Ecb, Element, Op, Reply, IsNext, Setup, System, moved}
-use Rattle.mv_plan.proofs.Words.{opening, with_at, JobData, entered, end_for_scheduler, end_for_writer, idle, initiator, code_of}
+use Rattle.mv_plan.proofs.Words.{opening, with_at, JobData, Counts, entered, end_for_scheduler, end_for_writer, idle, initiator, code_of}
 use Rattle.mv_plan.proofs.Words.{not_to_run, done, EcbOp, EcbReply, ElementOp, common_steps, rules}
 use Rattle.mv_plan.proofs.points.{Point, At, Finished, TooSoon, Astray, ReaderAt, Entering, reader_asks, reader_goes, rounds_after}
 use Rattle.mv_plan.proofs.points.{SchedulerAt, Waits, Extends, Clears, Releases, scheduler_asks, scheduler_goes, WriterAt, writer_asks}
-use Rattle.mv_plan.proofs.points.{Running, InitiatorAt, Ending, OfJob, ForScheduler, ForWriter, initiator_asks, initiator_goes}
-use Rattle.mv_plan.proofs.points.{InJob, on_posted_keeps, IsReaderAt, IsWriterAt, IsSchedulerAt, stage_extended, awaited_extended}
-use Rattle.mv_plan.proofs.points.{IsInitiatorAt, named_is, ByStage, stage_map, stage_goes, NotEnding, AllNext, goes_next, next_grows}
-use Rattle.mv_plan.proofs.points.{code_held, run_of, next_job, rounds_land, ended_lands}
+use Rattle.mv_plan.proofs.points.{Running, InitiatorAt, EndPost, end_block, Ending, OfJob, ForScheduler, ForWriter, initiator_asks}
+use Rattle.mv_plan.proofs.points.{initiator_goes, InJob, on_posted_keeps, IsReaderAt, IsWriterAt, IsSchedulerAt, stage_extended}
+use Rattle.mv_plan.proofs.points.{awaited_extended, IsInitiatorAt, named_is, ByStage, stage_map, stage_goes, NotEnding, AllNext, goes_next}
+use Rattle.mv_plan.proofs.points.{next_grows, code_held, run_of, next_job, rounds_land, ended_lands}
 use Rattle.mv_plan.proofs.walks.{Points, start_points, TasksStand, KeepsUnder, by_moves, entry_of, block, element}
 use Rattle.mv_plan.proofs.places.{Ledger, RunBy, run_alone, run_released, run_unheld}
-use Rattle.mv_plan.proofs.ends.Blocks.{HasEnd, IsComplete, NotComplete, BlockAfter, block_moved}
+use Rattle.mv_plan.proofs.ends.Blocks.{HasEnd, one_post, IsComplete, NotComplete, BlockAfter, block_moved}
 use Rattle.mv_plan.proofs.ends.Blocks.{moved_there, complete_moved, not_moved, is_moved, held_moved}
 use Rattle.mv_plan.proofs.ends.Blocks.{initiator_no_release, run_below, at_post, posts_run, posts_no_entered, initiator_ecb}
 use Rattle.mv_plan.proofs.lists.{all_but}
@@ -41,24 +41,27 @@ abbrev pub entered_from : ℕ → Point ReaderAt → ℕ
 entered_from n (At (Entering j more)) = j
 entered_from n p = n
 
--- a job whose end is not posted; is posted, but not to the scheduler; not to the writer
+-- a job whose end is not posted
 abbrev pub NotDone : ℕ → System → ℕ → Type 0
 NotDone n s j = NotComplete s (done n j)
 
-abbrev pub NotToScheduler : ℕ → System → ℕ → Type 0
-NotToScheduler n s j = NotComplete s (end_for_scheduler n j) × IsComplete s (done n j)
+-- what is posted before a post of a job's end
+abbrev pub PostedBefore : ℕ → System → EndPost → ℕ → Type 0
+PostedBefore n s OfJob j = Unit {0}
+PostedBefore n s ForScheduler j = IsComplete s (done n j)
+PostedBefore n s ForWriter j = IsComplete s (end_for_scheduler n j)
 
-abbrev pub NotToWriter : ℕ → System → ℕ → Type 0
-NotToWriter n s j = NotComplete s (end_for_writer n j) × IsComplete s (end_for_scheduler n j)
+-- a post that is next: it is not made, and what is before it is
+abbrev pub IsPostNext : ℕ → System → EndPost → ℕ → Type 0
+IsPostNext n s post j = NotComplete s (end_block n j post) × PostedBefore n s post j
 
--- so of the job that an initiator runs, by how far its end was posted
+-- so of the job that an initiator runs
 abbrev pub EndStage : ℕ → System → Point InitiatorAt → Type 0
-EndStage n s = ByStage (NotDone n s) (NotToScheduler n s) (NotToWriter n s)
+EndStage n s = ByStage (IsPostNext n s)
 
 -- a job's ends are posted in this order
 abbrev pub IsInOrder : ℕ → System → ℕ → Type 0
-IsInOrder n s j = (IsComplete s (end_for_scheduler n j) → IsComplete s (done n j))
-    × (IsComplete s (end_for_writer n j) → IsComplete s (end_for_scheduler n j))
+IsInOrder n s j = (post : EndPost) → IsComplete s (end_block n j post) → PostedBefore n s post j
 
 pub record Posted (deck : List JobData) (initiators : ℕ) (s : System) (t : Points) : Type 0 where
   -- a job's entered block is not complete before the reader posts it
@@ -116,17 +119,19 @@ done_map n s s' (Finished answer) f h = f n (omega arith) h
 done_map n s s' TooSoon f h = tt
 done_map n s s' Astray f h = tt
 
+-- what was posted stays so where each block with an end of the job that is complete stays so
+before_stays : (n : ℕ) (s s' : System) (j : ℕ) → ((b : ℕ) → HasEnd n j b → IsComplete s b → IsComplete s' b) → (post : EndPost)
+    → PostedBefore n s post j → PostedBefore n s' post j
+before_stays n s s' j still OfJob w = tt
+before_stays n s s' j still ForScheduler w = still _ (OfJob, refl) w
+before_stays n s s' j still ForWriter w = still _ (ForScheduler, refl) w
+
 -- a stage stays where each block with an end of the job stays as it was, complete or not
 stage_stays : (n : ℕ) (s s' : System) (p : Point InitiatorAt)
     → ((run : Running) → run_of p ≡ Some run → (b : ℕ) → HasEnd n run.job b
     → (NotComplete s b → NotComplete s' b) × (IsComplete s b → IsComplete s' b)) → EndStage n s p → EndStage n s' p
-stage_stays n s s' p stays =
-    stage_map (NotDone n s) (NotToScheduler n s) (NotToWriter n s) (NotDone n s') (NotToScheduler n s') (NotToWriter n s') p
-    (λ run e. (
-      λ f. (stays run e _ (OfJob, refl)).0 f,
-      λ f. ((stays run e _ (ForScheduler, refl)).0 f.0, (stays run e _ (OfJob, refl)).1 f.1),
-      λ f. ((stays run e _ (ForWriter, refl)).0 f.0, (stays run e _ (ForScheduler, refl)).1 f.1),
-    ))
+stage_stays n s s' p stays = stage_map (IsPostNext n s) (IsPostNext n s') p (λ run e post f.
+    ((stays run e _ (post, refl)).0 f.0, before_stays n s s' run.job (λ b has. (stays run e b has).1) post f.1))
 
 module _ (deck : List JobData) (initiators : ℕ) where
   -- ---- an initiator's event
@@ -189,66 +194,50 @@ module _ (deck : List JobData) (initiators : ℕ) where
 
     -- then where it posts no end
     own_plain : NotEnding x → EndStage (length deck) i_after (initiator_goes deck x r)
-    own_plain plain = stage_goes (NotDone (length deck) i_after) (NotToScheduler (length deck) i_after)
-        (NotToWriter (length deck) i_after) deck x r plain
+    own_plain plain = stage_goes (IsPostNext (length deck) i_after) deck x r plain
         (stage_stays (length deck) s i_after (At x)
         (λ run e b has. (λ f. plain_end run.job b plain (job_below x run refl e) has f, still b)) (its_stage x refl))
-        (starts_held (λ run. NotDone (length deck) i_after run.job) deck c s i x p r next (λ code named before more g held e.
-        plain_end named.job _ plain (named_is (length deck) code named e).0 (OfJob, refl)
-        (h.handed i named.job named.skipped lt (named_is (length deck) code named e).0
-        (held ∙ ap (λ z. Some z) (named_is (length deck) code named e).1))))
+        (starts_held (λ run. IsPostNext (length deck) i_after OfJob run.job) deck c s i x p r next (λ code named before more g held e. (
+          plain_end named.job _ plain (named_is (length deck) code named e).0 (OfJob, refl)
+              (h.handed i named.job named.skipped lt (named_is (length deck) code named e).0
+              (held ∙ ap (λ z. Some z) (named_is (length deck) code named e).1)),
+          tt,
+        )))
 
     after_job : (run : Running) → EndStage (length deck) i_after (rounds_after run)
     after_job run = rounds_land (EndStage (length deck) i_after) tt run.more _ run.generation (λ left e. tt)
 
+    -- behind a post of its job's end, that post is made, and the next one is not
+    own_next : (run : Running) (post later : EndPost) (code : ℕ) (counts : Counts) → x ≡ InJob run (Ending post code counts)
+        → (post ≡ later → ⊥) → (IsComplete s (end_block (length deck) run.job later) → IsComplete s (end_block (length deck) run.job post))
+        → NotComplete i_after (end_block (length deck) run.job later) × IsComplete i_after (end_block (length deck) run.job post)
+    own_next run post later code counts is apart order =
+        let asked : asks ≡ (Ecb (end_block (length deck) run.job post), Op.Ecb (EcbOp.Post code)) =
+        ap (λ z. initiator_asks (length deck) i z) is in
+        let job = job_below _ run is refl in (
+          posts_alone _ _ code asked (λ e. apart (one_post (length deck) run.job run.job post later job job e).1)
+              (λ d e. let w = order (d, e) in (its_stage _ is).0 w.0 w.1),
+          posts _ code asked,
+        )
+
     -- and at each point
     own_stage : (y : InitiatorAt) → x ≡ y → EndStage (length deck) i_after (initiator_goes deck y r)
-    own_stage (InJob run (Ending OfJob code counts)) is =
-        let free = its_stage (InJob run (Ending OfJob code counts)) is in
-        let asked : asks ≡ (Ecb (done (length deck) run.job), Op.Ecb (EcbOp.Post code)) =
-        ap (λ z. initiator_asks (length deck) i z) is in
-        let job = job_below (InJob run (Ending OfJob code counts)) run is refl in
-        let order = (h.order run.job job).0 in ended_lands (EndStage (length deck) i_after) tt run code counts r (
-          posts_alone _ (end_for_scheduler (length deck) run.job) code asked (λ z. omega arith)
-              (λ d e. let w = order (d, e) in free w.0 w.1),
-          posts _ code asked,
-        ) (after_job run)
+    own_stage (InJob run (Ending OfJob code counts)) is = ended_lands (EndStage (length deck) i_after) tt run code counts r
+        (own_next run OfJob ForScheduler code counts is (λ e. cc e) (h.order run.job (job_below _ run is refl) ForScheduler))
+        (after_job run)
     own_stage (InJob run (Ending ForScheduler code counts)) is =
-        let free = its_stage (InJob run (Ending ForScheduler code counts)) is in
-        let asked : asks ≡ (Ecb (end_for_scheduler (length deck) run.job), Op.Ecb (EcbOp.Post code)) =
-        ap (λ z. initiator_asks (length deck) i z) is in
-        let job = job_below (InJob run (Ending ForScheduler code counts)) run is refl in
-        let order = (h.order run.job job).1 in
-        on_posted_keeps (EndStage (length deck) i_after) (At (InJob run (Ending ForWriter code counts))) r (
-          posts_alone _ (end_for_writer (length deck) run.job) code asked (λ z. omega arith)
-              (λ d e. let w = order (d, e) in free.0 w.0 w.1),
-          posts _ code asked,
-        ) tt
+        on_posted_keeps (EndStage (length deck) i_after) (At (InJob run (Ending ForWriter code counts))) r
+        (own_next run ForScheduler ForWriter code counts is (λ e. cc e) (h.order run.job (job_below _ run is refl) ForWriter)) tt
     own_stage y is = grind (arith, common_steps, own_plain)
 
     -- the order of its posts
-    for_scheduler : (j code : ℕ) → j < length deck → asks.0 ≡ Ecb (end_for_scheduler (length deck) j)
-        → asks.1 ≡ Op.Ecb (EcbOp.Post code) → IsComplete s (done (length deck) j)
-    for_scheduler j code below o op = grind (arith, common_steps)
-
-    for_writer : (j code : ℕ) → j < length deck → asks.0 ≡ Ecb (end_for_writer (length deck) j)
-        → asks.1 ≡ Op.Ecb (EcbOp.Post code) → IsComplete s (end_for_scheduler (length deck) j)
-    for_writer j code below o op = let w = at_post deck i x j ForWriter stands below o in
-        subst (λ z. IsComplete s (end_for_scheduler (length deck) z)) w.4 (its_stage _ w.3).1
-
     order_after : (j : ℕ) → j < length deck → IsInOrder (length deck) i_after j
-    order_after j below = (
-      λ w. elim (complete_moved s (initiator i) asks.0 asks.1
-          (end_for_scheduler (length deck) j) w.0 w.1) [
-            | inl before ↦ still _ ((h.order j below).0 (w.0, before))
-            | inr posted ↦ still _ (for_scheduler j w.0 below posted.0 posted.1)
-          ],
-      λ w. elim (complete_moved s (initiator i) asks.0 asks.1
-          (end_for_writer (length deck) j) w.0 w.1) [
-            | inl before ↦ still _ ((h.order j below).1 (w.0, before))
-            | inr posted ↦ still _ (for_writer j w.0 below posted.0 posted.1)
-          ],
-    )
+    order_after j below post w = before_stays (length deck) s i_after j (λ b has. still b) post
+        (elim (complete_moved s (initiator i) asks.0 asks.1 (end_block (length deck) j post) w.0 w.1) [
+          | inl before ↦ h.order j below post (w.0, before)
+          | inr posted ↦ let a = at_post deck i x j post stands below posted.0 in
+              subst (PostedBefore (length deck) s post) a.4 (its_stage _ a.3).1
+        ])
 
     -- the done blocks
     abbrev Moved : ℕ → Type 0
@@ -313,10 +302,8 @@ module _ (deck : List JobData) (initiators : ℕ) where
     ]
 
     quiet_order : (j : ℕ) → j < length deck → IsInOrder (length deck) (moved s k o op) j
-    quiet_order j below = (
-      λ w. quiet_still j _ below (OfJob, refl) ((h.order j below).0 (quiet_was j _ below (ForScheduler, refl) w)),
-      λ w. quiet_still j _ below (ForScheduler, refl) ((h.order j below).1 (quiet_was j _ below (ForWriter, refl) w)),
-    )
+    quiet_order j below post w = before_stays (length deck) s (moved s k o op) j (λ b has. quiet_still j b below has) post
+        (h.order j below post (quiet_was j _ below (post, refl) w))
 
     quiet_split : ((j : ℕ) → j < length deck → o ≡ Ecb (done (length deck) j) → ⊥) → (m : ℕ) → IsSplit (length deck) s m
         → IsSplit (length deck) (moved s k o op) m

@@ -5,7 +5,7 @@ use Rattle.mv_plan.proofs.Words.{◌≡◌, ℕ, suc, ◌<◌, Bool, true, false
 use Rattle.mv_plan.proofs.Words.{arith, ◌==◌, Reply, JobData, Step, job_at, list_any, Named, job_named, ElementReply, common_steps, Print}
 use Rattle.mv_plan.proofs.points.Points.{Point, At, Astray, Running, Hand, InitiatorAt, Pausing, Resuming, initiator_asks, initiator_goes}
 use Rattle.mv_plan.proofs.points.Points.{steps_at, job_start, rounds_after, empty_hand, rounds_from, running, given_at, JobAt, InJob}
-use Rattle.mv_plan.proofs.points.Points.{Ending, ForScheduler, ForWriter}
+use Rattle.mv_plan.proofs.points.Points.{EndPost, OfJob, Ending}
 use Rattle.mv_plan.proofs.points.InitiatorSound.{IsRunning, IsInitiatorAt}
 use Rattle.mv_plan.proofs.points.Programs.{on_posted_keeps}
 use Rattle.mv_plan.proofs.points.Views.{run_of, IsNotLost}
@@ -106,41 +106,37 @@ module _ (Q : Running → Type 0) where
 
 -- ---- what holds of the job that an initiator runs, by how far its end is posted
 
--- The job that a point runs meets the first while a job's done block is not posted, the second while the scheduler's end is not
--- posted, and the third while the writer's is not.
-abbrev pub ByStage : (ℕ → Type 0) → (ℕ → Type 0) → (ℕ → Type 0) → Point InitiatorAt → Type 0
-ByStage Q R S (At (InJob run (Ending ForScheduler code counts))) = R run.job
-ByStage Q R S (At (InJob run (Ending ForWriter code counts))) = S run.job
-ByStage Q R S (At (InJob run w)) = Q run.job
-ByStage Q R S p = Unit {0}
+-- The job that a point runs meets this of the post of its end that is next: that of its done block until it is made.
+abbrev pub ByStage : (EndPost → ℕ → Type 0) → Point InitiatorAt → Type 0
+ByStage Q (At (InJob run (Ending post code counts))) = Q post run.job
+ByStage Q (At (InJob run w)) = Q OfJob run.job
+ByStage Q p = Unit {0}
 
 -- the same of a point by others
-pub stage_map : (Q R S Q' R' S' : ℕ → Type 0) (p : Point InitiatorAt)
-    → ((run : Running) → run_of p ≡ Some run → (Q run.job → Q' run.job) × (R run.job → R' run.job) × (S run.job → S' run.job))
-    → ByStage Q R S p → ByStage Q' R' S' p
-stage_map Q R S Q' R' S' p f h = grind (arith, common_steps)
+pub stage_map : (Q Q' : EndPost → ℕ → Type 0) (p : Point InitiatorAt)
+    → ((run : Running) → run_of p ≡ Some run → (post : EndPost) → Q post run.job → Q' post run.job) → ByStage Q p → ByStage Q' p
+stage_map Q Q' p f h = grind (arith, common_steps)
 
 -- a point that does not post a job's end
 abbrev pub NotEnding : InitiatorAt → Type 0
 NotEnding (InJob run (Ending post code counts)) = ⊥
 NotEnding x = Unit {0}
 
-module _ (Q R S : ℕ → Type 0) where
-  steps_stage : (run : Running) (hand : Hand) (steps : List Step) → Q run.job → ByStage Q R S (steps_at run hand steps)
+module _ (Q : EndPost → ℕ → Type 0) where
+  steps_stage : (run : Running) (hand : Hand) (steps : List Step) → Q OfJob run.job → ByStage Q (steps_at run hand steps)
   steps_stage run hand (Print text ∷ steps) q = steps_stage run hand steps q
   steps_stage run hand steps q = grind (arith, common_steps, freeing_lands)
 
-  start_stage : (skipped : Bool) (run : Running) (job : JobData) → Q run.job → ByStage Q R S (job_start skipped run job)
+  start_stage : (skipped : Bool) (run : Running) (job : JobData) → Q OfJob run.job → ByStage Q (job_start skipped run job)
   start_stage true run job q = q
   start_stage false run job q = steps_stage run empty_hand job.steps q
 
-  pub stage_goes : (deck : List JobData) (x : InitiatorAt) (r : Reply) → NotEnding x → ByStage Q R S (At x) → Starts (λ run. Q run.job)
-      deck x r
-      → ByStage Q R S (initiator_goes deck x r)
+  pub stage_goes : (deck : List JobData) (x : InitiatorAt) (r : Reply) → NotEnding x → ByStage Q (At x)
+      → Starts (λ run. Q OfJob run.job) deck x r → ByStage Q (initiator_goes deck x r)
   stage_goes deck (Pausing more before g) (Reply.Element (ElementReply.Given code now)) plain h st =
-      given_lands (ByStage Q R S) tt deck more before code now (λ z. tt)
+      given_lands (ByStage Q) tt deck more before code now (λ z. tt)
       (λ named left e t m. start_stage named.skipped _ (job_at deck named.job) (st named left e t m))
   stage_goes deck (Resuming more before g) (Reply.Element (ElementReply.Given code now)) plain h st =
-      given_lands (ByStage Q R S) tt deck more before code now (λ z. tt)
+      given_lands (ByStage Q) tt deck more before code now (λ z. tt)
       (λ named left e t m. start_stage named.skipped _ (job_at deck named.job) (st named left e t m))
   stage_goes deck x r plain h st = grind (arith, common_steps, rounds_land, on_posted_keeps, steps_stage, counting_lands)

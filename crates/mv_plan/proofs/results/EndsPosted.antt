@@ -91,8 +91,8 @@ module _ (deck : List JobData) (initiators : ℕ) (some : 1 ≤ initiators) (sou
   block_ends s t h f j lt =
       let all : HasFound (length deck) s (Finished f.at_writer.0) = subst (λ p. HasFound (length deck) s p) f.at_writer.1 h.found in
       let w : IsComplete s (end_for_writer (length deck) j) = all j lt in
-      let v : IsComplete s (end_for_scheduler (length deck) j) = (h.posted.order j lt).1 w in
-      let d : IsComplete s (done (length deck) j) = (h.posted.order j lt).0 v in (
+      let v : IsComplete s (end_for_scheduler (length deck) j) = h.posted.order j lt ForWriter w in
+      let d : IsComplete s (done (length deck) j) = h.posted.order j lt ForScheduler v in (
         of (done (length deck) j) (OfJob, refl) d,
         of (end_for_scheduler (length deck) j) (ForScheduler, refl) v,
         of (end_for_writer (length deck) j) (ForWriter, refl) w,
