@@ -11,7 +11,7 @@ use Rattle.mv_plan.proofs.points.{Dismissing, Awaited, ForEntry, ForEnds, ForIdl
 use Rattle.mv_plan.proofs.points.{awaited_blocks, arming_first, ends_at, stage_at, found_at, settling_from, arming_from, scheduler_goes}
 use Rattle.mv_plan.proofs.points.{WriterAt, Keeping, writing_from, end_found, lowest_at, writer_goes, on_armed_keeps, on_settled_keeps}
 use Rattle.mv_plan.proofs.points.{lowest_keeps, Running, Hand, InitiatorAt, Opening, Offering, Pausing, Resuming, Obtaining}
-use Rattle.mv_plan.proofs.points.{Confirming, Freeing, Reading, Writing, Scanning, Rescanning, Purging, Ending, OfJob, ForScheduler}
+use Rattle.mv_plan.proofs.points.{Confirming, Freeing, Reading, Writing, Compares, Purging, Ending, OfJob, ForScheduler}
 use Rattle.mv_plan.proofs.points.{ForWriter, Closing, initiator_goes, rounds_from, steps_at, running, job_start, given_at, InJob}
 use Rattle.mv_plan.proofs.points.{given_lands, named_is, initiator_program, program_at}
 use Rattle.mv_plan.proofs.lists.{sum_to, sum_front, sum_change}
@@ -210,10 +210,9 @@ module _ (deck : List JobData) where
   initiator_rest (At (InJob run (Obtaining hand latch mode steps))) = 6 + (steps_events steps + behind_job run)
   initiator_rest (At (InJob run (Confirming hand latch mode id steps))) = 5 + (steps_events steps + behind_job run)
   initiator_rest (At (InJob run (Freeing hand latch id steps))) = 5 + (steps_events steps + behind_job run)
-  initiator_rest (At (InJob run (Reading hand volume amount steps))) = 6 + (steps_events steps + behind_job run)
   initiator_rest (At (InJob run (Writing hand volume amount number steps))) = 5 + (steps_events steps + behind_job run)
-  initiator_rest (At (InJob run (Scanning hand volume steps))) = 6 + (steps_events steps + behind_job run)
-  initiator_rest (At (InJob run (Rescanning hand volume number steps))) = 5 + (steps_events steps + behind_job run)
+  initiator_rest (At (InJob run (Reading hand volume (Compares number) steps))) = 5 + (steps_events steps + behind_job run)
+  initiator_rest (At (InJob run (Reading hand volume purpose steps))) = 6 + (steps_events steps + behind_job run)
   initiator_rest (At (InJob run (Purging hand code))) = 4 + behind_job run
   initiator_rest (At (InJob run (Ending OfJob code counts))) = 3 + behind_job run
   initiator_rest (At (InJob run (Ending ForScheduler code counts))) = 2 + behind_job run

@@ -7,18 +7,18 @@ use Rattle.mv_plan.proofs.deck.{is_held, is_held_alone}
 use Rattle.mv_plan.proofs.latches.Lists.{finds, found, request_of}
 use Rattle.mv_plan.proofs.latches.HandMoves.{has_latch}
 use Rattle.mv_plan.proofs.latches.Hands.{grip, OwnsBy, Hands, Holds}
-use Rattle.mv_plan.proofs.points.{held_of, IsInitiatorAt, Point, At, Grant, InitiatorAt, Reading, Writing, Scanning, Rescanning, InJob}
+use Rattle.mv_plan.proofs.points.{held_of, IsInitiatorAt, Point, At, Grant, InitiatorAt, Reading, ToAdd, Writing, ToCompare, Compares}
+use Rattle.mv_plan.proofs.points.{InJob}
 
 -- the volume of a COUNT
 abbrev pub counted_on : Point InitiatorAt → Option ℕ
-counted_on (At (InJob run (Reading hand volume amount steps))) = Some volume
+counted_on (At (InJob run (Reading hand volume (ToAdd amount) steps))) = Some volume
 counted_on (At (InJob run (Writing hand volume amount number steps))) = Some volume
 counted_on p = None
 
 -- that of a COUNT or SCAN
 abbrev pub touched : Point InitiatorAt → Option ℕ
-touched (At (InJob run (Scanning hand volume steps))) = Some volume
-touched (At (InJob run (Rescanning hand volume number steps))) = Some volume
+touched (At (InJob run (Reading hand volume purpose steps))) = Some volume
 touched p = counted_on p
 
 has_alone : (latch : ℕ) (gs : List Grant)
@@ -52,22 +52,17 @@ held_alone lists k job latch gs h e =
       parts.1,
     )
 
--- an exclusive request that is there
-some_none : {A : Type 0} (v : A) → None ≡ Some v → ⊥
-some_none v e = absurd (cc e)
-
 pub count_holds : (deck : List JobData) (lists : List (List Request)) (k v : ℕ) (p : Point InitiatorAt) → counted_on p ≡ Some v
     → IsInitiatorAt deck p → OwnsBy lists k (grip p) → HoldsAlone lists k v
-count_holds deck lists k v (At (InJob run (Reading hand volume amount steps))) e a w = grind (arith, common_steps, held_alone)
+count_holds deck lists k v (At (InJob run (Reading hand volume (ToAdd amount) steps))) e a w = grind (arith, common_steps, held_alone)
 count_holds deck lists k v (At (InJob run (Writing hand volume amount number steps))) e a w = grind (arith, common_steps, held_alone)
-count_holds deck lists k v p e a w = absurd (some_none v e)
+count_holds deck lists k v p e a w = absurd (cc e)
 
 pub touch_holds : (deck : List JobData) (lists : List (List Request)) (k v : ℕ) (p : Point InitiatorAt) → touched p ≡ Some v
     → IsInitiatorAt deck p → OwnsBy lists k (grip p) → HoldsLatch lists k v
-touch_holds deck lists k v (At (InJob run (Scanning hand volume steps))) e a w = grind (arith, common_steps, held_latch)
-touch_holds deck lists k v (At (InJob run (Rescanning hand volume number steps))) e a w = grind (arith, common_steps, held_latch)
-touch_holds deck lists k v p e a w =
-    let it : HoldsAlone lists k v = count_holds deck lists k v p e a w in (it.0, it.1, it.2)
+touch_holds deck lists k v (At (InJob run (Reading hand volume ToCompare steps))) e a w = grind (arith, common_steps, held_latch)
+touch_holds deck lists k v (At (InJob run (Reading hand volume (Compares number) steps))) e a w = grind (arith, common_steps, held_latch)
+touch_holds deck lists k v p e a w = let it = count_holds deck lists k v p e a w in (it.0, it.1, it.2)
 
 one_only : {X : Type 0} (xs : List X) (a b : X) → length xs ≡ 1 → Contains xs a → Contains xs b → a ≡ b
 one_only x a b e i j = grind (arith, common_steps)

@@ -10,7 +10,8 @@ use Rattle.mv_plan.proofs.deck.{is_held}
 use Rattle.mv_plan.proofs.latches.Hands.{Grip, Works, grip, OwnsBy, IsKnown, Hands, SparesJob, other_owns, obtain_owns, obtain_holds}
 use Rattle.mv_plan.proofs.latches.Hands.{confirm_owns, free_stands, free_owns, purge_owns, steps_own, given_owns, counting_owns}
 use Rattle.mv_plan.proofs.points.{held_of, IsInitiatorAt, Point, At, Grant, InitiatorAt, Opening, Pausing, Resuming, Obtaining, Confirming}
-use Rattle.mv_plan.proofs.points.{Freeing, Reading, Writing, Rescanning, Purging, Ending, OfJob, initiator_asks, initiator_goes, InJob, IsSignal}
+use Rattle.mv_plan.proofs.points.{Freeing, Reading, ToAdd, Writing, Compares, Purging, Ending, OfJob, initiator_asks, initiator_goes, InJob}
+use Rattle.mv_plan.proofs.points.{IsSignal}
 use Rattle.mv_plan.proofs.latches.Lists.{obtained_reply, confirm_granted, all_asked, AllAsked}
 use Rattle.mv_plan.proofs.walks.{Mover, who_moved, mover_asked, Points, Move}
 use Rattle.mv_plan.proofs.lists.{all_but}
@@ -83,11 +84,11 @@ module _ (c : Setup) (s : System) (deck : List JobData) (i : ℕ) where
       (names_of c s k (LatchOp.Release latch id false) h.admits)
       (free_stands lists k run.job latch id hand.requests hand.holding w a.0.holds.last a.1
       (sym (has_latch latch hand.holding) ∙ a.0.sound.1)) a.0.holds.last a.1 w)
-  own_next (InJob run (Reading hand volume amount steps)) p (Reply.Volume (VolumeReply.Value number)) h a w =
+  own_next (InJob run (Reading hand volume (ToAdd amount) steps)) p (Reply.Volume (VolumeReply.Value number)) h a w =
       counting_owns lists k run hand volume amount steps number w
   own_next (InJob run (Writing hand volume amount number steps)) p (Reply.Volume VolumeReply.Stored) h a w =
       steps_own lists k run hand steps w
-  own_next (InJob run (Rescanning hand volume number steps)) p (Reply.Volume (VolumeReply.Value again)) h a w =
+  own_next (InJob run (Reading hand volume (Compares number) steps)) p (Reply.Volume (VolumeReply.Value again)) h a w =
       steps_own lists k run hand steps w
   own_next (InJob run (Purging hand code)) p (Reply.Latch (LatchReply.Purged removed count)) h a w =
       purge_owns k place run.job lists hand.holding w

@@ -16,8 +16,8 @@ use Rattle.mv_calls.specs.Refusal as refusal
 use Rattle.mv_plan.specs.SpoolTasks.{job_done}
 use Rattle.mv_plan.proofs.deck.{ArePlannedJobs, Facts}
 use Rattle.mv_plan.proofs.points.Points.{At, Astray, Grant, Running, Hand, empty_hand, hand_with, hand_without, InitiatorAt, Opening}
-use Rattle.mv_plan.proofs.points.Points.{Offering, Pausing, Resuming, Obtaining, Confirming, Freeing, Reading, Writing, Scanning}
-use Rattle.mv_plan.proofs.points.Points.{Rescanning, Purging, Ending, OfJob, Closing, initiator_asks}
+use Rattle.mv_plan.proofs.points.Points.{Offering, Pausing, Resuming, Obtaining, Confirming, Freeing, Reading, ToAdd, Writing, ToCompare}
+use Rattle.mv_plan.proofs.points.Points.{Compares, Purging, Ending, OfJob, Closing, initiator_asks}
 use Rattle.mv_plan.proofs.points.Points.{initiator_goes, rounds_from, rounds_after, steps_at, running, job_start, named_at, given_at, InJob}
 use Rattle.mv_plan.proofs.points.Programs.{program_at, rounds_rest, given_rest, ending, stepping, steps_rest, obtained_rest}
 use Rattle.mv_plan.proofs.points.Programs.{initiator_program, post_is_now, IsPlainPost, keeps}
@@ -189,11 +189,11 @@ module _ (c : Setup) (deck : List JobData) (initiators i : ℕ) (facts : Facts c
         (freed_stand deck run hand latch steps s.0.0) (freed_kept i kept run hand latch id s.0.0.holds s.0.1 s.1 refl refl) where
           now : Kept
           now = kept_by kept (InJob run (Freeing hand latch id steps)) (Reply.Latch (LatchReply.Released granted))
-    goes (InJob run (Reading hand volume amount steps)) (Reply.Volume (VolumeReply.Value number)) s f = grind (arith, common_steps)
+    goes (InJob run (Reading hand volume (ToAdd amount) steps)) (Reply.Volume (VolumeReply.Value number)) s f = grind (arith, common_steps)
     goes (InJob run (Writing hand volume amount number steps)) (Reply.Volume VolumeReply.Stored) s f =
         search (rules, steps_enter, step_done)
-    goes (InJob run (Scanning hand volume steps)) (Reply.Volume (VolumeReply.Value number)) s f = refl
-    goes (InJob run (Rescanning hand volume number steps)) (Reply.Volume (VolumeReply.Value again)) s f =
+    goes (InJob run (Reading hand volume ToCompare steps)) (Reply.Volume (VolumeReply.Value number)) s f = refl
+    goes (InJob run (Reading hand volume (Compares number) steps)) (Reply.Volume (VolumeReply.Value again)) s f =
         search (rules, steps_enter, step_done)
     goes (InJob run (Purging hand code)) (Reply.Latch (LatchReply.Purged removed granted)) s f =
         ap (λ p. ending c deck i run now (and_then p (λ counts. wake_posted c (Some (done (length deck) run.job)) code kept (Done counts))))

@@ -8,8 +8,8 @@ use Rattle.mv_plan.proofs.Words.{Free, ElementReply, LatchReply, LatchForm, comm
 use Rattle.mv_machine.specs.Kept.{StandingRequest, is_named, is_for, less}
 use Rattle.mv_plan.proofs.deck.{Held, is_held, ArePlannedSteps, ArePlannedJobs, sound_job}
 use Rattle.mv_plan.proofs.points.Points.{Point, At, Grant, Running, Hand, hand_with, without_latch, hand_without, hand_at, InitiatorAt}
-use Rattle.mv_plan.proofs.points.Points.{Opening, Offering, Pausing, Resuming, Obtaining, Confirming, Freeing, Reading, Writing, Scanning}
-use Rattle.mv_plan.proofs.points.Points.{Rescanning, Purging, Ending, initiator_asks}
+use Rattle.mv_plan.proofs.points.Points.{Opening, Offering, Pausing, Resuming, Obtaining, Confirming, Freeing, Reading, ToAdd, Writing}
+use Rattle.mv_plan.proofs.points.Points.{Compares, Purging, Ending, initiator_asks}
 use Rattle.mv_plan.proofs.points.Points.{initiator_goes, rounds_after, steps_at, running, job_start, given_at, InJob}
 use Rattle.mv_plan.proofs.points.Programs.{keeps}
 use Rattle.mv_plan.proofs.points.Lands.{rounds_land, given_lands}
@@ -79,10 +79,9 @@ IsInitiatorAt deck (At (InJob run (Obtaining hand latch mode steps))) = IsSteppi
 IsInitiatorAt deck (At (InJob run (Confirming hand latch mode id steps))) = IsStepping deck run hand (Use latch mode ∷ steps)
 IsInitiatorAt deck (At (InJob run (Freeing hand latch id steps))) =
     IsStepping deck run hand (Free latch ∷ steps) × (hand.requests latch ≡ Some id)
-IsInitiatorAt deck (At (InJob run (Reading hand volume amount steps))) = IsStepping deck run hand (Count volume amount ∷ steps)
+IsInitiatorAt deck (At (InJob run (Reading hand volume (ToAdd amount) steps))) = IsStepping deck run hand (Count volume amount ∷ steps)
 IsInitiatorAt deck (At (InJob run (Writing hand volume amount number steps))) = IsStepping deck run hand (Count volume amount ∷ steps)
-IsInitiatorAt deck (At (InJob run (Scanning hand volume steps))) = IsStepping deck run hand (Scan volume ∷ steps)
-IsInitiatorAt deck (At (InJob run (Rescanning hand volume number steps))) = IsStepping deck run hand (Scan volume ∷ steps)
+IsInitiatorAt deck (At (InJob run (Reading hand volume purpose steps))) = IsStepping deck run hand (Scan volume ∷ steps)
 IsInitiatorAt deck (At (InJob run (Purging hand code))) = IsEnding deck run code
 IsInitiatorAt deck (At (InJob run (Ending post code counts))) = IsEnding deck run code
 IsInitiatorAt deck p = Unit {0}
@@ -298,7 +297,7 @@ initiator_stands deck i kept (InJob run (Obtaining hand latch mode steps)) (Repl
     grind (arith, common_steps, pushed_kept)
 initiator_stands deck i kept (InJob run (Writing hand volume amount number steps)) (Reply.Volume VolumeReply.Stored) sound s =
     search (rules, steps_stand, step_done)
-initiator_stands deck i kept (InJob run (Rescanning hand volume number steps)) (Reply.Volume (VolumeReply.Value again)) sound s =
+initiator_stands deck i kept (InJob run (Reading hand volume (Compares number) steps)) (Reply.Volume (VolumeReply.Value again)) sound s =
     search (rules, steps_stand, step_done)
 initiator_stands deck i kept (InJob run (Ending post code counts)) r sound s =
     let next = rounds_stand deck i sound (keeps kept (initiator_asks (length deck) i (InJob run (Ending post code counts))) r) run

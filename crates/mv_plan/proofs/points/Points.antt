@@ -242,16 +242,20 @@ end_block n job OfJob = done n job
 end_block n job ForScheduler = end_for_scheduler n job
 end_block n job ForWriter = end_for_writer n job
 
+-- what a volume is read for: a COUNT adds an amount to its number; a SCAN is to compare its number, and compares it with a second one
+pub data Purpose : Type 0 where
+  ToAdd : (amount : ℕ) → Purpose
+  ToCompare : Purpose
+  Compares : (number : ℕ) → Purpose
+
 -- in a job
 pub data JobAt : Type 0 where
   -- its steps, with those that follow
   Obtaining : (hand : Hand) (latch : ℕ) (mode : Mode) (steps : List Step) → JobAt
   Confirming : (hand : Hand) (latch : ℕ) (mode : Mode) (id : ℕ) (steps : List Step) → JobAt
   Freeing : (hand : Hand) (latch id : ℕ) (steps : List Step) → JobAt
-  Reading : (hand : Hand) (volume amount : ℕ) (steps : List Step) → JobAt
+  Reading : (hand : Hand) (volume : ℕ) (purpose : Purpose) (steps : List Step) → JobAt
   Writing : (hand : Hand) (volume amount number : ℕ) (steps : List Step) → JobAt
-  Scanning : (hand : Hand) (volume : ℕ) (steps : List Step) → JobAt
-  Rescanning : (hand : Hand) (volume number : ℕ) (steps : List Step) → JobAt
   -- its end with its code: the purge, and the posts
   Purging : (hand : Hand) (code : ℕ) → JobAt
   Ending : (post : EndPost) (code : ℕ) (counts : Counts) → JobAt
@@ -261,10 +265,8 @@ abbrev pub hand_at : JobAt → Hand
 hand_at (Obtaining hand latch mode steps) = hand
 hand_at (Confirming hand latch mode id steps) = hand
 hand_at (Freeing hand latch id steps) = hand
-hand_at (Reading hand volume amount steps) = hand
+hand_at (Reading hand volume purpose steps) = hand
 hand_at (Writing hand volume amount number steps) = hand
-hand_at (Scanning hand volume steps) = hand
-hand_at (Rescanning hand volume number steps) = hand
 hand_at (Purging hand code) = hand
 hand_at w = empty_hand
 
@@ -287,10 +289,8 @@ initiator_asks n i (InJob run (Obtaining hand latch mode steps)) =
     (Latches, Op.Latch (LatchOp.Obtain latch (run.job + 1) mode LatchForm.Waiting))
 initiator_asks n i (InJob run (Confirming hand latch mode id steps)) = (Latches, Op.Latch (LatchOp.Confirm latch id))
 initiator_asks n i (InJob run (Freeing hand latch id steps)) = (Latches, Op.Latch (LatchOp.Release latch id false))
-initiator_asks n i (InJob run (Reading hand volume amount steps)) = (Volume volume, Op.Volume VolumeOp.Read)
+initiator_asks n i (InJob run (Reading hand volume purpose steps)) = (Volume volume, Op.Volume VolumeOp.Read)
 initiator_asks n i (InJob run (Writing hand volume amount number steps)) = (Volume volume, Op.Volume (VolumeOp.Write (number + amount)))
-initiator_asks n i (InJob run (Scanning hand volume steps)) = (Volume volume, Op.Volume VolumeOp.Read)
-initiator_asks n i (InJob run (Rescanning hand volume number steps)) = (Volume volume, Op.Volume VolumeOp.Read)
 initiator_asks n i (InJob run (Purging hand code)) = (Latches, Op.Latch (LatchOp.Purge (run.job + 1)))
 initiator_asks n i (InJob run (Ending post code counts)) = (Ecb (end_block n run.job post), Op.Ecb (EcbOp.Post code))
 initiator_asks n i (Closing g) = (Element (initiator i), Op.Element (ElementOp.Close g))
@@ -313,8 +313,8 @@ steps_at run hand [] = At (InJob run (Purging hand 0))
 steps_at run hand (Print text ∷ steps) = steps_at run hand steps
 steps_at run hand (Use latch mode ∷ steps) = At (InJob run (Obtaining hand latch mode steps))
 steps_at run hand (Free latch ∷ steps) = freeing_at run hand latch (hand.requests latch) steps
-steps_at run hand (Count volume amount ∷ steps) = At (InJob run (Reading hand volume amount steps))
-steps_at run hand (Scan volume ∷ steps) = At (InJob run (Scanning hand volume steps))
+steps_at run hand (Count volume amount ∷ steps) = At (InJob run (Reading hand volume (ToAdd amount) steps))
+steps_at run hand (Scan volume ∷ steps) = At (InJob run (Reading hand volume ToCompare steps))
 steps_at run hand (Abend code ∷ steps) = At (InJob run (Purging hand code))
 steps_at run hand (Return code ∷ steps) = At (InJob run (Purging hand code))
 
@@ -399,10 +399,11 @@ initiator_goes deck (Resuming more before g) r = on_resumed deck more before r
 initiator_goes deck (InJob run (Obtaining hand latch mode steps)) r = on_obtained run hand latch mode steps r
 initiator_goes deck (InJob run (Confirming hand latch mode id steps)) r = on_confirmed run hand latch mode id steps r
 initiator_goes deck (InJob run (Freeing hand latch id steps)) r = on_freed run hand latch steps r
-initiator_goes deck (InJob run (Reading hand volume amount steps)) r = on_value (counting_at run hand volume amount steps) r
+initiator_goes deck (InJob run (Reading hand volume (ToAdd amount) steps)) r = on_value (counting_at run hand volume amount steps) r
 initiator_goes deck (InJob run (Writing hand volume amount number steps)) r = on_stored (steps_at run hand steps) r
-initiator_goes deck (InJob run (Scanning hand volume steps)) r = on_value (λ number. At (InJob run (Rescanning hand volume number steps))) r
-initiator_goes deck (InJob run (Rescanning hand volume number steps)) r = on_value (λ again. steps_at run hand steps) r
+initiator_goes deck (InJob run (Reading hand volume ToCompare steps)) r =
+    on_value (λ number. At (InJob run (Reading hand volume (Compares number) steps))) r
+initiator_goes deck (InJob run (Reading hand volume (Compares number) steps)) r = on_value (λ again. steps_at run hand steps) r
 initiator_goes deck (InJob run (Purging hand code)) r = on_purged run code r
 initiator_goes deck (InJob run (Ending OfJob code counts)) r = on_ended run code counts r
 initiator_goes deck (InJob run (Ending ForScheduler code counts)) r = on_posted (At (InJob run (Ending ForWriter code counts))) r

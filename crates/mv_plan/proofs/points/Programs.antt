@@ -19,8 +19,8 @@ use Rattle.mv_plan.specs.SpoolTasks.{dispatch_all, dismiss, counted, run_steps, 
 use Rattle.mv_plan.proofs.points.Points.{Point, At, Finished, TooSoon, Astray, ReaderAt, Entering, WaitAt, Arming, Settling, Stage}
 use Rattle.mv_plan.proofs.points.Points.{Dispatching, Dismissing, Awaited, ForEntry, ForEnds, ForIdle, ToDismiss, SchedulerAt, Waits}
 use Rattle.mv_plan.proofs.points.Points.{Extends, Clears, Releases, awaited_blocks, awaited_count, WriterAt, Keeping, Running, Hand}
-use Rattle.mv_plan.proofs.points.Points.{InitiatorAt, Opening, Offering, Pausing, Resuming, Obtaining, Confirming, Freeing, Reading}
-use Rattle.mv_plan.proofs.points.Points.{Writing, Scanning, Rescanning, Purging, Ending, OfJob, ForScheduler, ForWriter, Closing}
+use Rattle.mv_plan.proofs.points.Points.{InitiatorAt, Opening, Offering, Pausing, Resuming, Obtaining, Confirming, Freeing, Reading, ToAdd}
+use Rattle.mv_plan.proofs.points.Points.{Writing, ToCompare, Compares, Purging, Ending, OfJob, ForScheduler, ForWriter, Closing}
 use Rattle.mv_plan.proofs.points.Points.{InJob, on_posted, on_armed, on_settled, lowest_at, if_enough, entering_from, reader_asks}
 use Rattle.mv_plan.proofs.points.Points.{reader_goes, writing_from, writer_asks, writer_goes}
 use Rattle.mv_calls.specs.Posts.{posting}
@@ -162,16 +162,16 @@ initiator_program c deck i kept (InJob run (Confirming hand latch mode id steps)
 initiator_program c deck i kept (InJob run (Freeing hand latch id steps)) = stepping c deck i run kept (going_on kept
     (Do Latches (Op.Latch (LatchOp.Release latch id false)) (λ h. on_latch h.entry.reply (let_go c false h.wakes kept)))
     (unrefused (λ granted. steps_rest c run hand steps)))
-initiator_program c deck i kept (InJob run (Reading hand volume amount steps)) = stepping c deck i run kept (going_on kept
+initiator_program c deck i kept (InJob run (Reading hand volume (ToAdd amount) steps)) = stepping c deck i run kept (going_on kept
     (Do (Volume volume) (Op.Volume VolumeOp.Read) (λ h. on_volume h.entry.reply the_value))
     (counted volume amount (steps_rest c run hand steps)))
 initiator_program c deck i kept (InJob run (Writing hand volume amount number steps)) = stepping c deck i run kept (going_on kept
     (Do (Volume volume) (Op.Volume (VolumeOp.Write (number + amount))) (λ h. on_volume h.entry.reply stored))
     (λ stored. steps_rest c run hand steps))
-initiator_program c deck i kept (InJob run (Scanning hand volume steps)) = stepping c deck i run kept (going_on kept
+initiator_program c deck i kept (InJob run (Reading hand volume ToCompare steps)) = stepping c deck i run kept (going_on kept
     (Do (Volume volume) (Op.Volume VolumeOp.Read) (λ h. on_volume h.entry.reply the_value))
     (λ once. followed (read_volume volume) (λ again. steps_rest c run hand steps)))
-initiator_program c deck i kept (InJob run (Rescanning hand volume number steps)) = stepping c deck i run kept (going_on kept
+initiator_program c deck i kept (InJob run (Reading hand volume (Compares number) steps)) = stepping c deck i run kept (going_on kept
     (Do (Volume volume) (Op.Volume VolumeOp.Read) (λ h. on_volume h.entry.reply the_value))
     (λ again. steps_rest c run hand steps))
 initiator_program c deck i kept (InJob run (Purging hand code)) = ending c deck i run kept (and_then

@@ -1,16 +1,14 @@
 -- No reply leads an initiator astray at a latch or a volume, where the hands are right and the sum is small.
 use Rattle.mv_plan.proofs.Words.{◌≡◌, ℕ, ◌+◌, ◌<◌, ◌^◌, nat_lt, Bool, true, false, if◌then◌else◌, List, ◌∷◌, Some, refl, sym, ap, ◌∙◌}
-use Rattle.mv_plan.proofs.Words.{subst, list_any, lt-ltb, false≢true, LatchOp, grants, granted, list_of, is_own}
-use Rattle.mv_plan.proofs.Words.{Reply, Request, Setup, System, JobData, Step, Print, initiator, Free, LatchReply}
-use Rattle.mv_plan.proofs.Words.{LatchForm, VolumeOp, rules}
+use Rattle.mv_plan.proofs.Words.{subst, list_any, lt-ltb, false≢true, LatchOp, grants, granted, list_of, is_own, Reply, Request, Setup}
+use Rattle.mv_plan.proofs.Words.{System, JobData, Step, Print, initiator, Free, LatchReply, LatchForm, VolumeOp, rules}
 use Rattle.mv_machine.specs.declared.entry.VolumeOp.{VolumeOp}
 use Rattle.mv_machine.proofs.Replies.{latches_answer, volume_answers}
 use Rattle.mv_plan.proofs.deck.{ArePlannedSteps}
-use Rattle.mv_plan.proofs.latches.{has_latch, grip, OwnsBy, confirm_stands, free_stands, new_request, obtained_reply}
-use Rattle.mv_plan.proofs.latches.{released_reply}
+use Rattle.mv_plan.proofs.latches.{has_latch, grip, OwnsBy, confirm_stands, free_stands, new_request, obtained_reply, released_reply}
 use Rattle.mv_plan.proofs.points.{held_of, IsHand, IsInitiatorAt, held_request, obtained_stand, freed_stand, Point, At, Astray, Running}
-use Rattle.mv_plan.proofs.points.{Hand, hand_with, hand_without, InitiatorAt, Obtaining, Confirming, Freeing, Reading, Writing, Scanning}
-use Rattle.mv_plan.proofs.points.{Rescanning, initiator_goes, freeing_at, steps_at, InJob, IsOfRounds}
+use Rattle.mv_plan.proofs.points.{Hand, hand_with, hand_without, InitiatorAt, Obtaining, Confirming, Freeing, Reading, ToAdd, Writing}
+use Rattle.mv_plan.proofs.points.{initiator_goes, freeing_at, steps_at, InJob, IsOfRounds}
 use Rattle.mv_plan.proofs.volumes.{NextAt}
 
 abbrev pub IsWell : Point InitiatorAt → Type 0
@@ -44,7 +42,7 @@ module _ (c : Setup) (s : System) (deck : List JobData) (i : ℕ) where
   -- where a COUNT's sum has 32 bits, it is written.
   pub serves : (x : InitiatorAt) (p : ℕ) (r : Reply) → (IsOfRounds x → ⊥) → NextAt c s deck i x p r → IsInitiatorAt deck (At x)
       → OwnsBy lists k (grip (At x))
-      → ((run : Running) (hand : Hand) (volume amount : ℕ) (steps : List Step) → x ≡ InJob run (Reading hand volume amount steps)
+      → ((run : Running) (hand : Hand) (volume amount : ℕ) (steps : List Step) → x ≡ InJob run (Reading hand volume (ToAdd amount) steps)
       → (s.volume volume).state + amount < 2 ^ 32) → WellAfter x r
   serves (InJob run (Obtaining hand latch mode steps)) p r on h a w small =
       subst (WellAfter (InJob run (Obtaining hand latch mode steps)))
@@ -75,8 +73,8 @@ module _ (c : Setup) (s : System) (deck : List JobData) (i : ℕ) where
       steps_well run (hand_without hand latch) steps stand.holds stand.sound
       (subst (λ y. initiator_goes deck (InJob run (Freeing hand latch id steps)) y ≡ Astray)
       (latches_answer c s k p (LatchOp.Release latch id false) r h ∙ ap (λ y. Reply.Latch y) it.1) e)
-  serves (InJob run (Reading hand volume amount steps)) p r on h a w small =
-      subst (WellAfter (InJob run (Reading hand volume amount steps)))
+  serves (InJob run (Reading hand volume (ToAdd amount) steps)) p r on h a w small =
+      subst (WellAfter (InJob run (Reading hand volume (ToAdd amount) steps)))
       (sym (volume_answers c s k volume p VolumeOp.Read r h))
       (go (nat_lt ((s.volume volume).state + amount) (2 ^ 32))
       (lt-ltb ((s.volume volume).state + amount) (2 ^ 32) (small run hand volume amount steps refl))) where
@@ -85,6 +83,5 @@ module _ (c : Setup) (s : System) (deck : List JobData) (i : ℕ) where
         go true t e = absurd (cc e)
         go false t e = absurd (false≢true t)
   serves (InJob run (Writing hand volume amount number steps)) p r on h a w small = search (rules, volume_answers, steps_well)
-  serves (InJob run (Scanning hand volume steps)) p r on h a w small = search (rules, volume_answers)
-  serves (InJob run (Rescanning hand volume number steps)) p r on h a w small = search (rules, volume_answers, steps_well)
+  serves (InJob run (Reading hand volume purpose steps)) p r on h a w small = search (rules, volume_answers, steps_well)
   serves x p r on h a w small = absurd (on tt)

@@ -6,9 +6,9 @@ use Rattle.mv_plan.proofs.Words.{Some, None, inl, inr, refl, sym, ap, ◌∙◌,
 use Rattle.mv_plan.proofs.Words.{System, gift_code, naming, given_codes, purges, JobData, Step, job_at, code_of, not_to_run, purged_by}
 use Rattle.mv_plan.proofs.Words.{ElementReply, LatchReply, VolumeReply, common_steps, next, opening, initiator}
 use Rattle.mv_plan.proofs.points.{named_is, IsInitiatorAt, Point, At, Running, Hand, empty_hand, InitiatorAt, Opening, Pausing, Resuming}
-use Rattle.mv_plan.proofs.points.{Obtaining, Confirming, Freeing, Writing, Rescanning, Purging, initiator_asks, initiator_goes, rounds_from}
-use Rattle.mv_plan.proofs.points.{steps_at, running, job_start, given_at, InJob, no_gift, run_of, IsNotLost, given_lands, Astray}
-use Rattle.mv_plan.proofs.points.{IsOfRounds}
+use Rattle.mv_plan.proofs.points.{Obtaining, Confirming, Freeing, Writing, Reading, Compares, Purging, initiator_asks, initiator_goes}
+use Rattle.mv_plan.proofs.points.{rounds_from, steps_at, running, job_start, given_at, InJob, no_gift, run_of, IsNotLost, given_lands}
+use Rattle.mv_plan.proofs.points.{Astray, IsOfRounds}
 use Rattle.mv_plan.proofs.walks.{who_moved, mover_goes, mover_sum, Points, start_points, Move, none_lost_before, NoneLost, AreSound}
 use Rattle.mv_plan.proofs.lists.{sum_to, sum_zero, sum_member, one_of, length-pushed}
 use Rattle.mv_machine.proofs.EntryRuns.{entry_of}
@@ -106,7 +106,7 @@ module _ (j : ℕ) where
         let f = work_steps run _ steps n in omega arith
     own_work i (InJob run (Writing hand volume amount number steps)) (Reply.Volume VolumeReply.Stored) n =
         let f = work_steps run hand steps n in omega arith
-    own_work i (InJob run (Rescanning hand volume number steps)) (Reply.Volume (VolumeReply.Value again)) n =
+    own_work i (InJob run (Reading hand volume (Compares number) steps)) (Reply.Volume (VolumeReply.Value again)) n =
         let f = work_steps run hand steps n in omega arith
     own_work i (InJob run (Purging hand code)) (Reply.Latch (LatchReply.Purged removed count)) n = same_job run.job
     own_work i x r n = grind (arith, common_steps)

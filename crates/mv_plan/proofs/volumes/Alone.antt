@@ -9,8 +9,8 @@ use Rattle.mv_machine.proofs.EntryRuns.{entry_of}
 use Rattle.mv_plan.proofs.latches.{touched, counted_on, excludes, Apart, hands_next, hands_start}
 use Rattle.mv_plan.proofs.latches.Hands.{Hands}
 use Rattle.mv_plan.proofs.points.{IsInitiatorAt, Point, At, Running, Hand, empty_hand, InitiatorAt, Pausing, Resuming, Obtaining}
-use Rattle.mv_plan.proofs.points.{Confirming, Freeing, Reading, Writing, Scanning, Rescanning, initiator_asks, initiator_goes, rounds_from}
-use Rattle.mv_plan.proofs.points.{steps_at, running, job_start, given_at, InJob, IsSignal, freeing_lands, given_lands}
+use Rattle.mv_plan.proofs.points.{Confirming, Freeing, Reading, ToAdd, Writing, ToCompare, Compares, initiator_asks, initiator_goes}
+use Rattle.mv_plan.proofs.points.{rounds_from, steps_at, running, job_start, given_at, InJob, IsSignal, freeing_lands, given_lands}
 use Rattle.mv_plan.proofs.walks.{who_moved, mover_asked, Points, Move, Always, always_now, always_next, AreSound, Mover, mover_else}
 use Rattle.mv_plan.proofs.walks.{start_points, WalkTo, always_rest, always_front, mover_goes, walk-parts}
 use Rattle.mv_plan.proofs.lists.{with_at-same, with_at-other, all_but}
@@ -44,7 +44,7 @@ value_is c s k v p number h =
 
 abbrev pub ValueAt : Numbers → Point InitiatorAt → Type 0
 ValueAt f (At (InJob run (Writing hand volume amount number steps))) = (f volume).state ≡ number
-ValueAt f (At (InJob run (Rescanning hand volume number steps))) = (f volume).state ≡ number
+ValueAt f (At (InJob run (Reading hand volume (Compares number) steps))) = (f volume).state ≡ number
 ValueAt f p = Unit {0}
 
 -- Where an initiator is to write what it read plus an amount, or to read a second time, the volume has the number that it read.
@@ -53,14 +53,14 @@ Values initiators f points = (i : ℕ) → i < initiators → ValueAt f (points 
 
 value_read : (f : Numbers) (v : ℕ) (p : Point InitiatorAt) → ValueAt f p → ValueAt (with_at f v (advanced (f v) (f v).state)) p
 value_read f v (At (InJob run (Writing hand volume amount number steps))) w = read_keeps f v volume ∙ w
-value_read f v (At (InJob run (Rescanning hand volume number steps))) w = read_keeps f v volume ∙ w
+value_read f v (At (InJob run (Reading hand volume (Compares number) steps))) w = read_keeps f v volume ∙ w
 value_read f v p w = tt
 
 value_write : (f : Numbers) (v number : ℕ) (p : Point InitiatorAt) → (touched p ≡ Some v → ⊥) → ValueAt f p
     → ValueAt (with_at f v (advanced (f v) number)) p
 value_write f v new (At (InJob run (Writing hand volume amount number steps))) n w =
     write_other f v volume new (λ e. n (ap (λ z. Some z) (sym e))) ∙ w
-value_write f v new (At (InJob run (Rescanning hand volume number steps))) n w = search (rules, write_other)
+value_write f v new (At (InJob run (Reading hand volume (Compares number) steps))) n w = search (rules, write_other)
 value_write f v new p n w = tt
 
 -- ---- who leads to such a point
@@ -68,9 +68,9 @@ value_write f v new p n w = tt
 -- the write of a COUNT stands behind its read, and the second read of a SCAN behind its first
 abbrev pub LeadsTo : InitiatorAt → Reply → Point InitiatorAt → Type 0
 LeadsTo x r (At (InJob run (Writing hand volume amount number steps))) =
-    (x ≡ InJob run (Reading hand volume amount steps)) × (r ≡ Reply.Volume (VolumeReply.Value number))
-LeadsTo x r (At (InJob run (Rescanning hand volume number steps))) =
-    (x ≡ InJob run (Scanning hand volume steps)) × (r ≡ Reply.Volume (VolumeReply.Value number))
+    (x ≡ InJob run (Reading hand volume (ToAdd amount) steps)) × (r ≡ Reply.Volume (VolumeReply.Value number))
+LeadsTo x r (At (InJob run (Reading hand volume (Compares number) steps))) =
+    (x ≡ InJob run (Reading hand volume ToCompare steps)) × (r ≡ Reply.Volume (VolumeReply.Value number))
 LeadsTo x r p = Unit {0}
 
 -- no other point leads there
@@ -99,7 +99,7 @@ leads deck (InJob run (Obtaining hand latch mode steps)) (Reply.Latch (LatchRepl
 leads deck (InJob run (Confirming hand latch mode id steps)) (Reply.Latch (LatchReply.Granted same)) = steps_lead _ _ run _ steps
 leads deck (InJob run (Freeing hand latch id steps)) (Reply.Latch (LatchReply.Released count)) = steps_lead _ _ run _ steps
 leads deck (InJob run (Writing hand volume amount number steps)) (Reply.Volume VolumeReply.Stored) = steps_lead _ _ run hand steps
-leads deck (InJob run (Rescanning hand volume number steps)) (Reply.Volume (VolumeReply.Value again)) = steps_lead _ _ run hand steps
+leads deck (InJob run (Reading hand volume (Compares n) steps)) (Reply.Volume (VolumeReply.Value again)) = steps_lead _ _ run hand steps
 leads deck x r = grind (arith, common_steps, rounds_lead)
 
 module _ (c : Setup) (s : System) (deck : List JobData) (i : ℕ) where
@@ -120,11 +120,9 @@ module _ (c : Setup) (s : System) (deck : List JobData) (i : ℕ) where
   -- another initiator's number stays, unless this one writes where that one reads
   other_value : (x : InitiatorAt) (p : Point InitiatorAt) → ((v : ℕ) → counted_on (At x) ≡ Some v → touched p ≡ Some v → ⊥)
       → ValueAt s.volume p → ValueAt (volumes_asked x) p
-  other_value (InJob run (Reading hand volume amount steps)) p n w = value_read s.volume volume p w
+  other_value (InJob run (Reading hand volume purpose steps)) p n w = value_read s.volume volume p w
   other_value (InJob run (Writing hand volume amount number steps)) p n w =
       value_write s.volume volume (number + amount) p (n volume refl) w
-  other_value (InJob run (Scanning hand volume steps)) p n w = value_read s.volume volume p w
-  other_value (InJob run (Rescanning hand volume number steps)) p n w = value_read s.volume volume p w
   other_value x p n w = w
 
 pub values_next : (c : Setup) (deck : List JobData) (initiators : ℕ) (s : System) (t u : Points) (e : Entry) → IsNext c s e
@@ -367,7 +365,8 @@ module _ (c : Setup) (deck : List JobData) (initiators : ℕ) (s : System) (t u 
       m : Mover deck initiators here second.0 r
       m = own.0
 
-      led : (m.point ≡ InJob p.run (Reading p.hand p.volume p.amount p.steps)) × (r.reply ≡ Reply.Volume (VolumeReply.Value p.number))
+      led : (m.point ≡ InJob p.run (Reading p.hand p.volume (ToAdd p.amount) p.steps))
+          × (r.reply ≡ Reply.Volume (VolumeReply.Value p.number))
       led = subst (LeadsTo m.point r.reply) (sym (mover_goes deck initiators here second.0 r m)
           ∙ ap (second.0).initiators own.1 ∙ sym still ∙ it.stands ∙ ap (λ x. At x) p.is)
           (leads deck m.point r.reply)

@@ -8,8 +8,8 @@ use Rattle.mv_plan.proofs.Words.{step_events, sum_by-cons, end_of, not_run, ends
 use Rattle.mv_machine.proofs.EntryRuns.{entry_of}
 use Rattle.mv_plan.proofs.volumes.GivenCodes.{with_code, adds_if, adds_named, adds, adds_all, adds_high, codes_of}
 use Rattle.mv_plan.proofs.volumes.GivenCodes.{codes-push, full, adds-append, adds_by_jobs}
-use Rattle.mv_plan.proofs.points.{Point, At, Running, Hand, InitiatorAt, Pausing, Resuming, Obtaining, Confirming, Freeing, Reading}
-use Rattle.mv_plan.proofs.points.{Writing, Scanning, Rescanning, initiator_goes, steps_at, running, job_start, given_at, initiator_asks}
+use Rattle.mv_plan.proofs.points.{Point, At, Running, Hand, InitiatorAt, Pausing, Resuming, Obtaining, Confirming, Freeing, Reading, ToAdd}
+use Rattle.mv_plan.proofs.points.{Writing, Compares, initiator_goes, steps_at, running, job_start, given_at, initiator_asks}
 use Rattle.mv_plan.proofs.points.{InJob, IsNotLost, given_lands, no_gift}
 use Rattle.mv_plan.proofs.volumes.Alone.{ValueAt, read_keeps, volumes_asked, Values, volumes_same}
 use Rattle.mv_plan.proofs.deck.{Held, ArePlannedSteps, ArePlannedJobs, IsPlanned}
@@ -25,10 +25,9 @@ abbrev pub due : ℕ → Point InitiatorAt → ℕ
 due v (At (InJob run (Obtaining hand latch mode steps))) = added_by v (before_end steps)
 due v (At (InJob run (Confirming hand latch mode id steps))) = added_by v (before_end steps)
 due v (At (InJob run (Freeing hand latch id steps))) = added_by v (before_end steps)
-due v (At (InJob run (Reading hand volume amount steps))) = added v (Count volume amount) + added_by v (before_end steps)
+due v (At (InJob run (Reading hand volume (ToAdd amount) steps))) = added v (Count volume amount) + added_by v (before_end steps)
 due v (At (InJob run (Writing hand volume amount number steps))) = added v (Count volume amount) + added_by v (before_end steps)
-due v (At (InJob run (Scanning hand volume steps))) = added_by v (before_end steps)
-due v (At (InJob run (Rescanning hand volume number steps))) = added_by v (before_end steps)
+due v (At (InJob run (Reading hand volume purpose steps))) = added_by v (before_end steps)
 due v p = 0
 
 -- what the job that a given code names adds
@@ -83,7 +82,7 @@ module _ (c : Setup) (s : System) (deck : List JobData) (i v : ℕ) where
       let f = due_steps v run _ steps n in omega arith
   own_due (InJob run (Writing hand volume amount number steps)) p (Reply.Volume VolumeReply.Stored) h a n =
       write_due volume amount number _ (added_by v (before_end steps)) a (due_steps v run hand steps n)
-  own_due (InJob run (Rescanning hand volume number steps)) p (Reply.Volume (VolumeReply.Value again)) h a n =
+  own_due (InJob run (Reading hand volume (Compares number) steps)) p (Reply.Volume (VolumeReply.Value again)) h a n =
       let e = read_keeps s.volume volume v in let f = due_steps v run hand steps n in omega arith
   own_due x p r h a n = grind (arith, common_steps)
 
@@ -160,7 +159,7 @@ pub count_small : (deck : List JobData) (initiators : ℕ) (s : System) (t : Poi
     (volume amount : ℕ) (steps : List Step)
     → 1 ≤ initiators → IsPlanned deck initiators → i < initiators → NoneLost initiators t → Balance deck initiators s t past
     → OnceEach deck (codes_of past)
-    → t.initiators i ≡ At (InJob run (Reading hand volume amount steps)) → (s.volume volume).state + amount < 2 ^ 32
+    → t.initiators i ≡ At (InJob run (Reading hand volume (ToAdd amount) steps)) → (s.volume volume).state + amount < 2 ^ 32
 count_small deck initiators s t past i run hand volume amount steps some sound lt none w once at =
     let a = w none volume in
     let b = sum_member initiators i (λ m. due volume (t.initiators m)) lt in
