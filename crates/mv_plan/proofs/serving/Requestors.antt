@@ -4,11 +4,10 @@
 use Rattle.mv_plan.proofs.Words.{◌≡◌, ℕ, suc, ◌+◌, ◌<◌, ◌≤◌, ◌==◌, Bool, true, false, if◌then◌else◌, List, [], ◌∷◌, ◌++◌, length, Option}
 use Rattle.mv_plan.proofs.Words.{Some, None, inl, inr, refl, sym, ap, ◌∙◌, subst, arith, eq-eqb, ne_eqb, Entry, Reply, IsNext, Setup}
 use Rattle.mv_plan.proofs.Words.{System, gift_code, naming, given_codes, purges, JobData, Step, job_at, code_of, not_to_run, purged_by}
-use Rattle.mv_plan.proofs.Words.{ElementReply, LatchReply, VolumeReply, common_steps, next, opening, initiator}
-use Rattle.mv_plan.proofs.points.{named_is, IsInitiatorAt, Point, At, Running, Hand, empty_hand, InitiatorAt, Opening, Pausing, Resuming}
-use Rattle.mv_plan.proofs.points.{Obtaining, Confirming, Freeing, Writing, Reading, Compares, Purging, initiator_asks, initiator_goes}
-use Rattle.mv_plan.proofs.points.{rounds_from, steps_at, running, job_start, given_at, InJob, no_gift, run_of, IsNotLost, given_lands}
-use Rattle.mv_plan.proofs.points.{Astray, IsOfRounds}
+use Rattle.mv_plan.proofs.Words.{common_steps, next, opening, initiator}
+use Rattle.mv_plan.proofs.points.{named_is, IsInitiatorAt, Point, At, Running, Hand, empty_hand, InitiatorAt, initiator_asks}
+use Rattle.mv_plan.proofs.points.{initiator_goes, rounds_from, steps_at, running, job_start, given_at, no_gift, run_of, IsNotLost}
+use Rattle.mv_plan.proofs.points.{given_lands, Astray, IsOfRounds}
 use Rattle.mv_plan.proofs.walks.{who_moved, mover_goes, mover_sum, Points, start_points, Move, none_lost_before, NoneLost, AreSound}
 use Rattle.mv_plan.proofs.lists.{sum_to, sum_zero, sum_member, one_of, length-pushed}
 use Rattle.mv_machine.proofs.EntryRuns.{entry_of}
@@ -92,24 +91,7 @@ module _ (j : ℕ) where
     same_job k = grind (arith, common_steps)
 
     own_work : (i : ℕ) (x : InitiatorAt) (r : Reply) → IsNotLost (initiator_goes deck x r) → WorkNext i x r
-    own_work i Opening (Reply.Element (ElementReply.Opened g)) n =
-        let f = work_rounds (length deck + 1) [] g in omega arith
-    own_work i (Pausing more before g) (Reply.Element (ElementReply.Given code now)) n =
-        let f = work_given more before code now n in omega arith
-    own_work i (Resuming more before g) (Reply.Element (ElementReply.Given code now)) n =
-        let f = work_given more before code now n in omega arith
-    own_work i (InJob run (Obtaining hand latch mode steps)) (Reply.Latch (LatchReply.Granted id)) n =
-        let f = work_steps run _ steps n in omega arith
-    own_work i (InJob run (Confirming hand latch mode id steps)) (Reply.Latch (LatchReply.Granted same)) n =
-        let f = work_steps run _ steps n in omega arith
-    own_work i (InJob run (Freeing hand latch id steps)) (Reply.Latch (LatchReply.Released count)) n =
-        let f = work_steps run _ steps n in omega arith
-    own_work i (InJob run (Writing hand volume amount number steps)) (Reply.Volume VolumeReply.Stored) n =
-        let f = work_steps run hand steps n in omega arith
-    own_work i (InJob run (Reading hand volume (Compares number) steps)) (Reply.Volume (VolumeReply.Value again)) n =
-        let f = work_steps run hand steps n in omega arith
-    own_work i (InJob run (Purging hand code)) (Reply.Latch (LatchReply.Purged removed count)) n = same_job run.job
-    own_work i x r n = grind (arith, common_steps)
+    own_work i x r n = grind (arith, common_steps, work_rounds, work_given, work_steps, same_job)
 
 -- ---- the balance
 

@@ -2,13 +2,13 @@
 -- what the named jobs add, so a COUNT's sum has 32 bits; and in the end that is the deck's total.
 use Rattle.mv_plan.proofs.Words.{◌≡◌, ℕ, suc, ◌+◌, Bool, true, false, List, [], ◌∷◌, length, refl, sym, ap, ◌∙◌, arith, Reply, Setup}
 use Rattle.mv_plan.proofs.Words.{System, with_at, advanced, gift_code, JobData, Step, Count, job_at, before_end, added, IsNext, initiator}
-use Rattle.mv_plan.proofs.Words.{ElementReply, LatchReply, VolumeReply, common_steps, inl, inr, ◌*◌, ◌^◌, ◌<◌, ◌≤◌, if◌then◌else◌, ◌++◌}
+use Rattle.mv_plan.proofs.Words.{LatchReply, VolumeReply, common_steps, inl, inr, ◌*◌, ◌^◌, ◌<◌, ◌≤◌, if◌then◌else◌, ◌++◌}
 use Rattle.mv_plan.proofs.Words.{None, subst, append-nil, eq-eqb, Entry, next, opening, moved, ◌==◌, slice_index, ne_eqb, given_codes}
 use Rattle.mv_plan.proofs.Words.{step_events, sum_by-cons, end_of, not_run, ends, total, code_of, one_end_per_job, sum_by, rules}
 use Rattle.mv_machine.proofs.EntryRuns.{entry_of}
 use Rattle.mv_plan.proofs.volumes.GivenCodes.{with_code, adds_if, adds_named, adds, adds_all, adds_high, codes_of}
 use Rattle.mv_plan.proofs.volumes.GivenCodes.{codes-push, full, adds-append, adds_by_jobs}
-use Rattle.mv_plan.proofs.points.{Point, At, Running, Hand, InitiatorAt, Pausing, Resuming, Obtaining, Confirming, Freeing, Reading, ToAdd}
+use Rattle.mv_plan.proofs.points.{Point, At, Running, Hand, InitiatorAt, Obtaining, Confirming, Freeing, Reading, ToAdd}
 use Rattle.mv_plan.proofs.points.{Writing, Compares, initiator_goes, steps_at, running, job_start, given_at, initiator_asks}
 use Rattle.mv_plan.proofs.points.{InJob, IsNotLost, given_lands, no_gift}
 use Rattle.mv_plan.proofs.volumes.Alone.{ValueAt, read_keeps, volumes_asked, Values, volumes_same}
@@ -70,10 +70,6 @@ module _ (c : Setup) (s : System) (deck : List JobData) (i v : ℕ) where
 
   pub own_due : (x : InitiatorAt) (p : ℕ) (r : Reply) → NextAt c s deck i x p r → ValueAt s.volume (At x)
       → IsNotLost (initiator_goes deck x r) → DueNext x r
-  own_due (Pausing more before g) p (Reply.Element (ElementReply.Given code now)) h a n =
-      let f = due_given v deck more before code now n in omega arith
-  own_due (Resuming more before g) p (Reply.Element (ElementReply.Given code now)) h a n =
-      let f = due_given v deck more before code now n in omega arith
   own_due (InJob run (Obtaining hand latch mode steps)) p (Reply.Latch (LatchReply.Granted id)) h a n =
       let f = due_steps v run _ steps n in omega arith
   own_due (InJob run (Confirming hand latch mode id steps)) p (Reply.Latch (LatchReply.Granted same)) h a n =
@@ -84,7 +80,7 @@ module _ (c : Setup) (s : System) (deck : List JobData) (i v : ℕ) where
       write_due volume amount number _ (added_by v (before_end steps)) a (due_steps v run hand steps n)
   own_due (InJob run (Reading hand volume (Compares number) steps)) p (Reply.Volume (VolumeReply.Value again)) h a n =
       let e = read_keeps s.volume volume v in let f = due_steps v run hand steps n in omega arith
-  own_due x p r h a n = grind (arith, common_steps)
+  own_due x p r h a n = grind (arith, common_steps, due_given)
 
 -- ---- the balance
 
