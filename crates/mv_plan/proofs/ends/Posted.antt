@@ -134,14 +134,17 @@ stage_stays n s s' p stays = stage_map (IsPostNext n s) (IsPostNext n s') p (λ 
     ((stays run e _ (post, refl)).0 f.0, before_stays n s s' run.job (λ b has. (stays run e b has).1) post f.1))
 
 module _ (deck : List JobData) (initiators : ℕ) where
+  abbrev n : ℕ
+  n = length deck
+
   -- ---- an initiator's event
 
   module _ (c : Setup) (s : System) (t : Points) (past : List Entry) (i : ℕ) (x : InitiatorAt) (p : ℕ) (r : Reply) (lt : i < initiators)
       (at : t.initiators i ≡ At x)
-      (next : IsNext c s (entry_of (initiator i) p (initiator_asks (length deck) i x) r)) (q : HasPlaces deck initiators s t past)
+      (next : IsNext c s (entry_of (initiator i) p (initiator_asks n i x) r)) (q : HasPlaces deck initiators s t past)
       (h : Posted deck initiators s t) where
     abbrev asks : Object × Op
-    asks = initiator_asks (length deck) i x
+    asks = initiator_asks n i x
 
     abbrev i_after : System
     i_after = moved s (initiator i) asks.0 asks.1
@@ -150,13 +153,13 @@ module _ (deck : List JobData) (initiators : ℕ) where
     stands = subst (IsInitiatorAt deck) at (q.0.each i lt)
 
     -- it posts the end of the job that it runs alone
-    own_end_posted : (j b code : ℕ) → j < length deck → HasEnd (length deck) j b → asks.0 ≡ Ecb b
+    own_end_posted : (j b code : ℕ) → j < n → HasEnd n j b → asks.0 ≡ Ecb b
         → asks.1 ≡ Op.Ecb (EcbOp.Post code) → RunBy t i j
     own_end_posted j b code below has o op =
         let w = posts_run deck i x j b stands below has o in
         (w.0, ap run_of at ∙ w.1, w.2)
 
-    others_end : (j b : ℕ) → j < length deck → HasEnd (length deck) j b → (RunBy t i j → ⊥) → NotComplete s b
+    others_end : (j b : ℕ) → j < n → HasEnd n j b → (RunBy t i j → ⊥) → NotComplete s b
         → NotComplete i_after b
     others_end j b below has other free = search (rules, not_moved, own_end_posted)
 
@@ -164,8 +167,8 @@ module _ (deck : List JobData) (initiators : ℕ) where
     still b w = grind (arith, common_steps)
 
     -- the others' jobs
-    others_stage : (m : ℕ) → m < initiators → (m ≡ i → ⊥) → EndStage (length deck) i_after (t.initiators m)
-    others_stage m below other = stage_stays (length deck) s i_after (t.initiators m)
+    others_stage : (m : ℕ) → m < initiators → (m ≡ i → ⊥) → EndStage n i_after (t.initiators m)
+    others_stage m below other = stage_stays n s i_after (t.initiators m)
         (λ run e b has. let job = run_below deck (t.initiators m) run (q.0.each m below) e in
         let apart : RunBy t i run.job → ⊥ =
         λ z. other (run_alone deck initiators s t past q.1 run.job job m i below lt (run, e, refl) z) in
@@ -174,15 +177,15 @@ module _ (deck : List JobData) (initiators : ℕ) where
 
     -- ---- its own
 
-    plain_end : (j b : ℕ) → NotEnding x → j < length deck → HasEnd (length deck) j b → NotComplete s b → NotComplete i_after b
+    plain_end : (j b : ℕ) → NotEnding x → j < n → HasEnd n j b → NotComplete s b → NotComplete i_after b
     plain_end j b plain below has free = grind (arith, common_steps)
 
     -- what stands of the ends of the job that it runs
-    its_stage : (y : InitiatorAt) → x ≡ y → EndStage (length deck) s (At y)
-    its_stage y is = subst (EndStage (length deck) s) (at ∙ ap (λ z. At z) is) (h.stages i lt)
+    its_stage : (y : InitiatorAt) → x ≡ y → EndStage n s (At y)
+    its_stage y is = subst (EndStage n s) (at ∙ ap (λ z. At z) is) (h.stages i lt)
 
     -- which is a job of the deck
-    job_below : (y : InitiatorAt) (run : Running) → x ≡ y → run_of (At y) ≡ Some run → run.job < length deck
+    job_below : (y : InitiatorAt) (run : Running) → x ≡ y → run_of (At y) ≡ Some run → run.job < n
     job_below y run is e = run_below deck (At x) run stands (ap (λ z. run_of (At z)) is ∙ e)
 
     -- it posts this block: it is complete then, and another that was not is not
@@ -193,79 +196,79 @@ module _ (deck : List JobData) (initiators : ℕ) where
     posts_alone m b code e apart free = grind (arith, common_steps)
 
     -- then where it posts no end
-    own_plain : NotEnding x → EndStage (length deck) i_after (initiator_goes deck x r)
-    own_plain plain = stage_goes (IsPostNext (length deck) i_after) deck x r plain
-        (stage_stays (length deck) s i_after (At x)
+    own_plain : NotEnding x → EndStage n i_after (initiator_goes deck x r)
+    own_plain plain = stage_goes (IsPostNext n i_after) deck x r plain
+        (stage_stays n s i_after (At x)
         (λ run e b has. (λ f. plain_end run.job b plain (job_below x run refl e) has f, still b)) (its_stage x refl))
-        (starts_held (λ run. IsPostNext (length deck) i_after OfJob run.job) deck c s i x p r next (λ code named before more g held e. (
-          plain_end named.job _ plain (named_is (length deck) code named e).0 (OfJob, refl)
-              (h.handed i named.job named.skipped lt (named_is (length deck) code named e).0
-              (held ∙ ap (λ z. Some z) (named_is (length deck) code named e).1)),
+        (starts_held (λ run. IsPostNext n i_after OfJob run.job) deck c s i x p r next (λ code named before more g held e. (
+          plain_end named.job _ plain (named_is n code named e).0 (OfJob, refl)
+              (h.handed i named.job named.skipped lt (named_is n code named e).0
+              (held ∙ ap (λ z. Some z) (named_is n code named e).1)),
           tt,
         )))
 
-    after_job : (run : Running) → EndStage (length deck) i_after (rounds_after run)
-    after_job run = rounds_land (EndStage (length deck) i_after) tt run.more _ run.generation (λ left e. tt)
+    after_job : (run : Running) → EndStage n i_after (rounds_after run)
+    after_job run = rounds_land (EndStage n i_after) tt run.more _ run.generation (λ left e. tt)
 
     -- behind a post of its job's end, that post is made, and the next one is not
     own_next : (run : Running) (post later : EndPost) (code : ℕ) (counts : Counts) → x ≡ InJob run (Ending post code counts)
-        → (post ≡ later → ⊥) → (IsComplete s (end_block (length deck) run.job later) → IsComplete s (end_block (length deck) run.job post))
-        → NotComplete i_after (end_block (length deck) run.job later) × IsComplete i_after (end_block (length deck) run.job post)
+        → (post ≡ later → ⊥) → (IsComplete s (end_block n run.job later) → IsComplete s (end_block n run.job post))
+        → NotComplete i_after (end_block n run.job later) × IsComplete i_after (end_block n run.job post)
     own_next run post later code counts is apart order =
-        let asked : asks ≡ (Ecb (end_block (length deck) run.job post), Op.Ecb (EcbOp.Post code)) =
-        ap (λ z. initiator_asks (length deck) i z) is in
+        let asked : asks ≡ (Ecb (end_block n run.job post), Op.Ecb (EcbOp.Post code)) =
+        ap (λ z. initiator_asks n i z) is in
         let job = job_below _ run is refl in (
-          posts_alone _ _ code asked (λ e. apart (one_post (length deck) run.job run.job post later job job e).1)
+          posts_alone _ _ code asked (λ e. apart (one_post n run.job run.job post later job job e).1)
               (λ d e. let w = order (d, e) in (its_stage _ is).0 w.0 w.1),
           posts _ code asked,
         )
 
     -- and at each point
-    own_stage : (y : InitiatorAt) → x ≡ y → EndStage (length deck) i_after (initiator_goes deck y r)
-    own_stage (InJob run (Ending OfJob code counts)) is = ended_lands (EndStage (length deck) i_after) tt run code counts r
+    own_stage : (y : InitiatorAt) → x ≡ y → EndStage n i_after (initiator_goes deck y r)
+    own_stage (InJob run (Ending OfJob code counts)) is = ended_lands (EndStage n i_after) tt run code counts r
         (own_next run OfJob ForScheduler code counts is (λ e. cc e) (h.order run.job (job_below _ run is refl) ForScheduler))
         (after_job run)
     own_stage (InJob run (Ending ForScheduler code counts)) is =
-        on_posted_keeps (EndStage (length deck) i_after) (At (InJob run (Ending ForWriter code counts))) r
+        on_posted_keeps (EndStage n i_after) (At (InJob run (Ending ForWriter code counts))) r
         (own_next run ForScheduler ForWriter code counts is (λ e. cc e) (h.order run.job (job_below _ run is refl) ForWriter)) tt
     own_stage y is = grind (arith, common_steps, own_plain)
 
     -- the order of its posts
-    order_after : (j : ℕ) → j < length deck → IsInOrder (length deck) i_after j
-    order_after j below post w = before_stays (length deck) s i_after j (λ b has. still b) post
-        (elim (complete_moved s (initiator i) asks.0 asks.1 (end_block (length deck) j post) w.0 w.1) [
+    order_after : (j : ℕ) → j < n → IsInOrder n i_after j
+    order_after j below post w = before_stays n s i_after j (λ b has. still b) post
+        (elim (complete_moved s (initiator i) asks.0 asks.1 (end_block n j post) w.0 w.1) [
           | inl before ↦ h.order j below post (w.0, before)
           | inr posted ↦ let a = at_post deck i x j post stands below posted.0 in
-              subst (PostedBefore (length deck) s post) a.4 (its_stage _ a.3).1
+              subst (PostedBefore n s post) a.4 (its_stage _ a.3).1
         ])
 
     -- the done blocks
     abbrev Moved : ℕ → Type 0
-    Moved j = BlockAfter s (initiator i) asks.0 asks.1 (done (length deck) j)
+    Moved j = BlockAfter s (initiator i) asks.0 asks.1 (done n j)
 
-    split_after : (m : ℕ) → next_job (length deck) t.scheduler ≤ m → IsSplit (length deck) s m → IsSplit (length deck) i_after m
+    split_after : (m : ℕ) → next_job n t.scheduler ≤ m → IsSplit n s m → IsSplit n i_after m
     split_after m from sp j below = (
       λ less. extended_after (block_moved s (initiator i) asks.0 asks.1
-          (done (length deck) j)) ((sp j below).0 less),
+          (done n j)) ((sp j below).0 less),
       λ le. zero_after (block_moved s (initiator i) asks.0 asks.1
-          (done (length deck) j)) le,
+          (done n j)) le,
     ) where
-      extended_after : Moved j → (block s (done (length deck) j) ≡ Extended (j + 1)) ⊎ IsComplete s (done (length deck) j)
-          → (block i_after (done (length deck) j) ≡ Extended (j + 1)) ⊎ IsComplete i_after (done (length deck) j)
+      extended_after : Moved j → (block s (done n j) ≡ Extended (j + 1)) ⊎ IsComplete s (done n j)
+          → (block i_after (done n j) ≡ Extended (j + 1)) ⊎ IsComplete i_after (done n j)
       extended_after x was = grind (arith, common_steps)
 
-      zero_after : Moved j → m ≤ j → block i_after (done (length deck) j) ≡ Zero
+      zero_after : Moved j → m ≤ j → block i_after (done n j) ≡ Zero
       zero_after (inl same) le = same ∙ (sp j below).1 le
-      zero_after (inr w) le = let post = initiator_ecb (length deck) i x w.0 w.2 in
+      zero_after (inr w) le = let post = initiator_ecb n i x w.0 w.2 in
           let behind = run_released deck initiators s t past q.1 j below i lt
-          (own_end_posted j (done (length deck) j) post.0 below (OfJob, refl) w.1 (w.2 ∙ ap (λ z. Op.Ecb z) post.1)) in
+          (own_end_posted j (done n j) post.0 below (OfJob, refl) w.1 (w.2 ∙ ap (λ z. Op.Ecb z) post.1)) in
           absurd (omega arith)
 
     pub initiator_posted : Posted deck initiators i_after (record t { initiators = with_at t.initiators i (initiator_goes deck x r) })
     initiator_posted = record {
       entering = λ j below from. not_moved s (initiator i) asks.0 asks.1
           (entered j) (h.entering j below from)
-          (λ code o op. posts_no_entered (length deck) i x j below o);
+          (λ code o op. posts_no_entered n i x j below o);
       coming = λ j below from. others_end j _ below (OfJob, refl) (λ z.
           let behind = run_released deck initiators s t past q.1 j below i lt z in omega arith) (h.coming j below from);
       handed = λ m j skipped lm below e. elim
@@ -273,47 +276,47 @@ module _ (deck : List JobData) (initiators : ℕ) where
           (code_of j skipped) e) [
             | inl before ↦ others_end j _ below (OfJob, refl) (λ z.
                 run_unheld deck initiators s t past q.1 j below i m skipped lt lm z before) (h.handed m j skipped lm below before)
-            | inr w ↦ absurd (initiator_no_release (length deck) i x w.0 (code_of j skipped) w.2)
+            | inr w ↦ absurd (initiator_no_release n i x w.0 (code_of j skipped) w.2)
           ];
-      stages = λ m lm. all_but (λ m p. EndStage (length deck) i_after p) t.initiators i (initiator_goes deck x r) m (own_stage x refl)
+      stages = λ m lm. all_but (λ m p. EndStage n i_after p) t.initiators i (initiator_goes deck x r) m (own_stage x refl)
           (λ other. others_stage m lm (λ z. other (sym z)));
       order = order_after;
-      blocks = done_map (length deck) s i_after t.scheduler split_after h.blocks;
+      blocks = done_map n s i_after t.scheduler split_after h.blocks;
     }
 
   -- ---- an event that posts and clears no block with a job's end, and touches no done block
 
   module _ (s : System) (t : Points) (k : ℕ) (o : Object) (op : Op) (h : Posted deck initiators s t)
-      (no_post : (j b code : ℕ) → j < length deck → HasEnd (length deck) j b → o ≡ Ecb b → op ≡ Op.Ecb (EcbOp.Post code) → ⊥)
-      (no_clear : (j b : ℕ) → j < length deck → HasEnd (length deck) j b → o ≡ Ecb b → op ≡ Op.Ecb EcbOp.Clear → ⊥) where
-    quiet_free : (j b : ℕ) → j < length deck → HasEnd (length deck) j b → NotComplete s b → NotComplete (moved s k o op) b
+      (no_post : (j b code : ℕ) → j < n → HasEnd n j b → o ≡ Ecb b → op ≡ Op.Ecb (EcbOp.Post code) → ⊥)
+      (no_clear : (j b : ℕ) → j < n → HasEnd n j b → o ≡ Ecb b → op ≡ Op.Ecb EcbOp.Clear → ⊥) where
+    quiet_free : (j b : ℕ) → j < n → HasEnd n j b → NotComplete s b → NotComplete (moved s k o op) b
     quiet_free j b below has free = not_moved s k o op b free (λ code e f. no_post j b code below has e f)
 
-    quiet_still : (j b : ℕ) → j < length deck → HasEnd (length deck) j b → IsComplete s b → IsComplete (moved s k o op) b
+    quiet_still : (j b : ℕ) → j < n → HasEnd n j b → IsComplete s b → IsComplete (moved s k o op) b
     quiet_still j b below has w = is_moved s k o op b w (no_clear j b below has)
 
-    quiet_stage : (p : Point InitiatorAt) → IsInitiatorAt deck p → EndStage (length deck) s p → EndStage (length deck) (moved s k o op) p
+    quiet_stage : (p : Point InitiatorAt) → IsInitiatorAt deck p → EndStage n s p → EndStage n (moved s k o op) p
     quiet_stage p at = search (rules, stage_stays, k, op, run_below, quiet_free, quiet_still)
 
-    quiet_was : (j b : ℕ) → j < length deck → HasEnd (length deck) j b → IsComplete (moved s k o op) b → IsComplete s b
+    quiet_was : (j b : ℕ) → j < n → HasEnd n j b → IsComplete (moved s k o op) b → IsComplete s b
     quiet_was j b below has w = elim (complete_moved s k o op b w.0 w.1) [
       | inl before ↦ (w.0, before)
       | inr posted ↦ absurd (no_post j b w.0 below has posted.0 posted.1)
     ]
 
-    quiet_order : (j : ℕ) → j < length deck → IsInOrder (length deck) (moved s k o op) j
-    quiet_order j below post w = before_stays (length deck) s (moved s k o op) j (λ b has. quiet_still j b below has) post
+    quiet_order : (j : ℕ) → j < n → IsInOrder n (moved s k o op) j
+    quiet_order j below post w = before_stays n s (moved s k o op) j (λ b has. quiet_still j b below has) post
         (h.order j below post (quiet_was j _ below (post, refl) w))
 
-    quiet_split : ((j : ℕ) → j < length deck → o ≡ Ecb (done (length deck) j) → ⊥) → (m : ℕ) → IsSplit (length deck) s m
-        → IsSplit (length deck) (moved s k o op) m
+    quiet_split : ((j : ℕ) → j < n → o ≡ Ecb (done n j) → ⊥) → (m : ℕ) → IsSplit n s m
+        → IsSplit n (moved s k o op) m
     quiet_split untouched m sp j below = grind (arith, common_steps)
 
     -- so of an event of the reader or the writer
     quiet_posted : (next_reader : Point ReaderAt) (next_writer : Point WriterAt)
         → ((i : ℕ) → i < initiators → IsInitiatorAt deck (t.initiators i))
-        → ((j : ℕ) → j < length deck → entered_from (length deck) next_reader ≤ j → NotComplete (moved s k o op) (entered j))
-        → ((m : ℕ) → o ≡ Element m → ⊥) → ((j : ℕ) → j < length deck → o ≡ Ecb (done (length deck) j) → ⊥)
+        → ((j : ℕ) → j < n → entered_from n next_reader ≤ j → NotComplete (moved s k o op) (entered j))
+        → ((m : ℕ) → o ≡ Element m → ⊥) → ((j : ℕ) → j < n → o ≡ Ecb (done n j) → ⊥)
         → Posted deck initiators (moved s k o op) (record t { reader = next_reader; writer = next_writer })
     quiet_posted next_reader next_writer each entering no_element untouched = record {
       entering = entering;
@@ -324,15 +327,15 @@ module _ (deck : List JobData) (initiators : ℕ) where
       ];
       stages = λ m lm. quiet_stage (t.initiators m) (each m lm) (h.stages m lm);
       order = quiet_order;
-      blocks = done_map (length deck) s (moved s k o op) t.scheduler (λ m le sp. quiet_split untouched m sp) h.blocks;
+      blocks = done_map n s (moved s k o op) t.scheduler (λ m le sp. quiet_split untouched m sp) h.blocks;
     }
 
   -- ---- the reader
 
-  reader_untouched : (x : ReaderAt) (j : ℕ) → IsReaderAt (length deck) (At x) → (reader_asks x).0 ≡ Ecb (done (length deck) j) → ⊥
+  reader_untouched : (x : ReaderAt) (j : ℕ) → IsReaderAt n (At x) → (reader_asks x).0 ≡ Ecb (done n j) → ⊥
   reader_untouched x j at o = grind (arith, common_steps)
 
-  pub reader_ends : (x : ReaderAt) (j b : ℕ) → IsReaderAt (length deck) (At x) → HasEnd (length deck) j b → (reader_asks x).0 ≡ Ecb b
+  pub reader_ends : (x : ReaderAt) (j b : ℕ) → IsReaderAt n (At x) → HasEnd n j b → (reader_asks x).0 ≡ Ecb b
       → ⊥
   reader_ends x j b at has o = grind (arith, common_steps)
 
@@ -343,10 +346,10 @@ module _ (deck : List JobData) (initiators : ℕ) where
       quiet_posted s t 0 (reader_asks x).0 (reader_asks x).1 h (λ j b code below has o op. reader_ends x j b stands has o)
       (λ j b below has o op. reader_ends x j b stands has o) (reader_goes x r) t.writer q.0.each enters (λ m o. reader_element x o)
       (λ j below o. reader_untouched x j stands o) where
-        stands : IsReaderAt (length deck) (At x)
-        stands = subst (IsReaderAt (length deck)) at q.0.reader
+        stands : IsReaderAt n (At x)
+        stands = subst (IsReaderAt n) at q.0.reader
 
-        enters : (j : ℕ) → j < length deck → entered_from (length deck) (reader_goes x r) ≤ j
+        enters : (j : ℕ) → j < n → entered_from n (reader_goes x r) ≤ j
             → NotComplete (moved s 0 (reader_asks x).0 (reader_asks x).1) (entered j)
         enters j below from = grind (arith, common_steps)
 
@@ -355,8 +358,8 @@ module _ (deck : List JobData) (initiators : ℕ) where
 
   -- ---- the writer
 
-  pub writer_is : (x : WriterAt) (b : ℕ) → (writer_asks x).0 ≡ Ecb b → IsWriterAt (length deck) (At x)
-      → (j : ℕ) × (b ≡ end_for_writer (length deck) j)
+  pub writer_is : (x : WriterAt) (b : ℕ) → (writer_asks x).0 ≡ Ecb b → IsWriterAt n (At x)
+      → (j : ℕ) × (b ≡ end_for_writer n j)
   writer_is x b o at = grind (arith, common_steps)
 
   writer_element : (x : WriterAt) (m : ℕ) → (writer_asks x).0 ≡ Element m → ⊥
@@ -370,87 +373,87 @@ module _ (deck : List JobData) (initiators : ℕ) where
       (λ j b below has o op. writer_clears_none x op) t.reader v q.0.each
       (λ j below from. not_moved s k (writer_asks x).0 (writer_asks x).1 (entered j) (h.entering j below from)
       (λ code o op. writer_no_post x code op)) (λ m o. writer_element x m o)
-      (λ j below o. let w = writer_is x (done (length deck) j) o (subst (IsWriterAt (length deck)) at q.0.writer) in
+      (λ j below o. let w = writer_is x (done n j) o (subst (IsWriterAt n) at q.0.writer) in
       let e = w.1 in omega arith)
 
   -- ---- the scheduler
 
   -- it touches a done block only to extend it
-  scheduler_untouched : (x : SchedulerAt) (j : ℕ) → IsSchedulerAt deck initiators (At x) → j < length deck
-      → (scheduler_asks (length deck) x).0 ≡ Ecb (done (length deck) j)
+  scheduler_untouched : (x : SchedulerAt) (j : ℕ) → IsSchedulerAt deck initiators (At x) → j < n
+      → (scheduler_asks n x).0 ≡ Ecb (done n j)
       → (job : JobData) × (jobs : List JobData) × (skipped : Bool) × (x ≡ Extends j job jobs skipped)
-  scheduler_untouched (Extends k job jobs skipped) j s below o = let e : done (length deck) k ≡ done (length deck) j = cc o in
+  scheduler_untouched (Extends k job jobs skipped) j s below o = let e : done n k ≡ done n j = cc o in
       let same : k ≡ j = omega arith in (job, jobs, skipped, ap (λ z. Extends z job jobs skipped) same)
   scheduler_untouched x j s below o = grind (arith, common_steps, wait_no_done)
 
-  released_next : (x : SchedulerAt) (g j : ℕ) (skipped : Bool) → length deck ≤ not_to_run → IsSchedulerAt deck initiators (At x)
-      → j < length deck → (scheduler_asks (length deck) x).1 ≡ Op.Element (ElementOp.Release g (code_of j skipped))
-      → next_job (length deck) (At x) ≤ j
+  released_next : (x : SchedulerAt) (g j : ℕ) (skipped : Bool) → n ≤ not_to_run → IsSchedulerAt deck initiators (At x)
+      → j < n → (scheduler_asks n x).1 ≡ Op.Element (ElementOp.Release g (code_of j skipped))
+      → next_job n (At x) ≤ j
   released_next x g j skipped few s below op = grind (arith, common_steps)
 
   -- where no done block was touched, the next point has extended as many
   nexts_done : (v : System) (x : SchedulerAt) → IsSchedulerAt deck initiators (At x)
       → ((j : ℕ) (job : JobData) (jobs : List JobData) (skipped : Bool) → x ≡ Extends j job jobs skipped → ⊥)
-      → IsSplit (length deck) v (extended_at (length deck) x)
-      → AllNext (length deck) initiators (λ p. DoneBlocks (length deck) v p) x
+      → IsSplit n v (extended_at n x)
+      → AllNext n initiators (λ p. DoneBlocks n v p) x
   nexts_done v x s ne sp = grind (arith, common_steps)
 
-  module _ (few : length deck ≤ not_to_run) (s : System) (t : Points) (past : List Entry) (x : SchedulerAt) (r : Reply)
+  module _ (few : n ≤ not_to_run) (s : System) (t : Points) (past : List Entry) (x : SchedulerAt) (r : Reply)
       (at : t.scheduler ≡ At x) (q : HasPlaces deck initiators s t past) (h : Posted deck initiators s t) where
     s_stands : IsSchedulerAt deck initiators (At x)
     s_stands = subst (IsSchedulerAt deck initiators) at q.0.scheduler
 
     abbrev s_asks : Object × Op
-    s_asks = scheduler_asks (length deck) x
+    s_asks = scheduler_asks n x
 
     abbrev s_after : System
     s_after = moved s 1 s_asks.0 s_asks.1
 
-    s_no_post : (j b code : ℕ) → j < length deck → HasEnd (length deck) j b → s_asks.0 ≡ Ecb b
+    s_no_post : (j b code : ℕ) → j < n → HasEnd n j b → s_asks.0 ≡ Ecb b
         → s_asks.1 ≡ Op.Ecb (EcbOp.Post code) → ⊥
-    s_no_post j b code below has o op = scheduler_no_post (length deck) x code op
+    s_no_post j b code below has o op = scheduler_no_post n x code op
 
-    s_no_clear : (j b : ℕ) → j < length deck → HasEnd (length deck) j b → s_asks.0 ≡ Ecb b
+    s_no_clear : (j b : ℕ) → j < n → HasEnd n j b → s_asks.0 ≡ Ecb b
         → s_asks.1 ≡ Op.Ecb EcbOp.Clear → ⊥
     s_no_clear j b below has o op = grind (arith, common_steps)
 
-    free_still : (j : ℕ) → j < length deck → NotDone (length deck) s j → NotDone (length deck) s_after j
+    free_still : (j : ℕ) → j < n → NotDone n s j → NotDone n s_after j
     free_still j below f = grind (arith, common_steps)
 
     plain_after : (y : SchedulerAt) → x ≡ y
         → ((j : ℕ) (job : JobData) (jobs : List JobData) (skipped : Bool) → y ≡ Extends j job jobs skipped → ⊥)
-        → IsSplit (length deck) s (extended_at (length deck) y)
-        → DoneBlocks (length deck) s_after (scheduler_goes (length deck) initiators x r)
-    plain_after y is ne sp = goes_next (length deck) initiators (λ p. DoneBlocks (length deck) s_after p) x r tt tt
+        → IsSplit n s (extended_at n y)
+        → DoneBlocks n s_after (scheduler_goes n initiators x r)
+    plain_after y is ne sp = goes_next n initiators (λ p. DoneBlocks n s_after p) x r tt tt
         (nexts_done s_after x s_stands (λ j job jobs skipped e. ne j job jobs skipped (sym is ∙ e))
         (quiet_split s t 1 s_asks.0 s_asks.1 h s_no_post s_no_clear
         (λ j below o. let w = scheduler_untouched x j s_stands below o in ne j w.0 w.1 w.2 (sym is ∙ w.3))
-        (extended_at (length deck) x) (subst (λ z. IsSplit (length deck) s (extended_at (length deck) z)) (sym is) sp)))
+        (extended_at n x) (subst (λ z. IsSplit n s (extended_at n z)) (sym is) sp)))
 
-    blocks_after : (y : SchedulerAt) → x ≡ y → IsSplit (length deck) s (extended_at (length deck) y)
-        → DoneBlocks (length deck) s_after (scheduler_goes (length deck) initiators x r)
+    blocks_after : (y : SchedulerAt) → x ≡ y → IsSplit n s (extended_at n y)
+        → DoneBlocks n s_after (scheduler_goes n initiators x r)
     blocks_after (Extends j job jobs skipped) is sp = grind (arith, common_steps)
     blocks_after y is sp = plain_after y is (λ j job jobs skipped e. cc e) sp
 
-    scheduler_posted : Posted deck initiators s_after (record t { scheduler = scheduler_goes (length deck) initiators x r })
+    scheduler_posted : Posted deck initiators s_after (record t { scheduler = scheduler_goes n initiators x r })
     scheduler_posted = record {
       entering = λ j below from. not_moved s 1 s_asks.0 s_asks.1 (entered j)
-          (h.entering j below from) (λ code o op. scheduler_no_post (length deck) x code op);
+          (h.entering j below from) (λ code o op. scheduler_no_post n x code op);
       coming = λ j below from. let grows = next_grows deck initiators x r s_stands in
-          free_still j below (h.coming j below (subst (λ z. next_job (length deck) z ≤ j) (sym at) (omega arith)));
+          free_still j below (h.coming j below (subst (λ z. next_job n z ≤ j) (sym at) (omega arith)));
       handed = λ m j skipped lm below e. elim
           (held_moved s 1 s_asks.0 s_asks.1 (initiator m) (code_of j skipped) e) [
             | inl before ↦ free_still j below (h.handed m j skipped lm below before)
             | inr w ↦ free_still j below (h.coming j below
-                (subst (λ z. next_job (length deck) z ≤ j) (sym at) (released_next x w.0 j skipped few s_stands below w.2)))
+                (subst (λ z. next_job n z ≤ j) (sym at) (released_next x w.0 j skipped few s_stands below w.2)))
           ];
       stages = λ m lm. quiet_stage s t 1 s_asks.0 s_asks.1 h s_no_post s_no_clear
           (t.initiators m) (q.0.each m lm) (h.stages m lm);
       order = quiet_order s t 1 s_asks.0 s_asks.1 h s_no_post s_no_clear;
-      blocks = blocks_after x refl (subst (λ z. DoneBlocks (length deck) s z) at h.blocks);
+      blocks = blocks_after x refl (subst (λ z. DoneBlocks n s z) at h.blocks);
     }
 
-  pub posted_keeps : (c : Setup) → length deck ≤ not_to_run
+  pub posted_keeps : (c : Setup) → n ≤ not_to_run
       → KeepsUnder (HasPlaces deck initiators) (HasPosted deck initiators) c deck initiators
   posted_keeps c few = search (rules, by_moves, initiators, reader_posted, scheduler_posted, initiator_posted, writer_posted)
 
@@ -461,5 +464,5 @@ module _ (deck : List JobData) (initiators : ℕ) where
 
   pub extend_is_armed : (c : Setup) (s : System) (t : Points) (j : ℕ) (job : JobData) (jobs : List JobData) (skipped : Bool) (k p : ℕ)
       (r : Reply) → t.scheduler ≡ At (Extends j job jobs skipped) → TasksStand deck initiators t → Posted deck initiators s t
-      → IsNext c s (entry_of k p (scheduler_asks (length deck) (Extends j job jobs skipped)) r) → r ≡ Reply.Ecb EcbReply.Armed
+      → IsNext c s (entry_of k p (scheduler_asks n (Extends j job jobs skipped)) r) → r ≡ Reply.Ecb EcbReply.Armed
   extend_is_armed c s t j job jobs skipped k p r at stands h next = grind (arith, common_steps)
