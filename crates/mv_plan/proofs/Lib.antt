@@ -13,7 +13,7 @@
 -- done     a job's done block is its own: posted first, extended before the job is released, so that its exit posts the other two
 -- hand     the latches that a running job holds; grip: what is said of an initiator's requests by its point (latches/Hands)
 -- due      what a running job has still to add to a volume (volumes/Totals)
--- landing  the points that may follow an initiator's event (points/Lands)
+-- landing  the points that may follow an initiator's event (points/Points)
 -- sound    so as it may be, by the task's own steps alone; foreseen: not Astray, by what the others do
 --
 -- Each layer is a folder; its file beside the folder passes on the words of all its modules, and later layers take them from there.

@@ -1,3 +1,2 @@
 -- What the code of the configuration and of the outcome needs of lists.
-pub mod Left
-pub mod Owners
+pub mod Lists

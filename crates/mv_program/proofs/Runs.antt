@@ -21,7 +21,7 @@ use Rattle.mv_entrytext.proofs.LinesAgain.{read_again}
 use Rattle.mv_plan.specs.SpoolRun.{IsRun}
 use Rattle.mv_plan.specs.SpoolSetup.{spool_setup}
 use Rattle.mv_plan.proofs.deck.Planned.{planned}
-use Rattle.mv_plan.proofs.deck.Valid.{spool_setup_is_valid}
+use Rattle.mv_plan.proofs.deck.Setup.{spool_setup_is_valid}
 use Rattle.mv_plan.proofs.results.HandedOut.{are_handed_out}
 use Rattle.mv_deck.specs.Weight.{most_initiators}
 use Rattle.mv_script.specs.declared.answer.Answer.{Answer}

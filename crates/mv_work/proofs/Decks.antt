@@ -17,8 +17,7 @@ use Rattle.mv_machine.specs.Setup.{Setup, is_exit_of, owner_of}
 use Rattle.mv_plan.specs.Jobs.{job_at, no_job}
 use Rattle.mv_plan.specs.SpoolSetup.{task_budgets, block_owners, entered, done}
 use Rattle.mv_plan.proofs.deck.Ends.{sound_job}
-use Rattle.mv_plan.proofs.deck.Planned.{planned}
-use Rattle.mv_plan.proofs.deck.Plans.{IsPlannedJob}
+use Rattle.mv_plan.proofs.deck.Planned.{planned, IsPlannedJob}
 use Rattle.mv_plan.proofs.deck.Setup.{exit_source}
 use Rattle.mv_machine.proofs.Lists.{all_map}
 use Rattle.mv_work.specs.declared.need.Need.TheVariants as need

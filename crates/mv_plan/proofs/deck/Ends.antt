@@ -1,16 +1,48 @@
--- Sound decks: each job's end by the ends of the whole deck, which jobs are not to be run, and that jobs are few enough for
--- codes to name them; the budgets of all tasks are the weight. Used by the layer of ends, by totals, and by all results.
-use Rattle.mv_plan.proofs.Words.{◌≡◌, ℕ, ◌+◌, List, [], ◌∷◌, length, refl, ap, ◌∙◌, Step, JobData, suc}
-use Rattle.mv_plan.proofs.Words.{◌<◌, ◌≤◌, ◌++◌, get_or, sum, if◌then◌else◌, sym, subst, arith, zero-add, ◌==◌, Bool, true, false, cond}
-use Rattle.mv_plan.proofs.Words.{no_job, job_at, end_of, weight, not_run, some_unaccepted, own_end, ends, not_to_run, task_budgets, eq-eqb}
-use Rattle.mv_plan.proofs.Words.{ne_eqb, common_steps}
+-- The codes that name jobs: a code has one job and one mark, and is never 0; and how the list of released codes grows by an entry. Sound
+-- decks: each job's end by the ends of the whole deck, which jobs are not to be run, and that jobs are few enough for codes to name
+-- them; the budgets of all tasks are the weight.
+use Rattle.mv_plan.proofs.Words.{◌≡◌, ℕ, ◌<◌, ◌≤◌, Bool, List, [], ◌∷◌, ◌++◌, Some, None, refl, ◌∙◌, append-nil, arith, filter_map-append}
+use Rattle.mv_plan.proofs.Words.{Entry, released_code, naming, released_codes, code_of, not_to_run, common_steps, ◌+◌, length, ap, Step}
+use Rattle.mv_plan.proofs.Words.{JobData, suc, get_or, sum, if◌then◌else◌, sym, subst, zero-add, ◌==◌, true, false, cond, no_job, job_at}
+use Rattle.mv_plan.proofs.Words.{end_of, weight, not_run, some_unaccepted, own_end, ends, task_budgets, eq-eqb, ne_eqb}
 use Rattle.std.proofs.Common.{add-zero}
 use Rattle.mv_report.specs.Outcome.{end_behind}
 use Rattle.std.specs.Prelude.{All, take, drop}
 use Rattle.std.proofs.lemmas.List.{length-take-le, set-get_or, set_split}
 use Rattle.std.proofs.lemmas.List.Elements.{All-from_recursion}
 use Rattle.mv_report.proofs.Ends.{ends_by_accepted_codes}
-use Rattle.mv_plan.proofs.deck.Plans.{IsPlannedJob, ArePlannedJobs, IsPlanned, Held, ArePlannedSteps}
+use Rattle.mv_plan.proofs.deck.Planned.{IsPlannedJob, ArePlannedJobs, IsPlanned, Held, ArePlannedSteps}
+
+-- a code has one job, and one mark
+pub code_parts : (n j k : ℕ) (a b : Bool) → n ≤ not_to_run → j < n → k < n → code_of j a ≡ code_of k b → (j ≡ k) × (a ≡ b)
+code_parts n j k x y few z u e = grind (arith, common_steps)
+
+-- and is not 0
+pub never_zero : (j : ℕ) (a : Bool) → code_of j a ≡ 0 → ⊥
+never_zero j x e = grind (arith, common_steps)
+
+-- the code of a job names it
+pub naming_own : (j : ℕ) (a : Bool) → naming j (Some (code_of j a)) ≡ Some (code_of j a)
+naming_own j x = grind (arith, common_steps)
+
+-- and no other
+pub naming_other : (n j k : ℕ) (a : Bool) → n ≤ not_to_run → j < n → k < n → (k ≡ j → ⊥) → naming j (Some (code_of k a)) ≡ None
+naming_other n j k a few x y d = grind (arith, common_steps)
+
+pub naming_zero : (j : ℕ) → naming j (Some 0) ≡ None
+naming_zero j = grind (arith, common_steps)
+
+-- an entry more
+pub released_none : (j : ℕ) (past : List Entry) (e : Entry) → naming j (released_code e.op) ≡ None
+    → released_codes j (past ++ e ∷ []) ≡ released_codes j past
+released_none j past e q =
+    filter_map-append (λ e. naming j (released_code e.op)) past (e ∷ []) ∙ rw q (append-nil (released_codes j past))
+
+pub released_some : (j : ℕ) (past : List Entry) (e : Entry) (code : ℕ) → naming j (released_code e.op) ≡ Some code
+    → released_codes j (past ++ e ∷ []) ≡ released_codes j past ++ code ∷ []
+released_some j past e code q = filter_map-append (λ e. naming j (released_code e.op)) past (e ∷ []) ∙ rw q refl
+
+-- ---- the ends of a sound deck
 
 -- ---- ends
 

@@ -1,12 +1,11 @@
 -- Who touches a volume holds its latch, and who counts on it holds it alone; so no two initiators stand so at one volume.
-use Rattle.mv_plan.proofs.Words.{◌≡◌, ℕ, ◌<◌, ◌==◌, Bool, true, false, not, ◌&&◌, ◌||◌, List, [], ◌∷◌, length, Option, Some, None, refl}
-use Rattle.mv_plan.proofs.Words.{sym, ap, ◌∙◌, subst, arith, Contains, list_any, eqb-true, Request, granted, list_of, is_shared}
-use Rattle.mv_plan.proofs.Words.{shared_request, JobData, initiator, all_at, common_steps}
+use Rattle.mv_plan.proofs.Words.{◌≡◌, ℕ, ◌<◌, ◌==◌, Bool, true, false, not, ◌&&◌, ◌||◌, List, [], ◌∷◌, length, Option, Some, None, refl, ap}
+use Rattle.mv_plan.proofs.Words.{sym, ◌∙◌, subst, arith, Contains, list_any, eqb-true, Request, granted, list_of, is_shared, shared_request}
+use Rattle.mv_plan.proofs.Words.{JobData, initiator, all_at, common_steps}
 use Rattle.mv_latch.proofs.Holders.{alone}
 use Rattle.mv_plan.proofs.deck.{is_held, is_held_alone}
 use Rattle.mv_plan.proofs.latches.Lists.{finds, found, request_of}
-use Rattle.mv_plan.proofs.latches.HandMoves.{has_latch}
-use Rattle.mv_plan.proofs.latches.Hands.{grip, OwnsBy, Hands, Holds}
+use Rattle.mv_plan.proofs.latches.Hands.{has_latch, grip, OwnsBy, Hands, Holds}
 use Rattle.mv_plan.proofs.points.{held_of, IsInitiatorAt, Point, At, Grant, InitiatorAt, Reading, ToAdd, Writing, ToCompare, Compares}
 use Rattle.mv_plan.proofs.points.{InJob}
 

@@ -1,24 +1,23 @@
 -- The ledger is kept by each move at which no task is lost. A moment: all that is known there (kept, sound points, rows, ledger), and
 -- the induction that may use it. Results on runs are proved by walk_moments.
-use Rattle.mv_plan.proofs.Words.{◌≡◌, ℕ, ◌+◌, ◌<◌, ◌≤◌, Bool, if◌then◌else◌, List, [], ◌∷◌, ◌++◌, length, Option, Some, None, inl, inr}
-use Rattle.mv_plan.proofs.Words.{refl, sym, ap, ◌∙◌, subst, arith, cases_eq, eq-eqb, ElementState, element_step, Entry, Element, Reply}
-use Rattle.mv_plan.proofs.Words.{IsNext, next, Setup, System, moved, reply_to, with_at, released_code, gift_code, JobData, Kept, reader}
-use Rattle.mv_plan.proofs.Words.{scheduler, initiator, writer, code_of, not_to_run, naming, released_codes, ElementOp, Op, common_steps}
-use Rattle.mv_plan.proofs.Words.{after_from, opening}
+use Rattle.mv_plan.proofs.Words.{◌≡◌, ℕ, ◌+◌, ◌<◌, ◌≤◌, Bool, if◌then◌else◌, List, [], ◌∷◌, ◌++◌, length, Option, Some, None, inl, inr, sym}
+use Rattle.mv_plan.proofs.Words.{refl, ap, ◌∙◌, subst, arith, cases_eq, eq-eqb, ElementState, element_step, Entry, Element, Reply, IsNext}
+use Rattle.mv_plan.proofs.Words.{next, Setup, System, moved, reply_to, with_at, released_code, gift_code, JobData, Kept, reader, scheduler}
+use Rattle.mv_plan.proofs.Words.{initiator, writer, code_of, not_to_run, naming, released_codes, ElementOp, Op, common_steps, after_from}
+use Rattle.mv_plan.proofs.Words.{opening}
 use Rattle.mv_plan.proofs.deck.{naming_own, naming_other, naming_zero, released_none, released_some, ArePlannedJobs, Facts}
 use Rattle.mv_plan.proofs.points.{IsReaderAt, IsWriterAt, IsInitiatorAt, NoRelease, same_next, dispatched_next, dismissed_next, Point, At}
-use Rattle.mv_plan.proofs.points.{Stage, Dispatching, Dismissing, reader_asks, reader_goes, SchedulerAt, Releases, scheduler_asks}
+use Rattle.mv_plan.proofs.points.{Stage, Dispatching, Dismissing, reader_asks, reader_goes, SchedulerAt, Releases, scheduler_asks, jobs_of}
 use Rattle.mv_plan.proofs.points.{scheduler_goes, writer_asks, writer_goes, InitiatorAt, initiator_asks, initiator_goes, IsSchedulerAt}
-use Rattle.mv_plan.proofs.points.{rest_count, no_release, reader_plain, writer_plain, Elsewhere, code_held, jobs_of, next_job, IsNotLost}
-use Rattle.mv_plan.proofs.points.{stage_at}
+use Rattle.mv_plan.proofs.points.{rest_count, no_release, reader_plain, writer_plain, Elsewhere, code_held, next_job, IsNotLost, stage_at}
 use Rattle.mv_plan.proofs.places.Deeds.{Deed, went_on, given, elsewhere_gave, initiator_did, element_code, Released, Ledger}
-use Rattle.mv_plan.proofs.standing.{Stance, Loses, stance, RowAt, hold_for, offer_of, element_of, row_at, Apart, apart, reader_low}
-use Rattle.mv_plan.proofs.standing.{writer_low, rows_start, rows_next, Row, Rows}
+use Rattle.mv_plan.proofs.standing.{Stance, Loses, stance, RowAt, hold_for, offer_of, element_of, row_at, Apart, apart, reader_low, Row}
+use Rattle.mv_plan.proofs.standing.{writer_low, rows_start, rows_next, Rows}
 use Rattle.mv_plan.proofs.walks.{Stand, SameTalk, same_talk, Points, Move, entry_of, Each, of_move, fits_opening, fits_next, stand_start}
 use Rattle.mv_plan.proofs.walks.{stand_next, kept_next, none_lost_before, start_points, WalkTo, walk_keeps, NoneLost}
 use Rattle.mv_plan.proofs.lists.{sum_to, sum_ext, sum_change, sum_with_at, count_of, one_of, length-pushed, with_at-same, with_at-other}
 use Rattle.mv_plan.proofs.lists.{all_but, sum_zero}
-use Rattle.mv_plan.proofs.walks.Fits.{Fits}
+use Rattle.mv_plan.proofs.walks.Stands.{Fits}
 
 -- a task that is not lost has a stance
 pub has_stance : (p : Point InitiatorAt) → IsNotLost p → stance p ≡ Loses → ⊥

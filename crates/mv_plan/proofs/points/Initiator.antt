@@ -1,12 +1,23 @@
--- An initiator's program goes from point to point. Used by Following.
-use Rattle.mv_plan.proofs.Words.{◌≡◌, ℕ, zero, suc, ◌+◌, ◌-◌, ◌<◌, ◌≤◌, ◌==◌, nat_lt, Bool, true, false, not, ◌&&◌, if◌then◌else◌, List, []}
-use Rattle.mv_plan.proofs.Words.{◌∷◌, ◌++◌, length, Option, Some, None, Ok, refl, ap, ◌∙◌, arith, AllByRecursion, list_any, lt-ltb, Wake}
-use Rattle.mv_plan.proofs.Words.{Mode, Latches, Reply, Setup, JobData, Step, Print, Use, job_at, Kept, nothing_kept, obtained, token_of}
-use Rattle.mv_plan.proofs.Words.{deallocate, Woke, each_posted, posted_next, post_within, wake_posted, Program, Do, Done, Heard, asks}
-use Rattle.mv_plan.proofs.Words.{heard, and_then, going_on, unrefused, accepted, followed, finished, unless_refused, on_latch}
-use Rattle.mv_plan.proofs.Words.{end_for_scheduler, end_for_writer, initiator, Named, job_named, named_by, run_job, granted_as, rounds}
-use Rattle.mv_plan.proofs.Words.{refused_if, done, EcbReply, ElementReply, LatchOp, LatchReply, LatchForm, Op, VolumeReply, common_steps}
-use Rattle.mv_plan.proofs.Words.{rules, Counts}
+-- Where an initiator may stand: its rounds, the steps that are left of its job, the latches in its hand, the code that it ends
+-- with; and what it keeps there. Kept by each of its steps, whatever the reply. And its program goes from point to point.
+use Rattle.mv_plan.proofs.Words.{◌≡◌, ℕ, suc, ◌+◌, ◌<◌, ◌≤◌, ◌==◌, Bool, true, false, not, if◌then◌else◌, List, [], ◌∷◌, ◌++◌, length, map}
+use Rattle.mv_plan.proofs.Words.{filter, Option, Some, refl, ap, ◌∙◌, subst, append_assoc, arith, AllByRecursion, list_any, eqb-true, Mode}
+use Rattle.mv_plan.proofs.Words.{false≢true, length-append, Reply, with_at, JobData, Step, Print, Use, Count, Scan, Abend, Return, job_at}
+use Rattle.mv_plan.proofs.Words.{not_run, own_end, AreDistinct, Kept, nothing_kept, initiator, Named, job_named, code_of, all_push, Free}
+use Rattle.mv_plan.proofs.Words.{ElementReply, LatchReply, LatchForm, common_steps, rules, VolumeReply, zero, ◌-◌, nat_lt, ◌&&◌, None, Ok}
+use Rattle.mv_plan.proofs.Words.{lt-ltb, Wake, Latches, Setup, obtained, token_of, deallocate, Woke, each_posted, posted_next, post_within}
+use Rattle.mv_plan.proofs.Words.{wake_posted, Program, Do, Done, Heard, asks, heard, and_then, going_on, unrefused, accepted, followed, Op}
+use Rattle.mv_plan.proofs.Words.{finished, unless_refused, on_latch, end_for_scheduler, end_for_writer, named_by, run_job, granted_as, done}
+use Rattle.mv_plan.proofs.Words.{rounds, refused_if, EcbReply, LatchOp, Counts}
+use Rattle.mv_machine.specs.Kept.{StandingRequest, is_named, is_for, less}
+use Rattle.mv_plan.proofs.deck.{Held, is_held, ArePlannedSteps, ArePlannedJobs, sound_job, Facts}
+use Rattle.mv_plan.proofs.points.Points.{Point, At, Grant, Running, Hand, hand_with, without_latch, hand_without, hand_at, InitiatorAt}
+use Rattle.mv_plan.proofs.points.Points.{Opening, Offering, Pausing, Resuming, Obtaining, Confirming, Freeing, Reading, ToAdd, Writing}
+use Rattle.mv_plan.proofs.points.Points.{Compares, Purging, Ending, initiator_asks, initiator_goes, rounds_after, steps_at, running, InJob}
+use Rattle.mv_plan.proofs.points.Points.{job_start, given_at, Astray, empty_hand, ToCompare, OfJob, Closing, rounds_from, named_at}
+use Rattle.mv_plan.proofs.points.Points.{rounds_land, given_lands}
+use Rattle.mv_plan.proofs.points.Programs.{keeps, program_at, rounds_rest, given_rest, ending, stepping, steps_rest, obtained_rest}
+use Rattle.mv_plan.proofs.points.Programs.{initiator_program, post_is_now, IsPlainPost}
 use Rattle.mv_calls.specs.LatchCalls.{obtain_refusal}
 use Rattle.mv_calls.specs.Pauses.{gift_of, allocate}
 use Rattle.mv_calls.specs.Posts.{wakes_posted}
@@ -14,15 +25,298 @@ use Rattle.mv_calls.specs.Program.{wrong}
 use Rattle.mv_machine.specs.Check.{or_else}
 use Rattle.mv_calls.specs.Refusal as refusal
 use Rattle.mv_plan.specs.SpoolTasks.{job_done}
-use Rattle.mv_plan.proofs.deck.{ArePlannedJobs, Facts}
-use Rattle.mv_plan.proofs.points.Points.{At, Astray, Grant, Running, Hand, empty_hand, hand_with, hand_without, InitiatorAt, Opening}
-use Rattle.mv_plan.proofs.points.Points.{Offering, Pausing, Resuming, Obtaining, Confirming, Freeing, Reading, ToAdd, Writing, ToCompare}
-use Rattle.mv_plan.proofs.points.Points.{Compares, Purging, Ending, OfJob, Closing, initiator_asks}
-use Rattle.mv_plan.proofs.points.Points.{initiator_goes, rounds_from, rounds_after, steps_at, running, job_start, named_at, given_at, InJob}
-use Rattle.mv_plan.proofs.points.Programs.{program_at, rounds_rest, given_rest, ending, stepping, steps_rest, obtained_rest}
-use Rattle.mv_plan.proofs.points.Programs.{initiator_program, post_is_now, IsPlainPost, keeps}
-use Rattle.mv_plan.proofs.points.InitiatorSound.{IsRound, IsStepping, InitiatorKept, InitiatorStands, standing_of, rises_few, named_is}
-use Rattle.mv_plan.proofs.points.InitiatorSound.{job_sound, obtained_stand, pushed_kept, freed_stand, freed_kept, step_done}
+
+-- ---- rounds
+
+-- the jobs that were named before are different jobs of the n, and with the rounds that are left there are n
+pub record IsRound (n more : ℕ) (before : List ℕ) : Type 0 where
+  pub count : length before + more ≡ n
+  pub below : AllByRecursion (λ j. j < n) before
+  pub distinct : AreDistinct before
+
+-- so are the jobs that were named before the running one, and it
+pub record IsRunning (n : ℕ) (run : Running) : Type 0 where
+  pub round : IsRound n run.more run.before
+  pub job : run.job < n
+  pub new : list_any (λ j. j == run.job) run.before ≡ false
+
+-- the code that a job is to end with, once an initiator has it
+abbrev pub IsEnd : List JobData → Running → ℕ → Type 0
+IsEnd deck run code = code ≡ (if run.skipped then not_run else own_end (job_at deck run.job).steps)
+
+-- ---- steps
+
+abbrev pub IsNoEnd : Step → Type 0
+IsNoEnd (Abend code) = ⊥
+IsNoEnd (Return code) = ⊥
+IsNoEnd step = Unit {0}
+
+-- these are the running job's steps behind others, none of which ended the job
+pub record AreLeft (deck : List JobData) (run : Running) (steps : List Step) : Type 0 where
+  pub past : List Step
+  pub whole : past ++ steps ≡ (job_at deck run.job).steps
+  pub going : AllByRecursion IsNoEnd past
+  pub runs : run.skipped ≡ false
+
+-- the latches that it holds, as the deck's soundness sees them
+abbrev pub held_of : List Grant → List Held
+held_of gs = map (λ g. record { latch = g.latch; mode = g.mode }) gs
+
+-- latches rise
+abbrev pub Rises : ℕ → List Grant → Type 0
+Rises low [] = Unit {0}
+Rises low (g ∷ gs) = (low ≤ g.latch) × Rises (g.latch + 1) gs
+
+-- the latches that are held rise, and the request that it last had at each is the one that holds it
+pub record IsHand (hand : Hand) : Type 0 where
+  pub rises : Rises 0 hand.holding
+  pub last : AllByRecursion (λ g. hand.requests g.latch ≡ Some g.id) hand.holding
+
+pub record IsStepping (deck : List JobData) (run : Running) (hand : Hand) (steps : List Step) : Type 0 where
+  pub round : IsRunning (length deck) run
+  pub holds : IsHand hand
+  pub left : AreLeft deck run steps
+  pub sound : ArePlannedSteps (held_of hand.holding) steps
+
+pub record IsEnding (deck : List JobData) (run : Running) (code : ℕ) : Type 0 where
+  pub round : IsRunning (length deck) run
+  pub end : IsEnd deck run code
+
+abbrev pub IsInitiatorAt : List JobData → Point InitiatorAt → Type 0
+IsInitiatorAt deck (At Opening) = Unit {0}
+IsInitiatorAt deck (At (Offering more before g)) = IsRound (length deck) more before
+IsInitiatorAt deck (At (Pausing more before g)) = IsRound (length deck) more before
+IsInitiatorAt deck (At (Resuming more before g)) = IsRound (length deck) more before
+IsInitiatorAt deck (At (InJob run (Obtaining hand latch mode steps))) = IsStepping deck run hand (Use latch mode ∷ steps)
+IsInitiatorAt deck (At (InJob run (Confirming hand latch mode id steps))) = IsStepping deck run hand (Use latch mode ∷ steps)
+IsInitiatorAt deck (At (InJob run (Freeing hand latch id steps))) =
+    IsStepping deck run hand (Free latch ∷ steps) × (hand.requests latch ≡ Some id)
+IsInitiatorAt deck (At (InJob run (Reading hand volume (ToAdd amount) steps))) = IsStepping deck run hand (Count volume amount ∷ steps)
+IsInitiatorAt deck (At (InJob run (Writing hand volume amount number steps))) = IsStepping deck run hand (Count volume amount ∷ steps)
+IsInitiatorAt deck (At (InJob run (Reading hand volume purpose steps))) = IsStepping deck run hand (Scan volume ∷ steps)
+IsInitiatorAt deck (At (InJob run (Purging hand code))) = IsEnding deck run code
+IsInitiatorAt deck (At (InJob run (Ending post code counts))) = IsEnding deck run code
+IsInitiatorAt deck p = Unit {0}
+
+-- ---- what it keeps
+
+-- the requests of the running job that stand
+abbrev pub standing_one : ℕ → ℕ → Grant → StandingRequest
+standing_one k job g =
+    record { latch = g.latch; request = record { id = g.id; caller = k; requestor = job + 1; mode = g.mode; form = LatchForm.Waiting } }
+
+abbrev pub standing_of : ℕ → ℕ → List Grant → List StandingRequest
+standing_of k job gs = map (standing_one k job) gs
+
+pub record InitiatorKept (i : ℕ) (requests : List StandingRequest) (kept : Kept) : Type 0 where
+  pub caller : kept.caller ≡ initiator i
+  pub stand : kept.requests ≡ requests
+
+abbrev pub InitiatorKeptAt : ℕ → Kept → Point InitiatorAt → Type 0
+InitiatorKeptAt i kept (At Opening) = kept ≡ nothing_kept (initiator i)
+InitiatorKeptAt i kept (At (InJob run (Confirming hand latch mode id steps))) =
+    InitiatorKept i (standing_of (initiator i) run.job (hand_with hand latch mode id).holding) kept
+InitiatorKeptAt i kept (At (InJob run w)) = InitiatorKept i (standing_of (initiator i) run.job (hand_at w).holding) kept
+InitiatorKeptAt i kept (At x) = InitiatorKept i [] kept
+InitiatorKeptAt i kept p = Unit {0}
+
+abbrev pub InitiatorStands : List JobData → ℕ → Kept → Point InitiatorAt → Type 0
+InitiatorStands deck i kept p = IsInitiatorAt deck p × InitiatorKeptAt i kept p
+
+-- ---- codes and their jobs
+
+pub named_is : (n code : ℕ) (named : Named) → job_named n code ≡ Some named → (named.job < n) × (code ≡ code_of named.job named.skipped)
+named_is n code named e = grind (arith, common_steps)
+
+-- ---- ends
+
+pub own_end_left : (past steps : List Step) → AllByRecursion IsNoEnd past → own_end (past ++ steps) ≡ own_end steps
+own_end_left [] steps g = grind (arith, common_steps)
+own_end_left (step ∷ past) steps g = grind (arith, common_steps, own_end_left past)
+
+-- one step was done
+pub left_next : (deck : List JobData) (run : Running) (step : Step) (steps : List Step) → IsNoEnd step → AreLeft deck run (step ∷ steps)
+    → AreLeft deck run steps
+left_next deck run step steps s l =
+    record {
+      past = l.past ++ step ∷ [];
+      whole = append_assoc l.past (step ∷ []) steps
+          ∙ l.whole;
+      going = all_push IsNoEnd l.past step l.going s;
+      runs = l.runs;
+    }
+
+pub step_done : (deck : List JobData) (run : Running) (hand : Hand) (step : Step) (steps : List Step) → IsNoEnd step
+    → ArePlannedSteps (held_of hand.holding) steps → IsStepping deck run hand (step ∷ steps) → IsStepping deck run hand steps
+step_done deck run hand step steps goes sound s = grind (arith, common_steps, left_next)
+
+-- the code of the job's end, at the step that ends it
+pub left_end : (deck : List JobData) (run : Running) (steps : List Step) → AreLeft deck run steps → IsEnd deck run (own_end steps)
+left_end deck run steps l = grind (arith, common_steps, own_end_left)
+
+-- ---- hands
+
+rises_less : (low high : ℕ) (gs : List Grant) → low ≤ high → Rises high gs → Rises low gs
+rises_less low high [] le r = tt
+rises_less low high (g ∷ gs) le r = (omega arith, r.1)
+
+rises_push : (low latch : ℕ) (mode : Mode) (id : ℕ) (gs : List Grant) → Rises low gs → low ≤ latch
+    → AllByRecursion (λ h. h.latch < latch) (held_of gs) → Rises low (gs ++ record { latch = latch; mode = mode; id = id } ∷ [])
+rises_push low latch mode id [] r le b = (le, tt)
+rises_push low latch mode id (g ∷ gs) r le b =
+    (r.0, rises_push (g.latch + 1) latch mode id gs r.1 (let lt = b.0 in omega arith) b.1)
+
+rises_without : (low latch : ℕ) (gs : List Grant) → Rises low gs → Rises low (without_latch latch gs)
+rises_without low latch [] r = tt
+rises_without low latch (g ∷ gs) r = grind (arith, common_steps, rises_less, rises_without (g.latch + 1) latch gs r.1)
+
+-- those that are held below a latch are not more than it
+pub rises_few : (low latch : ℕ) (gs : List Grant) → Rises low gs → low ≤ latch → AllByRecursion (λ h. h.latch < latch) (held_of gs)
+    → low + length gs ≤ latch
+rises_few low latch [] r le b = omega arith
+rises_few low latch (g ∷ gs) r le b =
+    let lt = b.0 in let at = r.0 in
+    let few = rises_few (g.latch + 1) latch gs r.1 (omega arith) b.1 in omega arith
+
+last_push : (requests : ℕ → Option ℕ) (latch : ℕ) (mode : Mode) (id : ℕ) (gs : List Grant)
+    → AllByRecursion (λ g. requests g.latch ≡ Some g.id) gs → AllByRecursion (λ h. h.latch < latch) (held_of gs)
+    → AllByRecursion (λ g. with_at requests latch (Some id) g.latch ≡ Some g.id)
+    (gs ++ record { latch = latch; mode = mode; id = id } ∷ [])
+last_push requests latch mode id [] l b = grind (arith, common_steps)
+last_push requests latch mode id (g ∷ gs) l b = grind (arith, common_steps, last_push requests latch mode id gs)
+
+last_without : (requests : ℕ → Option ℕ) (latch : ℕ) (gs : List Grant) → AllByRecursion (λ g. requests g.latch ≡ Some g.id) gs
+    → AllByRecursion (λ g. requests g.latch ≡ Some g.id) (without_latch latch gs)
+last_without requests latch [] l = grind (arith, common_steps)
+last_without requests latch (g ∷ gs) l = grind (arith, common_steps, last_without requests latch gs)
+
+pub hand_push : (hand : Hand) (latch : ℕ) (mode : Mode) (id : ℕ) → IsHand hand
+    → AllByRecursion (λ h. h.latch < latch) (held_of hand.holding) → IsHand (hand_with hand latch mode id)
+hand_push hand latch mode id h b = grind (arith, common_steps, rises_push, last_push)
+
+pub hand_less : (hand : Hand) (latch : ℕ) → IsHand hand → IsHand (hand_without hand latch)
+hand_less hand latch h = grind (arith, common_steps, rises_without, last_without)
+
+pub held_push : (gs : List Grant) (latch : ℕ) (mode : Mode) (id : ℕ)
+    → held_of (gs ++ record { latch = latch; mode = mode; id = id } ∷ []) ≡ held_of gs ++ record { latch = latch; mode = mode } ∷ []
+held_push [] latch mode id = refl
+held_push (g ∷ gs) latch mode id = ap (λ hs. record { latch = g.latch; mode = g.mode } ∷ hs) (held_push gs latch mode id)
+
+pub held_without : (gs : List Grant) (latch : ℕ) → held_of (without_latch latch gs) ≡ filter (λ h. not (is_held latch h)) (held_of gs)
+held_without [] latch = refl
+held_without (g ∷ gs) latch = grind (arith, common_steps, held_without gs latch)
+
+pub standing_without : (k job latch id : ℕ) (requests : ℕ → Option ℕ) (gs : List Grant)
+    → AllByRecursion (λ g. requests g.latch ≡ Some g.id) gs → requests latch ≡ Some id
+    → less (is_named latch id) (standing_of k job gs) ≡ standing_of k job (without_latch latch gs)
+standing_without k job latch id requests [] l e = grind (arith, common_steps)
+standing_without k job latch id requests (g ∷ gs) l e = grind (arith, common_steps, standing_without k job latch id requests gs)
+
+pub standing_purged : (k job : ℕ) (gs : List Grant) → less (is_for (job + 1)) (standing_of k job gs) ≡ []
+standing_purged k job [] = refl
+standing_purged k job (g ∷ gs) = grind (arith, common_steps, standing_purged k job gs)
+
+-- a latch that is held has a request that it last had there
+pub held_request : (requests : ℕ → Option ℕ) (latch : ℕ) (gs : List Grant) → AllByRecursion (λ g. requests g.latch ≡ Some g.id) gs
+    → list_any (is_held latch) (held_of gs) ≡ true → (id : ℕ) × (requests latch ≡ Some id)
+held_request requests latch [] l h = absurd (false≢true h)
+held_request requests latch (g ∷ gs) l h = go (g.latch == latch) refl (λ t. held_request requests latch gs l.1 t) where
+  go : (b : Bool) → (g.latch == latch) ≡ b → (list_any (is_held latch) (held_of gs) ≡ true → (id : ℕ) × (requests latch ≡ Some id))
+      → (id : ℕ) × (requests latch ≡ Some id)
+  go true e rest = (g.id, subst (λ k. requests k ≡ Some g.id) (eqb-true g.latch latch e) l.0)
+  go false e rest = rest (rw e at h)
+
+-- ---- each point's next stands
+
+pub job_sound : (j k : ℕ) (jobs : List JobData) → ArePlannedJobs k jobs → j < length jobs → ArePlannedSteps [] (job_at jobs j).steps
+job_sound j k jobs s lt = (sound_job k jobs j s lt).steps
+
+distinct_push : (ks : List ℕ) (job : ℕ) → AreDistinct ks → list_any (λ j. j == job) ks ≡ false → AreDistinct (ks ++ job ∷ [])
+distinct_push [] job d n = grind (arith, common_steps)
+distinct_push (k ∷ ks) job d n = grind (arith, common_steps, distinct_push ks)
+
+pub round_next : (n more : ℕ) (run : Running) → run.more ≡ suc more → IsRunning n run → IsRound n more (run.before ++ run.job ∷ [])
+round_next n more run e r = grind (arith, common_steps, length-append, all_push, distinct_push)
+
+module _ (deck : List JobData) (i : ℕ) (sound : ArePlannedJobs 0 deck) (kept : Kept) where
+  rounds_stand : (run : Running) → IsRunning (length deck) run → InitiatorKept i [] kept → InitiatorStands deck i kept (rounds_after run)
+  rounds_stand run r k = rounds_land (InitiatorStands deck i kept) (tt, tt) run.more (run.before ++ run.job ∷ []) run.generation
+      (λ m e. (round_next (length deck) m run e r, k))
+
+  pub steps_stand : (run : Running) (hand : Hand) (steps : List Step) → IsStepping deck run hand steps
+      → InitiatorKept i (standing_of (initiator i) run.job hand.holding) kept
+      → InitiatorStands deck i kept (steps_at run hand steps)
+  steps_stand run hand [] s k = (record { round = s.round; end = left_end deck run [] s.left }, k)
+  steps_stand run hand (Print text ∷ steps) s k =
+      steps_stand run hand steps (step_done deck run hand (Print text) steps tt s.sound s) k
+  steps_stand run hand (Free latch ∷ steps) s k = grind (arith, common_steps)
+  steps_stand run hand (Abend code ∷ steps) s k = (record { round = s.round; end = left_end deck run (Abend code ∷ steps) s.left }, k)
+  steps_stand run hand (Return code ∷ steps) s k = (record { round = s.round; end = left_end deck run (Return code ∷ steps) s.left }, k)
+  steps_stand run hand (step ∷ steps) s k = (s, k)
+
+  start_stands : (named : Named) (skipped : Bool) (before : List ℕ) (more g : ℕ) → named.skipped ≡ skipped → named.job < length deck
+      → list_any (λ j. j == named.job) before ≡ false → IsRound (length deck) more before
+      → InitiatorKept i [] kept → InitiatorStands deck i kept (job_start skipped (running named before more g) (job_at deck named.job))
+  start_stands named true before more g e lt new round k = grind (arith, common_steps)
+  start_stands named false before more g e lt new round k = grind (arith, common_steps, steps_stand, job_sound)
+
+  given_stands : (more : ℕ) (before : List ℕ) (code g : ℕ) → IsRound (length deck) more before → InitiatorKept i [] kept
+      → InitiatorStands deck i kept (given_at deck more before code g)
+  given_stands more before code g round k =
+      given_lands (InitiatorStands deck i kept) (tt, tt) deck more before code g (λ z. (tt, k))
+      (λ named left e t m. start_stands named named.skipped before (suc left) g refl (named_is (length deck) code named e).0 t
+      (subst (λ z. IsRound (length deck) z before) m round) k)
+
+-- what is kept of the requests changes by latch events alone
+pub obtained_stand : (deck : List JobData) (run : Running) (hand : Hand) (latch : ℕ) (mode : Mode) (id : ℕ) (steps : List Step)
+    → IsStepping deck run hand (Use latch mode ∷ steps) → IsStepping deck run (hand_with hand latch mode id) steps
+obtained_stand deck run hand latch mode id steps s = search (rules, hand_push, left_next, held_push)
+
+pub pushed_kept : (i : ℕ) (kept : Kept) (run : Running) (hand : Hand) (latch : ℕ) (mode : Mode) (id : ℕ)
+    → InitiatorKept i (standing_of (initiator i) run.job hand.holding) kept → {o : Kept} → o.caller ≡ kept.caller
+    → o.requests ≡ kept.requests ++ standing_one kept.caller run.job (record { latch = latch; mode = mode; id = id }) ∷ []
+    → InitiatorKept i (standing_of (initiator i) run.job (hand_with hand latch mode id).holding) o
+pushed_kept i kept run hand latch mode id k same more = grind (arith, common_steps)
+
+pub freed_stand : (deck : List JobData) (run : Running) (hand : Hand) (latch : ℕ) (steps : List Step)
+    → IsStepping deck run hand (Free latch ∷ steps) → IsStepping deck run (hand_without hand latch) steps
+freed_stand deck run hand latch steps s = search (rules, hand_less, left_next, held_without)
+
+pub freed_kept : (i : ℕ) (kept : Kept) (run : Running) (hand : Hand) (latch id : ℕ) → IsHand hand → hand.requests latch ≡ Some id
+    → InitiatorKept i (standing_of (initiator i) run.job hand.holding) kept
+    → {o : Kept} → o.caller ≡ kept.caller → o.requests ≡ less (is_named latch id) kept.requests
+    → InitiatorKept i (standing_of (initiator i) run.job (hand_without hand latch).holding) o
+freed_kept i kept run hand latch id h e k same fewer = record {
+  caller = same ∙ k.caller;
+  stand = fewer ∙ ap (λ ts. less (is_named latch id) ts) k.stand
+      ∙ standing_without (initiator i) run.job latch id hand.requests hand.holding h.last e;
+}
+
+pub initiator_stands : (deck : List JobData) (i : ℕ) (kept : Kept) (x : InitiatorAt) (r : Reply) → ArePlannedJobs 0 deck
+    → InitiatorStands deck i kept (At x)
+    → InitiatorStands deck i (keeps kept (initiator_asks (length deck) i x) r) (initiator_goes deck x r)
+initiator_stands deck i kept (Pausing more before g) (Reply.Element (ElementReply.Given code now)) sound s =
+    given_stands deck i sound _ more before code now s.0 (record { caller = s.1.caller; stand = s.1.stand })
+initiator_stands deck i kept (Resuming more before g) (Reply.Element (ElementReply.Given code now)) sound s =
+    given_stands deck i sound _ more before code now s.0 (record { caller = s.1.caller; stand = s.1.stand })
+initiator_stands deck i kept (InJob run (Obtaining hand latch mode steps)) (Reply.Latch (LatchReply.Granted id)) sound s =
+    search (rules, steps_stand, obtained_stand, pushed_kept)
+initiator_stands deck i kept (InJob run (Confirming hand latch mode id steps)) (Reply.Latch (LatchReply.Granted same)) sound s =
+    search (rules, steps_stand, obtained_stand)
+initiator_stands deck i kept (InJob run (Freeing hand latch id steps)) (Reply.Latch (LatchReply.Released granted)) sound s =
+    search (rules, steps_stand, freed_stand, freed_kept)
+initiator_stands deck i kept (InJob run (Obtaining hand latch mode steps)) (Reply.Latch (LatchReply.Queued id)) sound s =
+    grind (arith, common_steps, pushed_kept)
+initiator_stands deck i kept (InJob run (Writing hand volume amount number steps)) (Reply.Volume VolumeReply.Stored) sound s =
+    search (rules, steps_stand, step_done)
+initiator_stands deck i kept (InJob run (Reading hand volume (Compares number) steps)) (Reply.Volume (VolumeReply.Value again)) sound s =
+    search (rules, steps_stand, step_done)
+initiator_stands deck i kept (InJob run (Ending post code counts)) r sound s =
+    let next = rounds_stand deck i sound (keeps kept (initiator_asks (length deck) i (InJob run (Ending post code counts))) r) run
+    s.0.round (record { caller = s.1.caller; stand = s.1.stand }) in grind (arith, common_steps)
+initiator_stands deck i kept x r sound s = grind (arith, common_steps, standing_purged)
+
+-- ---- the initiator, from point to point
 
 pub initiator_says : (c : Setup) (deck : List JobData) (i : ℕ) (kept : Kept) (x : InitiatorAt)
     → asks (initiator_program c deck i kept x) ≡ Some (initiator_asks (length deck) i x)

@@ -1,11 +1,16 @@
 -- Where a task of the spool stands: the point of its program, the event that it says there, and the point that follows by the
--- reply. Points of the four tasks are four data; both functions compute, so all later cases are cases of points and replies.
+-- reply. Points of the four tasks are four data; both functions compute, so all later cases are cases of points and replies. Then what
+-- is read off a point or an element: whether a task is lost, which jobs an initiator was named, what the scheduler is about and which
+-- job is next, and the code that an element holds. And where an initiator may land: what holds where it is astray, and at each point
+-- that may follow, holds of the one that does.
 use Rattle.mv_plan.proofs.Words.{ℕ, zero, suc, ◌+◌, ◌==◌, nat_le, nat_lt, Bool, true, false, not, List, [], ◌∷◌, ◌++◌, length, map, filter}
-use Rattle.mv_plan.proofs.Words.{Option, Some, None, if◌then◌else◌, ◌^◌, list_any, range_with_len, Mode, Object, Ecb, Element, Volume}
-use Rattle.mv_plan.proofs.Words.{Latches, Op, Reply, with_at, JobData, Step, Print, Use, Count, Scan, Abend, Return, job_at, not_run}
-use Rattle.mv_plan.proofs.Words.{Counts, entered, end_for_scheduler, end_for_writer, idle, initiator, Named, job_named, code_of}
-use Rattle.mv_plan.proofs.Words.{some_end_above, ends_of, complete_count, Free, done, EcbOp, EcbReply, ElementOp, ElementReply, LatchOp}
-use Rattle.mv_plan.proofs.Words.{LatchReply, LatchForm, VolumeOp, VolumeReply}
+use Rattle.mv_plan.proofs.Words.{Option, Some, None, if◌then◌else◌, ◌^◌, list_any, range_with_len, Mode, Object, Ecb, Element, Volume, Op}
+use Rattle.mv_plan.proofs.Words.{Latches, Reply, with_at, JobData, Step, Print, Use, Count, Scan, Abend, Return, job_at, not_run, Counts}
+use Rattle.mv_plan.proofs.Words.{entered, end_for_scheduler, end_for_writer, idle, initiator, Named, job_named, code_of, some_end_above}
+use Rattle.mv_plan.proofs.Words.{ends_of, complete_count, Free, done, EcbOp, EcbReply, ElementOp, ElementReply, LatchOp, LatchReply, ◌-◌}
+use Rattle.mv_plan.proofs.Words.{LatchForm, VolumeOp, VolumeReply, ElementState, ◌≡◌, refl, eqb-true, rules, arith, common_steps}
+use Rattle.mv_element.specs.declared.element.Phase.{Phase}
+use Rattle.mv_element.specs.declared.element.Phase.TheVariants.{Reset, Prereleased, Paused, Released}
 
 -- a task is at a point of its program, or that has ended: with its answer, too soon, or by a reply that nothing foresees
 pub data Point (X : Type 0) : Type 0 where
@@ -409,3 +414,121 @@ initiator_goes deck (InJob run (Ending OfJob code counts)) r = on_ended run code
 initiator_goes deck (InJob run (Ending ForScheduler code counts)) r = on_posted (At (InJob run (Ending ForWriter code counts))) r
 initiator_goes deck (InJob run (Ending ForWriter code counts)) r = on_posted (rounds_after run) r
 initiator_goes deck (Closing g) r = on_closed r
+
+-- ---- what is read off a point
+
+-- a task is on its way, or has ended with its answer
+abbrev pub IsNotLost : {X : Type 0} → Point X → Type 0
+IsNotLost (At x) = Unit {0}
+IsNotLost (Finished answer) = Unit {0}
+IsNotLost TooSoon = ⊥
+IsNotLost Astray = ⊥
+
+-- ---- an element
+
+-- a code that was released to an element and that its pause has not been given
+abbrev pub code_at : Phase → ℕ → Option ℕ
+code_at Phase.Free code = None
+code_at Reset code = None
+code_at Prereleased code = Some code
+code_at Paused code = None
+code_at Released code = Some code
+
+abbrev pub code_held : ElementState → Option ℕ
+code_held x = code_at x.phase x.code
+
+-- ---- an initiator
+
+-- the job that it runs
+abbrev pub run_of : Point InitiatorAt → Option Running
+run_of (At (InJob run w)) = Some run
+run_of p = None
+
+-- whether it is at a point of its rounds: before, between and behind jobs, and at the end of a job
+abbrev pub IsOfRounds : InitiatorAt → Type 0
+IsOfRounds (InJob run (Purging hand code)) = Unit {0}
+IsOfRounds (InJob run (Ending post code counts)) = Unit {0}
+IsOfRounds (InJob run w) = ⊥
+IsOfRounds x = Unit {0}
+
+-- the jobs that an initiator was named, the one that it runs last
+abbrev pub jobs_of : Point InitiatorAt → List ℕ
+jobs_of (At (Offering more before g)) = before
+jobs_of (At (Pausing more before g)) = before
+jobs_of (At (Resuming more before g)) = before
+jobs_of (At (InJob run w)) = run.before ++ run.job ∷ []
+jobs_of p = []
+
+-- ---- what the scheduler is about
+
+-- it hands out job j, or dismisses initiator i, or is at its end
+pub data Errand : Type 0 where
+  Dispatches : (j : ℕ) → Errand
+  Dismisses : (i : ℕ) → Errand
+  Rests : Errand
+
+abbrev pub errand_awaited : Awaited → Errand
+errand_awaited (ForEntry j job jobs) = Dispatches j
+errand_awaited (ForEnds j job jobs) = Dispatches j
+errand_awaited (ForIdle j job jobs skipped) = Dispatches j
+errand_awaited (ToDismiss i more) = Dismisses i
+
+abbrev pub errand_in : Stage → Errand
+errand_in (Dispatching j jobs) = Dispatches (j - 1)
+errand_in (Dismissing m more) = Dismisses (m - 1)
+
+abbrev pub errand : Point SchedulerAt → Errand
+errand (At (Waits a w)) = errand_awaited a
+errand (At (Extends j job jobs skipped)) = Dispatches j
+errand (At (Clears i g code after)) = errand_in after
+errand (At (Releases i g code after)) = errand_in after
+errand p = Rests
+
+-- the job that is handed out next, where there are n: every job below was released
+abbrev pub next_of : ℕ → Errand → ℕ
+next_of n (Dispatches j) = j
+next_of n (Dismisses i) = n
+next_of n Rests = n
+
+abbrev pub next_job : ℕ → Point SchedulerAt → ℕ
+next_job n p = next_of n (errand p)
+
+-- ---- where an initiator may land
+
+module _ (P : Point InitiatorAt → Type 0) (lost : P Astray) where
+  -- a next round
+  pub rounds_land : (more : ℕ) (before : List ℕ) (g : ℕ) → ((left : ℕ) → more ≡ suc left → P (At (Offering left before g)))
+      → P (rounds_from more before g)
+  rounds_land x1 before g next = grind (arith, common_steps)
+
+  -- a FREE
+  pub freeing_lands : (run : Running) (hand : Hand) (latch : ℕ) (slot : Option ℕ) (steps : List Step)
+      → ((id : ℕ) → slot ≡ Some id → P (At (InJob run (Freeing hand latch id steps)))) → P (freeing_at run hand latch slot steps)
+  freeing_lands run hand latch x4 steps next = grind (arith, common_steps)
+
+  -- a COUNT's write
+  pub counting_lands : (run : Running) (hand : Hand) (volume amount : ℕ) (steps : List Step) (number : ℕ)
+      → P (At (InJob run (Writing hand volume amount number steps))) → P (counting_at run hand volume amount steps number)
+  counting_lands run hand volume amount steps number next = grind (arith, common_steps)
+
+  -- behind the post of a done block, which starts its exit or not
+  pub ended_lands : (run : Running) (code : ℕ) (counts : Counts) (r : Reply) → P (At (InJob run (Ending ForScheduler code counts)))
+      → P (rounds_after run) → P (on_ended run code counts r)
+  ended_lands run code counts r starts ends = search rules
+
+  -- behind a code: the end of the rounds, or a job that it names
+  pub given_lands : (deck : List JobData) (more : ℕ) (before : List ℕ) (code g : ℕ) → (code ≡ 0 → P (At (Closing g)))
+      → ((named : Named) (left : ℕ) → job_named (length deck) code ≡ Some named → list_any (λ j. j == named.job) before ≡ false
+      → more ≡ suc left → P (job_start named.skipped (running named before (suc left) g) (job_at deck named.job)))
+      → P (given_at deck more before code g)
+  given_lands deck more before code g closes starts = given (code == 0) refl where
+    named_lands : (slot : Option Named) (more : ℕ)
+        → ((named : Named) (left : ℕ) → slot ≡ Some named → list_any (λ j. j == named.job) before ≡ false
+        → more ≡ suc left → P (job_start named.skipped (running named before (suc left) g) (job_at deck named.job)))
+        → P (named_at deck slot before more g)
+    named_lands slot more starts = grind (arith, common_steps)
+
+    given : (b : Bool) → (code == 0) ≡ b
+        → P (if b then At (Closing g) else named_at deck (job_named (length deck) code) before more g)
+    given true e = closes (eqb-true code 0 e)
+    given false e = named_lands (job_named (length deck) code) more starts

@@ -4,13 +4,12 @@
 use Rattle.mv_plan.proofs.Words.{◌≡◌, ℕ, suc, ◌<◌, Bool, true, false, List, [], ◌∷◌, length, Option, Some, None, ◌⊎◌, inl, refl, subst}
 use Rattle.mv_plan.proofs.Words.{arith, ◌==◌, Reply, JobData, Step, job_at, list_any, Named, job_named, ElementReply, common_steps, Print}
 use Rattle.mv_plan.proofs.points.Points.{Point, At, Astray, Running, Hand, InitiatorAt, Pausing, Resuming, initiator_asks, initiator_goes}
-use Rattle.mv_plan.proofs.points.Points.{steps_at, job_start, rounds_after, empty_hand, rounds_from, running, given_at, JobAt, InJob}
-use Rattle.mv_plan.proofs.points.Points.{EndPost, OfJob, Ending}
-use Rattle.mv_plan.proofs.points.InitiatorSound.{IsRunning, IsInitiatorAt}
+use Rattle.mv_plan.proofs.points.Points.{steps_at, job_start, rounds_after, empty_hand, rounds_from, running, given_at, JobAt, InJob, OfJob}
+use Rattle.mv_plan.proofs.points.Points.{EndPost, Ending, run_of, IsNotLost, given_lands, ended_lands, freeing_lands, counting_lands}
+use Rattle.mv_plan.proofs.points.Points.{rounds_land}
+use Rattle.mv_plan.proofs.points.Initiator.{IsRunning, IsInitiatorAt}
 use Rattle.mv_plan.proofs.points.Programs.{on_posted_keeps}
-use Rattle.mv_plan.proofs.points.Views.{run_of, IsNotLost}
 use Rattle.mv_plan.proofs.points.Asks.{Elsewhere}
-use Rattle.mv_plan.proofs.points.Lands.{given_lands, ended_lands, freeing_lands, counting_lands, rounds_land}
 
 -- it runs this job, or is lost
 abbrev pub RunsOn : Running → Point InitiatorAt → Type 0

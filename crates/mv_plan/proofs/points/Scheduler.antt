@@ -1,23 +1,23 @@
 -- Where the scheduler may stand: which jobs are left, which code it hands over, and what it keeps there, whatever the reply; its
 -- program goes from point to point; and which points may follow one, as one lemma for any fact of points.
-use Rattle.mv_plan.proofs.Words.{◌≡◌, ℕ, suc, ◌+◌, ◌<◌, ◌≤◌, Bool, true, List, [], ◌∷◌, ◌++◌, length, Option, None, refl, sym, ap, ◌∙◌}
+use Rattle.mv_plan.proofs.Words.{◌≡◌, ℕ, suc, ◌+◌, ◌<◌, ◌≤◌, Bool, true, List, [], ◌∷◌, ◌++◌, length, Option, None, refl, sym, ap, ◌∙◌, map}
 use Rattle.mv_plan.proofs.Words.{subst, append_assoc, zero-add, arith, length-append, length-map-range_with_len, Reply, JobData, After}
-use Rattle.mv_plan.proofs.Words.{Step, Kept, code_of, EcbReply, common_steps, zero, false, map, Some, AllByRecursion, range_with_len, Setup}
-use Rattle.mv_plan.proofs.Words.{Heard, asks, heard, going_on, unrefused, accepted, end_for_scheduler, idle, ends_of, some_end_above}
-use Rattle.mv_plan.proofs.Words.{ends_awaited, hand_over, AreDistinct, arm_all, settle_all, enough, wait_unrefused, rules, Program}
-use Rattle.mv_plan.proofs.Words.{length-map, ElementReply, on_element, finished, nat_le, cond, complete_count}
+use Rattle.mv_plan.proofs.Words.{Step, Kept, code_of, EcbReply, common_steps, zero, false, Some, AllByRecursion, range_with_len, Setup}
+use Rattle.mv_plan.proofs.Words.{Heard, asks, heard, going_on, unrefused, accepted, end_for_scheduler, idle, ends_of, some_end_above, rules}
+use Rattle.mv_plan.proofs.Words.{ends_awaited, hand_over, AreDistinct, arm_all, settle_all, enough, wait_unrefused, Program, length-map}
+use Rattle.mv_plan.proofs.Words.{ElementReply, on_element, finished, nat_le, cond, complete_count}
 use Rattle.mv_plan.proofs.deck.{IsPlannedJob, ArePlannedJobs, Facts}
 use Rattle.mv_plan.proofs.points.Points.{Point, At, WaitAt, Arming, Settling, Stage, Dispatching, Dismissing, Awaited, ForEntry, ForEnds}
 use Rattle.mv_plan.proofs.points.Points.{ForIdle, ToDismiss, SchedulerAt, Waits, Extends, Clears, Releases, awaited_blocks, scheduler_asks}
-use Rattle.mv_plan.proofs.points.Points.{scheduler_goes, arming_from, settling_from, found_at, ends_at, lowest_at, awaited_count}
-use Rattle.mv_plan.proofs.points.Points.{arming_first, stage_at, TooSoon, Astray, on_released}
+use Rattle.mv_plan.proofs.points.Points.{scheduler_goes, arming_from, settling_from, found_at, ends_at, lowest_at, awaited_count, stage_at}
+use Rattle.mv_plan.proofs.points.Points.{arming_first, TooSoon, Astray, on_released, next_job, Errand, Dispatches, Dismisses, Rests, errand}
+use Rattle.mv_plan.proofs.points.Points.{next_of, IsNotLost}
 use Rattle.mv_plan.proofs.points.Programs.{on_armed_keeps, on_settled_keeps, armed_goes, settled_goes, lowest_goes, enough_goes, keeps}
 use Rattle.mv_plan.proofs.points.Programs.{program_at, stage_call, staged, awaited_then, awaited_stage, scheduler_program, handing}
 use Rattle.mv_plan.proofs.points.Programs.{extending, lowest_keeps}
 use Rattle.mv_calls.specs.Waits.{wait, wait_refusal}
 use Rattle.mv_calls.proofs.Unrefused.{IsFree}
 use Rattle.mv_calls.specs.Pauses.{released}
-use Rattle.mv_plan.proofs.points.Views.{next_job, Errand, Dispatches, Dismisses, Rests, errand, next_of, IsNotLost}
 
 -- the deck's jobs from number j on
 pub record IsRest (deck : List JobData) (j : ℕ) (jobs : List JobData) : Type 0 where

@@ -1,26 +1,26 @@
 -- No reply leads the reader, the scheduler or the writer astray, nor an initiator in its rounds: one that is named a job that it was
 -- not named before has a round left for it.
-use Rattle.mv_plan.proofs.Words.{◌≡◌, ℕ, ◌<◌, ◌≤◌, ◌==◌, Bool, false, List, [], ◌∷◌, length, Some, arith, AllByRecursion, list_any}
-use Rattle.mv_plan.proofs.Words.{job_named, code_of, not_to_run, AreDistinct, common_steps, zero, suc, ◌+◌, true, IsTrue, if◌then◌else◌}
-use Rattle.mv_plan.proofs.Words.{◌++◌, Option, None, ◌⊎◌, inl, inr, refl, sym, ap, ◌∙◌, subst, eq-eqb, leb-true, ecb_step, EcbState}
-use Rattle.mv_plan.proofs.Words.{Extended, ElementState, element_step, Reply, Setup, owner_of, System, admitted, reply_to, JobData, After}
-use Rattle.mv_plan.proofs.Words.{Step, Print, job_at, reader, scheduler, initiator, writer, end_for_writer, complete_count, Free}
-use Rattle.mv_plan.proofs.Words.{done, EcbOp, EcbReply, ElementOp}
+use Rattle.mv_plan.proofs.Words.{◌≡◌, ℕ, ◌<◌, ◌≤◌, ◌==◌, Bool, false, List, [], ◌∷◌, length, Some, arith, AllByRecursion, list_any, code_of}
+use Rattle.mv_plan.proofs.Words.{job_named, not_to_run, AreDistinct, common_steps, zero, suc, ◌+◌, true, IsTrue, if◌then◌else◌, ◌++◌, None}
+use Rattle.mv_plan.proofs.Words.{Option, ◌⊎◌, inl, inr, refl, sym, ap, ◌∙◌, subst, eq-eqb, leb-true, ecb_step, EcbState, Extended, Reply}
+use Rattle.mv_plan.proofs.Words.{ElementState, element_step, Setup, owner_of, System, admitted, reply_to, JobData, After, Step, Print, Free}
+use Rattle.mv_plan.proofs.Words.{job_at, reader, scheduler, initiator, writer, end_for_writer, complete_count, done, EcbOp, EcbReply}
+use Rattle.mv_plan.proofs.Words.{ElementOp}
 use Rattle.mv_calls.proofs.Distinct.{few, none_found}
 use Rattle.mv_ecb.specs.Word.{Waiting}
 use Rattle.mv_plan.proofs.deck.{ArePlannedSteps, ArePlannedJobs, Facts}
 use Rattle.mv_plan.proofs.walks.{Points}
-use Rattle.mv_plan.proofs.standing.{Armed, In, in_middle, in_all, IsNoDone, awaited_no_done, SchedulerArms, WriterArms, Starts, Works}
-use Rattle.mv_plan.proofs.standing.{Offers, Parks, RowAt, element_of, Row}
-use Rattle.mv_plan.proofs.points.{IsWriterAt, IsInitiatorAt, IsRound, IsRunning, held_of, held_request, job_sound, Point, At, TooSoon}
+use Rattle.mv_plan.proofs.standing.{Armed, In, in_middle, in_all, IsNoDone, awaited_no_done, SchedulerArms, WriterArms, Starts, Works, Row}
+use Rattle.mv_plan.proofs.standing.{Offers, Parks, RowAt, element_of}
+use Rattle.mv_plan.proofs.points.{IsWriterAt, IsInitiatorAt, IsRound, IsRunning, held_of, held_request, job_sound, Point, At, TooSoon, Hand}
 use Rattle.mv_plan.proofs.points.{Astray, Awaited, ForEntry, ForEnds, ForIdle, ToDismiss, Arming, Settling, ReaderAt, Entering, reader_asks}
 use Rattle.mv_plan.proofs.points.{reader_goes, SchedulerAt, Waits, Extends, awaited_blocks, awaited_count, scheduler_asks, scheduler_goes}
 use Rattle.mv_plan.proofs.points.{arming_first, arming_from, settling_from, found_at, ends_at, lowest_at, on_armed, on_settled, WriterAt}
-use Rattle.mv_plan.proofs.points.{Keeping, writer_asks, writer_goes, writing_from, writer_arming, end_found, Hand, Running, running}
-use Rattle.mv_plan.proofs.points.{InitiatorAt, Opening, Pausing, Resuming, Ending, Closing, initiator_asks, initiator_goes, rounds_from}
-use Rattle.mv_plan.proofs.points.{freeing_at, steps_at, job_start, named_at, given_at, on_opened, on_paused, on_resumed, on_closed, InJob}
-use Rattle.mv_plan.proofs.points.{IsSchedulerAt, code_held, jobs_of, IsNotLost, IsOfRounds}
-use Rattle.mv_plan.proofs.walks.Fits.{Fits}
+use Rattle.mv_plan.proofs.points.{Keeping, writer_asks, writer_goes, writing_from, writer_arming, end_found, Running, running, InitiatorAt}
+use Rattle.mv_plan.proofs.points.{Opening, Pausing, Resuming, Ending, Closing, initiator_asks, initiator_goes, rounds_from, freeing_at}
+use Rattle.mv_plan.proofs.points.{steps_at, job_start, named_at, given_at, on_opened, on_paused, on_resumed, on_closed, InJob, code_held}
+use Rattle.mv_plan.proofs.points.{IsSchedulerAt, jobs_of, IsNotLost, IsOfRounds}
+use Rattle.mv_plan.proofs.walks.Stands.{Fits}
 use Rattle.mv_plan.proofs.places.{element_code}
 use Rattle.mv_plan.proofs.ends.{IsCode}
 

@@ -1,22 +1,103 @@
--- What the running jobs have still to add to a volume, and how an event pays it; the balance: what a volume has and is still due is
--- what the named jobs add, so a COUNT's sum has 32 bits; and in the end that is the deck's total.
-use Rattle.mv_plan.proofs.Words.{◌≡◌, ℕ, suc, ◌+◌, Bool, true, false, List, [], ◌∷◌, length, refl, sym, ap, ◌∙◌, arith, Reply, Setup}
-use Rattle.mv_plan.proofs.Words.{System, with_at, advanced, gift_code, JobData, Step, Count, job_at, before_end, added, IsNext, initiator}
-use Rattle.mv_plan.proofs.Words.{LatchReply, VolumeReply, common_steps, inl, inr, ◌*◌, ◌^◌, ◌<◌, ◌≤◌, if◌then◌else◌, ◌++◌}
-use Rattle.mv_plan.proofs.Words.{None, subst, append-nil, eq-eqb, Entry, next, opening, moved, ◌==◌, slice_index, ne_eqb, given_codes}
-use Rattle.mv_plan.proofs.Words.{step_events, sum_by-cons, end_of, not_run, ends, total, code_of, one_end_per_job, sum_by, rules}
+-- The codes that pauses are given in a history, and what the jobs that they name add to a volume. What the running jobs have still to
+-- add to it, and how an event pays it; the balance: what a volume has and is still due is what the named jobs add, so a COUNT's sum has
+-- 32 bits; and in the end that is the deck's total.
+use Rattle.mv_plan.proofs.Words.{◌≡◌, ℕ, ◌+◌, List, [], ◌∷◌, refl, ap, ◌∙◌, suc, ◌-◌, ◌<◌, ◌≤◌, nat_le, Bool, true, false, ◌&&◌, ◌++◌, Some}
+use Rattle.mv_plan.proofs.Words.{if◌then◌else◌, length, Option, None, sym, arith, eq-eqb, leb-true, and_parts, Entry, gift_code, JobData}
+use Rattle.mv_plan.proofs.Words.{job_at, before_end, Named, job_named, common_steps, Reply, Setup, System, with_at, advanced, Step, Count}
+use Rattle.mv_plan.proofs.Words.{added, IsNext, initiator, LatchReply, VolumeReply, inl, inr, ◌*◌, ◌^◌, subst, append-nil, next, opening}
+use Rattle.mv_plan.proofs.Words.{moved, ◌==◌, slice_index, ne_eqb, given_codes, step_events, sum_by-cons, end_of, not_run, ends, total}
+use Rattle.mv_plan.proofs.Words.{code_of, one_end_per_job, sum_by, rules}
+use Rattle.mv_report.specs.Outcome.{added_by, steps_with, all_steps_with}
+use Rattle.mv_plan.proofs.lists.{sum_to, sum_zero, sum_change, times, count_of, sum_le, sum_member, sum_front, times_once, sum_ext}
 use Rattle.mv_machine.proofs.EntryRuns.{entry_of}
-use Rattle.mv_plan.proofs.volumes.GivenCodes.{with_code, adds_if, adds_named, adds, adds_all, adds_high, codes_of}
-use Rattle.mv_plan.proofs.volumes.GivenCodes.{codes-push, full, adds-append, adds_by_jobs}
-use Rattle.mv_plan.proofs.points.{Point, At, Running, Hand, InitiatorAt, Obtaining, Confirming, Freeing, Reading, ToAdd}
-use Rattle.mv_plan.proofs.points.{Writing, Compares, initiator_goes, steps_at, running, job_start, given_at, initiator_asks}
-use Rattle.mv_plan.proofs.points.{InJob, IsNotLost, given_lands, no_gift}
+use Rattle.mv_plan.proofs.points.{Point, At, Running, Hand, InitiatorAt, Obtaining, Confirming, Freeing, Reading, ToAdd, Writing, Compares}
+use Rattle.mv_plan.proofs.points.{initiator_goes, steps_at, running, job_start, given_at, initiator_asks, InJob, IsNotLost, given_lands}
+use Rattle.mv_plan.proofs.points.{no_gift}
 use Rattle.mv_plan.proofs.volumes.Alone.{ValueAt, read_keeps, volumes_asked, Values, volumes_same}
 use Rattle.mv_plan.proofs.deck.{Held, ArePlannedSteps, ArePlannedJobs, IsPlanned}
 use Rattle.mv_plan.proofs.walks.{NoneLost, none_lost_before, who_moved, mover_asked, mover_goes, mover_sum, Points, start_points, Move}
-use Rattle.mv_plan.proofs.lists.{sum_to, sum_zero, sum_le, sum_member, sum_front, times, times_once, count_of, sum_ext}
 use Rattle.mv_deck.specs.Weight.{all_events}
-use Rattle.mv_report.specs.Outcome.{steps_with, all_steps_with, added_by}
+
+-- ---- codes
+
+abbrev pub with_code : Option ℕ → List ℕ → List ℕ
+with_code None cs = cs
+with_code (Some code) cs = code ∷ cs
+
+-- the codes that were given, in order
+abbrev pub codes_of : List Entry → List ℕ
+codes_of [] = []
+codes_of (e ∷ es) = with_code (gift_code e.reply) (codes_of es)
+
+pub codes-push : (xs : List Entry) (e : Entry) → codes_of (xs ++ e ∷ []) ≡ codes_of xs ++ with_code (gift_code e.reply) []
+codes-push [] e = refl
+codes-push (x ∷ xs) e = grind (arith, common_steps, codes-push xs e)
+
+-- ---- what is added
+
+abbrev pub full : List JobData → ℕ → ℕ → ℕ
+full deck v j = added_by v (before_end (job_at deck j).steps)
+
+abbrev pub adds_if : List JobData → ℕ → ℕ → Bool → ℕ
+adds_if deck v j true = 0
+adds_if deck v j false = full deck v j
+
+abbrev pub adds_named : List JobData → ℕ → Option Named → ℕ
+adds_named deck v None = 0
+adds_named deck v (Some named) = adds_if deck v named.job named.skipped
+
+-- what the job that a code names adds, if it is to be run
+abbrev pub adds : List JobData → ℕ → ℕ → ℕ
+adds deck v code = adds_named deck v (job_named (length deck) code)
+
+abbrev pub adds_all : List JobData → ℕ → List ℕ → ℕ
+adds_all deck v [] = 0
+adds_all deck v (code ∷ codes) = adds deck v code + adds_all deck v codes
+
+pub adds-append : (deck : List JobData) (v : ℕ) (xs ys : List ℕ) → adds_all deck v (xs ++ ys) ≡ adds_all deck v xs + adds_all deck v ys
+adds-append deck v [] ys = omega arith
+adds-append deck v (x ∷ xs) ys = grind (arith, common_steps, adds-append deck v xs ys)
+
+-- a code that names no job to be run adds nothing
+adds_low : (deck : List JobData) (v code : ℕ) → 1 ≤ code → code ≤ length deck → adds deck v code ≡ full deck v (code - 1)
+adds_low deck v code a b = grind (arith, common_steps)
+
+pub adds_high : (deck : List JobData) (v code : ℕ) → ((nat_le 1 code && nat_le code (length deck)) ≡ false) → adds deck v code ≡ 0
+adds_high deck v code e = grind (arith, common_steps)
+
+-- What the codes given add is, summed over the jobs, what each adds as often as it was named to be run.
+pub adds_by_jobs : (deck : List JobData) (v : ℕ) (codes : List ℕ)
+    → adds_all deck v codes ≡ sum_to (length deck) (λ j. times (count_of (j + 1) codes) (full deck v j))
+adds_by_jobs deck v [] = sym (sum_zero (length deck) (λ j. 0) (λ j lt. refl))
+adds_by_jobs deck v (code ∷ codes) = go (nat_le 1 code && nat_le code (length deck)) refl (adds_by_jobs deck v codes) where
+  f : ℕ → ℕ
+  f j = times (count_of (j + 1) codes) (full deck v j)
+
+  g : ℕ → ℕ
+  g j = times (count_of (j + 1) (code ∷ codes)) (full deck v j)
+
+  other : (j : ℕ) → (code ≡ j + 1 → ⊥) → g j ≡ f j
+  other j n = grind (arith, common_steps)
+
+  here : (j : ℕ) → code ≡ j + 1 → j < length deck → sum_to (length deck) g ≡ full deck v j + sum_to (length deck) f
+  here j e lt =
+      let a = sum_change (length deck) j f g lt (λ m d. other m (λ q. d (let z = sym e ∙ q in omega arith))) in
+      let b = ap (λ b. times (if b then suc (count_of (j + 1) codes) else count_of (j + 1) codes) (full deck v j))
+      (eq-eqb code (j + 1) e) in
+      omega arith
+
+  go : (b : Bool) → (nat_le 1 code && nat_le code (length deck)) ≡ b → adds_all deck v codes ≡ sum_to (length deck) f
+      → adds deck v code + adds_all deck v codes ≡ sum_to (length deck) g
+  go true e rest =
+      let parts = and_parts (nat_le 1 code) (nat_le code (length deck)) e in
+      let low = leb-true 1 code parts.0 in
+      let high = leb-true code (length deck) parts.1 in
+      let is = here (code - 1) (omega arith) (omega arith) in
+      let added_now = adds_low deck v code low high in
+      omega arith
+  go false e rest = grind (arith, common_steps)
+
+-- ---- what is still due
 
 -- ---- what is still to be added
 

@@ -1,20 +1,19 @@
 -- A history that follows is a walk: the tasks' programs are what is left of them at the points. The bridge from the definition
 -- of a history, caller by caller, to walks.
 use Rattle.mv_plan.proofs.Words.{◌≡◌, ℕ, zero, suc, ◌+◌, ◌*◌, ◌<◌, ◌≤◌, true, List, [], ◌∷◌, length, Some, inl, inr, refl, ap, ◌∙◌, subst}
-use Rattle.mv_plan.proofs.Words.{arith, AllByRecursion, cases_eq, ecb_step, Wake, Entry, Object, Ecb, Op, Reply, IsNext, next, Setup}
-use Rattle.mv_plan.proofs.Words.{is_exit_of, System, reply_to, with_at, JobData, Kept, Program, asks, heard, entered, idle, reader}
-use Rattle.mv_plan.proofs.Words.{scheduler, initiator, writer, programs_after, done, EcbOp, EcbReply, common_steps}
+use Rattle.mv_plan.proofs.Words.{arith, AllByRecursion, cases_eq, ecb_step, Wake, Entry, Object, Ecb, Op, Reply, IsNext, next, Setup, Kept}
+use Rattle.mv_plan.proofs.Words.{is_exit_of, System, reply_to, with_at, JobData, Program, asks, heard, entered, idle, reader, scheduler}
+use Rattle.mv_plan.proofs.Words.{initiator, writer, programs_after, done, EcbOp, EcbReply, common_steps}
 use Rattle.mv_calls.proofs.Interleaved.{FollowFrom}
 use Rattle.mv_calls.proofs.Hearing.{hearing}
 use Rattle.mv_plan.proofs.deck.{ArePlannedJobs, Facts}
 use Rattle.mv_plan.proofs.points.{Point, At, ReaderAt, Entering, reader_asks, reader_goes, SchedulerAt, scheduler_asks, scheduler_goes}
-use Rattle.mv_plan.proofs.points.{WriterAt, writer_asks, writer_goes, InitiatorAt, Offering, Freeing, Purging, Ending, OfJob}
-use Rattle.mv_plan.proofs.points.{end_block, initiator_asks, initiator_goes, InJob, program_at, reader_program}
-use Rattle.mv_plan.proofs.points.{scheduler_program, writer_program, initiator_program, IsPlainPost, keeps, IsReaderAt, IsWriterAt}
-use Rattle.mv_plan.proofs.points.{reader_says, reader_hears, writer_says, writer_hears, IsPlainReply, WokeAs, PostNothing, initiator_says}
-use Rattle.mv_plan.proofs.points.{initiator_hears, InitiatorStands, scheduler_says, scheduler_hears, SchedulerStands}
-use Rattle.mv_plan.proofs.walks.Fits.{Fits, fits_next, fits_wakes, fits_woke}
-use Rattle.mv_plan.proofs.walks.Stands.{Stand, stand_next, kept_next}
+use Rattle.mv_plan.proofs.points.{WriterAt, writer_asks, writer_goes, InitiatorAt, Offering, Freeing, Purging, Ending, OfJob, end_block}
+use Rattle.mv_plan.proofs.points.{initiator_asks, initiator_goes, InJob, program_at, reader_program, scheduler_program, writer_program}
+use Rattle.mv_plan.proofs.points.{initiator_program, IsPlainPost, keeps, IsReaderAt, IsWriterAt, reader_says, reader_hears, writer_says}
+use Rattle.mv_plan.proofs.points.{writer_hears, IsPlainReply, WokeAs, PostNothing, initiator_says, initiator_hears, InitiatorStands}
+use Rattle.mv_plan.proofs.points.{scheduler_says, scheduler_hears, SchedulerStands}
+use Rattle.mv_plan.proofs.walks.Stands.{Fits, fits_next, fits_wakes, fits_woke, Stand, stand_next, kept_next}
 use Rattle.mv_plan.proofs.walks.Walks.{Points, Move, reads, schedules, initiates, writes, WalkTo}
 use Rattle.mv_plan.proofs.lists.{all_but}
 

@@ -9,9 +9,8 @@ use Rattle.mv_plan.proofs.deck.{IsPlanned, facts}
 use Rattle.mv_plan.proofs.points.{Point, Finished, TooSoon, Astray, Dispatching, reader_asks, scheduler_asks, writer_asks, initiator_asks}
 use Rattle.mv_plan.proofs.points.{program_at, reader_enters, reader_says, writer_enters, writer_says, initiator_says, opening_enters}
 use Rattle.mv_plan.proofs.points.{scheduler_says, stage_enters, rest_all}
-use Rattle.mv_plan.proofs.walks.Fits.{fits_opening}
+use Rattle.mv_plan.proofs.walks.Stands.{fits_opening, Stand, stand_start}
 use Rattle.mv_plan.proofs.walks.Following.{TasksAt, walk_from}
-use Rattle.mv_plan.proofs.walks.Stands.{Stand, stand_start}
 use Rattle.mv_plan.proofs.walks.Walks.{Points, start_points, WalkTo, AllTasks}
 
 fourth : {A : Type 0} (a b d : Bool) (w x y z : A) → a ≡ false → b ≡ false → d ≡ false

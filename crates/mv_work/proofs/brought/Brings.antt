@@ -1,6 +1,6 @@
 -- Programs whose answers are so, with what their caller was told by then: whatever is heard of them in a run.
-use Rattle.std.proofs.Common.{◌≡◌, ℕ, ◌+◌, ◌^◌, nat_lt, Bool, true, false, List, [], ◌∷◌, ◌++◌, Option, Some, None, Result, Ok, Err}
-use Rattle.std.proofs.Common.{if◌then◌else◌, refl, sym, ap, ◌∙◌, subst, append-nil, append_assoc}
+use Rattle.std.proofs.Common.{◌≡◌, ℕ, ◌+◌, ◌^◌, nat_lt, Bool, true, false, List, [], ◌∷◌, ◌++◌, Option, Some, None, Result, Ok, Err, refl}
+use Rattle.std.proofs.Common.{if◌then◌else◌, sym, ap, ◌∙◌, subst, append-nil, append_assoc}
 use Rattle.std.proofs.lemmas.Option.{some_pair_parts}
 use Rattle.mv_element.specs.declared.element.Token.{Token}
 use Rattle.mv_element.specs.declared.operation.ElementOp.TheVariants as element_op
@@ -16,15 +16,15 @@ use Rattle.mv_machine.specs.Setup.{Setup}
 use Rattle.mv_calls.specs.Keeping.{Kept, kept_after}
 use Rattle.mv_calls.specs.LatchCalls.{Requested, GrantedAs, PendingAs, release_latch}
 use Rattle.mv_calls.specs.Pauses.{Gift, gift_of, pause, paused, resumed, is_others_token}
-use Rattle.mv_calls.specs.Program.{Program, Do, Done, Early, Wrong, Heard, Call, Says, left, entries, going_on, unrefused, followed}
-use Rattle.mv_calls.specs.Program.{accepted, wrong, on_element, on_volume, unless_refused}
+use Rattle.mv_calls.specs.Program.{Program, Do, Done, Early, Wrong, Heard, Call, Says, left, entries, going_on, unrefused, followed, wrong}
+use Rattle.mv_calls.specs.Program.{accepted, on_element, on_volume, unless_refused}
 use Rattle.mv_calls.specs.Refusal.{Refusal}
 use Rattle.mv_calls.specs.Refusal as refusal
 use Rattle.mv_calls.specs.Waits.{read_volume, write_volume, the_value, refused_if}
 use Rattle.mv_plan.specs.HandingOut.{gift_code}
 use Rattle.mv_plan.specs.SpoolTasks.{granted_as, freed, counted}
 use Rattle.mv_plan.proofs.points.Asks.{IsNoPause}
-use Rattle.mv_plan.proofs.volumes.GivenCodes.{with_code, codes_of}
+use Rattle.mv_plan.proofs.volumes.Totals.{with_code, codes_of}
 use Rattle.mv_work.proofs.brought.Quiet.{Quiet, release_quiet, write_quiet}
 
 -- ---- what a caller was told

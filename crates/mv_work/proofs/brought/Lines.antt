@@ -1,6 +1,6 @@
 -- The lines that right records give are the deck's.
-use Rattle.std.proofs.Common.{◌≡◌, ℕ, zero, suc, ◌+◌, ◌<◌, ◌≤◌, Bool, true, false, List, [], ◌∷◌, ◌++◌, length, map, fold}
-use Rattle.std.proofs.Common.{get_or, set, replicate, slice_get, Some, if◌then◌else◌, inl, inr, ◌⊎◌, refl, sym, ap, ◌∙◌, arith}
+use Rattle.std.proofs.Common.{◌≡◌, ℕ, zero, suc, ◌+◌, ◌<◌, ◌≤◌, Bool, true, false, List, [], ◌∷◌, ◌++◌, length, map, fold, get_or, set, inl}
+use Rattle.std.proofs.Common.{replicate, slice_get, Some, if◌then◌else◌, inr, ◌⊎◌, refl, sym, ap, ◌∙◌, arith}
 use Rattle.std.proofs.lemmas.Bool.{cases_eq, eq-eqb}
 use Rattle.std.proofs.lemmas.List.{length-set, length-replicate, get_or-set_same, get_or-set_other, ext_get_or}
 use Rattle.mv_machine.specs.declared.entry.Entry.{Entry}
@@ -11,7 +11,7 @@ use Rattle.mv_report.specs.EndCode.{is_not_run}
 use Rattle.mv_report.specs.Outcome.{before_end, ends, steps_with, all_steps_with, lines_of_steps, lines, print_line, scan_line}
 use Rattle.mv_report.proofs.Lengths.{one_end_per_job, one_lines_per_job}
 use Rattle.mv_plan.specs.SpoolRun.{IsRun}
-use Rattle.mv_plan.proofs.deck.Plans.{IsPlanned}
+use Rattle.mv_plan.proofs.deck.Planned.{IsPlanned}
 use Rattle.mv_plan.specs.Jobs.{no_job, job_at, end_of}
 use Rattle.mv_work.specs.declared.records.Noted.{Noted}
 use Rattle.mv_work.specs.Records.{JobRecord}

@@ -1,6 +1,6 @@
 -- Of each job there is one record: the one code that names it was given to one initiator, who brought one record for it.
-use Rattle.std.proofs.Common.{◌≡◌, ℕ, zero, suc, ◌+◌, ◌<◌, ◌≤◌, ◌==◌, List, [], ◌∷◌, ◌++◌, length, map, filter, get_or}
-use Rattle.std.proofs.Common.{flat_map, Option, Some, None, inl, inr, ◌⊎◌, refl, sym, ap, ◌∙◌, subst, append-nil, arith}
+use Rattle.std.proofs.Common.{◌≡◌, ℕ, zero, suc, ◌+◌, ◌<◌, ◌≤◌, ◌==◌, List, [], ◌∷◌, ◌++◌, length, map, filter, get_or, flat_map, Option}
+use Rattle.std.proofs.Common.{Some, None, inl, inr, ◌⊎◌, refl, sym, ap, ◌∙◌, subst, append-nil, arith}
 use Rattle.std.specs.List.{AllByRecursion}
 use Rattle.std.proofs.lemmas.Bool.{cases_eq, eq-eqb, ne_eqb}
 use Rattle.std.proofs.lemmas.List.Elements.{filter-append}
@@ -12,8 +12,8 @@ use Rattle.mv_deck.specs.EndCode.{not_run}
 use Rattle.mv_plan.specs.HandingOut.{gift_code, naming, given_codes}
 use Rattle.mv_plan.specs.SpoolSetup.{initiator}
 use Rattle.mv_plan.specs.SpoolTasks.{not_to_run}
-use Rattle.mv_plan.proofs.deck.Codes.{naming_own, naming_other, naming_zero}
-use Rattle.mv_plan.proofs.volumes.GivenCodes.{with_code, codes_of}
+use Rattle.mv_plan.proofs.deck.Ends.{naming_own, naming_other, naming_zero}
+use Rattle.mv_plan.proofs.volumes.Totals.{with_code, codes_of}
 use Rattle.mv_work.specs.Records.{JobRecord}
 use Rattle.mv_work.proofs.brought.Histories.{GivesInitiators}
 use Rattle.mv_work.proofs.brought.Rounds.{AreRounds, IsOwn, code_named}

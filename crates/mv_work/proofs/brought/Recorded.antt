@@ -1,6 +1,5 @@
 -- Of a run, what the initiators bring back is one right record of each job.
-use Rattle.std.proofs.Common.{◌≡◌, ℕ, suc, ◌<◌, ◌≤◌, ◌==◌, List, [], ◌∷◌, length}
-use Rattle.std.proofs.Common.{if◌then◌else◌, refl, sym, ap, ◌∙◌, subst, arith}
+use Rattle.std.proofs.Common.{◌≡◌, ℕ, suc, ◌<◌, ◌≤◌, ◌==◌, List, [], ◌∷◌, length, if◌then◌else◌, refl, sym, ap, ◌∙◌, subst, arith}
 use Rattle.std.specs.List.{AllByRecursion}
 use Rattle.mv_machine.proofs.Lists.{all_map, all_append, all_filter}
 use Rattle.mv_machine.specs.declared.entry.Entry.{Entry}
@@ -18,12 +17,11 @@ use Rattle.mv_plan.specs.Jobs.{job_at, end_of}
 use Rattle.mv_plan.specs.SpoolRun.{IsRun}
 use Rattle.mv_plan.specs.SpoolSetup.{spool_setup, initiator}
 use Rattle.mv_plan.specs.SpoolTasks.{initiating}
-use Rattle.mv_plan.proofs.deck.Codes.{code_parts}
-use Rattle.mv_plan.proofs.deck.Ends.{few_jobs, skipped_ends, end_by_mark}
-use Rattle.mv_plan.proofs.deck.Plans.{IsPlanned}
+use Rattle.mv_plan.proofs.deck.Ends.{code_parts, few_jobs, skipped_ends, end_by_mark}
+use Rattle.mv_plan.proofs.deck.Planned.{IsPlanned}
 use Rattle.mv_plan.proofs.results.CountsAlone.{are_counted_alone}
 use Rattle.mv_plan.proofs.results.HandedOut.{are_handed_out}
-use Rattle.mv_plan.proofs.volumes.GivenCodes.{codes_of}
+use Rattle.mv_plan.proofs.volumes.Totals.{codes_of}
 use Rattle.mv_plan.proofs.walks.Histories.{Stood, stood}
 use Rattle.mv_plan.proofs.walks.Walks.{start_points}
 use Rattle.mv_work.specs.Records.{JobRecord}

@@ -18,16 +18,16 @@ use Rattle.mv_plan.specs.Jobs.{job_at}
 use Rattle.mv_plan.specs.SpoolSetup.{done, idle}
 use Rattle.mv_plan.specs.SpoolTasks.{Named, named_by, job_named, code_of}
 use Rattle.mv_plan.proofs.deck.Ends.{sound_job, own_end_below}
-use Rattle.mv_plan.proofs.deck.Plans.{ArePlannedJobs}
-use Rattle.mv_plan.proofs.points.InitiatorSound.{named_is}
-use Rattle.mv_plan.proofs.volumes.GivenCodes.{codes_of}
+use Rattle.mv_plan.proofs.deck.Planned.{ArePlannedJobs}
+use Rattle.mv_plan.proofs.points.Initiator.{named_is}
+use Rattle.mv_plan.proofs.volumes.Totals.{codes_of}
 use Rattle.mv_work.specs.declared.records.Noted.{Noted}
 use Rattle.mv_work.specs.Initiating.{job_then}
 use Rattle.mv_work.specs.Records.{JobRecord}
 use Rattle.mv_work.specs.Noting.{record_of, all_steps_noted, job_noted, rounds_noted, initiating_noted}
 use Rattle.mv_work.specs.Recording.{AreNotesOf}
-use Rattle.mv_work.proofs.brought.Brings.{ArePlain, Brings, Past, brings_then, codes_told, is_brought, nothing_told, pause_then}
-use Rattle.mv_work.proofs.brought.Brings.{quiet_accepted, quiet_then}
+use Rattle.mv_work.proofs.brought.Brings.{ArePlain, Brings, Past, brings_then, codes_told, is_brought, nothing_told, pause_then, quiet_then}
+use Rattle.mv_work.proofs.brought.Brings.{quiet_accepted}
 use Rattle.mv_work.proofs.brought.Quiet.{post_quiet, allocate_quiet, deallocate_quiet, end_quiet}
 use Rattle.mv_work.proofs.brought.StepNotes.{steps_bring}
 

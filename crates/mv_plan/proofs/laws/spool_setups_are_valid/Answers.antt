@@ -1,5 +1,5 @@
 -- The law is spool_setup_is_valid of deck/Valid.
-use Rattle.mv_plan.proofs.deck.Valid.{spool_setup_is_valid}
+use Rattle.mv_plan.proofs.deck.Setup.{spool_setup_is_valid}
 use Rattle.mv_plan.proofs.laws.spool_setups_are_valid.Goals as goal
 
 pub returns : goal.returns

@@ -1,7 +1,7 @@
 -- No rule refuses the configuration.
 use Rattle.mv_plan.proofs.Words.{◌≡◌, length, refl, sym, ◌∙◌, arith, length-map, job_data}
 use Rattle.mv_deck.specs.Deck.{deck_data}
-use Rattle.mv_plan.proofs.deck.Valid.{not_refused}
+use Rattle.mv_plan.proofs.deck.Setup.{not_refused}
 use Rattle.mv_plan.proofs.spool_setup.spool_config.Goals as goal
 
 pub unreachable-requires : goal.unreachable-requires

@@ -7,10 +7,9 @@ use Rattle.mv_plan.specs.SpoolTasks.{Named, job_named}
 use Rattle.mv_pause.specs.Answers.{gift_as, deallocate_answer}
 use Rattle.mv_work.specs.declared.running.Named as code
 use Rattle.mv_calls.specs.Program.{wrong}
-use Rattle.mv_work.specs.Initiating.{given_then, job_then, jobs_of_records, rounds_after}
-use Rattle.mv_work.specs.Initiating.{job_marks, left_of, steps_events}
+use Rattle.mv_work.specs.Initiating.{given_then, job_then, jobs_of_records, rounds_after, job_marks, left_of, steps_events}
 use Rattle.mv_work.specs.Parts.{jobs_of, named_of}
-use Rattle.mv_plan.proofs.points.InitiatorSound.{named_is}
+use Rattle.mv_plan.proofs.points.Initiator.{named_is}
 use Rattle.mv_work.proofs.Decks.{job_count}
 use Rattle.mv_work.proofs.Rounds.{left_less, one_given, ended, unnamed, last_named, named_now}
 use Rattle.mv_work.proofs.Waits.{comes_as, comes_nowhere, rests_less}
