@@ -16,7 +16,7 @@
 -- landing  the points that may follow an initiator's event (points/Points)
 -- sound    so as it may be, by the task's own steps alone; foreseen: not Astray, by what the others do
 --
--- Each layer is a folder; its file beside the folder passes on the words of all its modules, and later layers take them from there.
+-- Each layer is a folder, or one file; the file beside a folder passes on the words of its modules, and later layers take them from there.
 
 -- the words of other crates, passed on
 pub mod Words

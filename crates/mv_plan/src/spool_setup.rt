@@ -19,7 +19,7 @@ use std::alloc::Global;
 const OTHER_TASKS: u32 = 3;
 
 // At most how many events the steps of a job make.
-#[tactic(auto, using(crate::proofs::code::Lists::steps_left))]
+#[tactic(auto, using(crate::proofs::code::steps_left))]
 fn steps_events(steps: &[Step]) -> u32
     requires fits { sum_by events_of_step steps.now < 2 ^ 32 }
     ensures { result ≡ sum_by events_of_step steps.now }
@@ -32,7 +32,7 @@ fn steps_events(steps: &[Step]) -> u32
 }
 
 // At most how many events the steps of all jobs make.
-#[tactic(auto, using(crate::proofs::code::Lists::events_left))]
+#[tactic(auto, using(crate::proofs::code::events_left))]
 fn all_events(jobs: &[Job]) -> u32
     requires fits { events_of_jobs (map job_data jobs.now) < 2 ^ 32 }
     ensures { result ≡ events_of_jobs (map job_data jobs.now) }
@@ -45,7 +45,7 @@ fn all_events(jobs: &[Job]) -> u32
 }
 
 // How many parts the AFTER lists of all jobs have.
-#[tactic(auto, using(crate::proofs::code::Lists::parts_left))]
+#[tactic(auto, using(crate::proofs::code::parts_left))]
 fn after_parts(jobs: &[Job]) -> u32
     requires fits { parts_of_jobs (map job_data jobs.now) < 2 ^ 32 }
     ensures { result ≡ parts_of_jobs (map job_data jobs.now) }

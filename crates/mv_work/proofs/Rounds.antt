@@ -1,6 +1,6 @@
 -- The rounds of an initiator, wait by wait. Used by initiator.
-use Rattle.std.proofs.Common.{◌≡◌, ℕ, zero, suc, ◌+◌, ◌-◌, ◌<◌, ◌==◌, Bool, true, false, List, [], ◌∷◌, ◌++◌, length, get_or, set}
-use Rattle.std.proofs.Common.{sum_by, ◌||◌, Option, Some, None, Result, Ok, Err, refl, sym, ap, ◌∙◌, subst, if◌then◌else◌, arith}
+use Rattle.std.proofs.Common.{◌≡◌, ℕ, zero, suc, ◌+◌, ◌-◌, ◌<◌, ◌==◌, Bool, true, false, List, [], ◌∷◌, ◌++◌, length, get_or, set, sum_by}
+use Rattle.std.proofs.Common.{◌||◌, Option, Some, None, Result, Ok, Err, refl, sym, ap, ◌∙◌, subst, if◌then◌else◌, arith}
 use Rattle.std.specs.List.{AllByRecursion, list_any}
 use Rattle.std.proofs.lemmas.Bool.{eq-eqb, ne_eqb, eqb-true}
 use Rattle.std.proofs.lemmas.List.{get_or-set_same, get_or-set_other, length-set, map-append}
@@ -15,13 +15,12 @@ use Rattle.mv_calls.specs.Program.{Call, accepted, finished, wrong, followed, un
 use Rattle.mv_calls.specs.Refusal.{Refusal}
 use Rattle.mv_deck.specs.Deck.{JobData}
 use Rattle.mv_deck.specs.EndCode.{not_run}
-use Rattle.mv_plan.proofs.lists.Lists.{all_get}
+use Rattle.mv_plan.proofs.lists.{all_get}
 use Rattle.mv_plan.specs.Jobs.{job_at}
 use Rattle.mv_plan.specs.SpoolSetup.{done}
 use Rattle.mv_plan.specs.SpoolTasks.{Named, named_by, job_named}
 use Rattle.mv_wait.specs.Run.{IsServed}
-use Rattle.mv_work.specs.Initiating.{AreGiven, given_then, job_then, jobs_of_records, left_of}
-use Rattle.mv_work.specs.Initiating.{rounds_after, steps_then}
+use Rattle.mv_work.specs.Initiating.{AreGiven, given_then, job_then, jobs_of_records, left_of, rounds_after, steps_then}
 use Rattle.mv_work.specs.Noting.{record_of, rounds_noted, steps_noted}
 use Rattle.mv_work.specs.Ran.{RanOut}
 use Rattle.mv_work.specs.Records.{JobRecord}

@@ -1,13 +1,12 @@
 -- The steps of a job, one by one. Used by do_step and run_on.
-use Rattle.std.proofs.Common.{◌≡◌, ℕ, ◌+◌, ◌<◌, ◌≤◌, ◌==◌, Bool, true, false, List, [], ◌∷◌, ◌++◌, length}
-use Rattle.std.proofs.Common.{set, Option, Some, None}
-use Rattle.std.proofs.Common.{option_map, refl, sym, ap, ◌∙◌, subst, if◌then◌else◌, arith}
+use Rattle.std.proofs.Common.{◌≡◌, ℕ, ◌+◌, ◌<◌, ◌≤◌, ◌==◌, Bool, true, false, List, [], ◌∷◌, ◌++◌, length, set, Option, Some, None, refl}
+use Rattle.std.proofs.Common.{option_map, sym, ap, ◌∙◌, subst, if◌then◌else◌, arith}
 use Rattle.std.proofs.lemmas.Bool.{eq-eqb, eqb-true}
 use Rattle.std.proofs.lemmas.List.{get_or-set_same, get_or-set_other}
 use Rattle.mv_machine.specs.System.{with_at}
 use Rattle.mv_deck.specs.Deck.{JobData}
 use Rattle.mv_latchset.specs.declared.token.LatchToken.{LatchToken}
-use Rattle.mv_plan.proofs.lists.Lists.{all_get}
+use Rattle.mv_plan.proofs.lists.{all_get}
 use Rattle.mv_work.specs.declared.initiator.Notes.{Notes}
 use Rattle.mv_work.specs.Initiating.{AreGiven, IsAtJob, jobs_of_records}
 use Rattle.mv_work.specs.Records.{Recorded}

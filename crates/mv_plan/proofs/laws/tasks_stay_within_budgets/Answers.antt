@@ -1,6 +1,6 @@
 -- The law is within_budgets of budgets/Within.
 use Rattle.mv_plan.proofs.deck.Planned.{planned}
-use Rattle.mv_plan.proofs.budgets.Within.{within_budgets}
+use Rattle.mv_plan.proofs.budgets.{within_budgets}
 use Rattle.mv_plan.proofs.laws.tasks_stay_within_budgets.Goals as goal
 
 pub returns : goal.returns

@@ -1,6 +1,6 @@
 -- One more exit.
 use Rattle.mv_plan.proofs.Words.{[], ◌∷◌, ap, ◌∙◌, end_for_scheduler}
-use Rattle.mv_plan.proofs.code.Lists.{exits_more}
+use Rattle.mv_plan.proofs.code.{exits_more}
 use Rattle.mv_plan.proofs.spool_setup.exits_of.Goals as goal
 
 pub loop-job-preserved : goal.loop-job-preserved

@@ -1,7 +1,7 @@
 -- Two more owners, and in the end those of the idle blocks.
 use Rattle.mv_plan.proofs.Words.{◌+◌, ◌*◌, ap, ◌∙◌, arith}
 use Rattle.std.proofs.Common.{vec_len}
-use Rattle.mv_plan.proofs.code.Lists.{front_owners, owners_more, owners_all}
+use Rattle.mv_plan.proofs.code.{front_owners, owners_more, owners_all}
 use Rattle.mv_plan.proofs.spool_setup.owners_of.Goals as goal
 
 pub loop-preserved : goal.loop-preserved
