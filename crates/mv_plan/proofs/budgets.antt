@@ -132,8 +132,7 @@ module _ (n initiators : ℕ) where
   settling_rest a x2 found = grind (arith, common_steps, found_rest)
 
   -- where blocks are still to be armed
-  arming_rest : (a : Awaited) (es : List ℕ)
-      → scheduler_rest (arming_from n initiators a es) ≤ length es + (block_count a + behind_wait a)
+  arming_rest : (a : Awaited) (es : List ℕ) → scheduler_rest (arming_from n initiators a es) ≤ length es + (block_count a + behind_wait a)
   arming_rest a x2 = grind (arith, common_steps, settling_rest, blocks)
 
   -- where a wait begins
@@ -148,8 +147,7 @@ module _ (n initiators : ℕ) where
   scheduler_pays x r = grind (arith, common_steps)
 
   -- all jobs together
-  pub jobs_rest_is : (jobs : List JobData)
-      → jobs_rest jobs ≡ 5 * length jobs + 2 * length jobs * initiators + 2 * after_parts jobs
+  pub jobs_rest_is : (jobs : List JobData) → jobs_rest jobs ≡ 5 * length jobs + 2 * length jobs * initiators + 2 * after_parts jobs
   jobs_rest_is [] = omega arith
   jobs_rest_is (job ∷ jobs) = grind (arith, common_steps, jobs_rest_is jobs, sum_by-cons)
 

@@ -295,14 +295,12 @@ same_post o a b e =
     let q : Op.Ecb (EcbOp.Post a) ≡ Op.Ecb (EcbOp.Post b) = (some_pair_parts o o _ _ e).1 in cc q
 
 -- two releases of one pause
-same_release : (o : Object) (g a b : ℕ) → IsSaid (o, Op.Element (ElementOp.Release g a)) (o, Op.Element (ElementOp.Release g b))
-    → a ≡ b
+same_release : (o : Object) (g a b : ℕ) → IsSaid (o, Op.Element (ElementOp.Release g a)) (o, Op.Element (ElementOp.Release g b)) → a ≡ b
 same_release o g a b e =
     let q : Op.Element (ElementOp.Release g a) ≡ Op.Element (ElementOp.Release g b) = (some_pair_parts o o _ _ e).1 in cc q
 
 -- two objects
-confirm_is_no_read : (latch id v : ℕ)
-    → IsSaid (Latches, Op.Latch (LatchOp.Confirm latch id)) (Volume v, Op.Volume VolumeOp.Read) → ⊥
+confirm_is_no_read : (latch id v : ℕ) → IsSaid (Latches, Op.Latch (LatchOp.Confirm latch id)) (Volume v, Op.Volume VolumeOp.Read) → ⊥
 confirm_is_no_read latch id v e = let q : Latches ≡ Volume v = (some_pair_parts Latches (Volume v) _ _ e).0 in absurd (cc q)
 
 -- ---- the first job ends with 4, and 5 is posted

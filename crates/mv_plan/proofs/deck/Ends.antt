@@ -35,8 +35,7 @@ naming_zero j = grind (arith, common_steps)
 -- an entry more
 pub released_none : (j : ℕ) (past : List Entry) (e : Entry) → naming j (released_code e.op) ≡ None
     → released_codes j (past ++ e ∷ []) ≡ released_codes j past
-released_none j past e q =
-    filter_map-append (λ e. naming j (released_code e.op)) past (e ∷ []) ∙ rw q (append-nil (released_codes j past))
+released_none j past e q = filter_map-append (λ e. naming j (released_code e.op)) past (e ∷ []) ∙ rw q (append-nil (released_codes j past))
 
 pub released_some : (j : ℕ) (past : List Entry) (e : Entry) (code : ℕ) → naming j (released_code e.op) ≡ Some code
     → released_codes j (past ++ e ∷ []) ≡ released_codes j past ++ code ∷ []
@@ -102,8 +101,7 @@ skipped_ends deck j sound lt = go (is_skipped deck j) refl where
 
   go : (b : Bool) → is_skipped deck j ≡ b → is_skipped deck j ≡ (end_of deck j == not_run)
   go true e = e ∙ sym (eq-eqb (end_of deck j) not_run (end true e))
-  go false e = e ∙ sym (ne_eqb (end_of deck j) not_run
-      (λ q. let f = end false e in let lt = below in absurd (omega arith)))
+  go false e = e ∙ sym (ne_eqb (end_of deck j) not_run (λ q. let f = end false e in let lt = below in absurd (omega arith)))
 
 -- what an initiator ends a job with, by whether it was told to run it, is the job's end
 pub end_by_mark : (deck : List JobData) (j : ℕ) (skipped : Bool) → ArePlannedJobs 0 deck → j < length deck → skipped ≡ is_skipped deck j

@@ -119,8 +119,7 @@ some_mode hs h l w = go (h.latch == l) refl where
   go false e = (w.0, ap (λ b. if b then Some h.mode else mode_in hs l) e ∙ w.1)
 
 -- the latches of a list are below one that is used in order
-all_below : (done : List Step) (latch : ℕ) → holds_from done latch ≡ false → (hs : List Held)
-    → AllByRecursion (λ h. h.latch ≤ 7) hs
+all_below : (done : List Step) (latch : ℕ) → holds_from done latch ≡ false → (hs : List Held) → AllByRecursion (λ h. h.latch ≤ 7) hs
     → ((l : ℕ) → ((m : Mode) × (mode_in hs l ≡ Some m)) → (m : Mode) × (held done l ≡ Some m))
     → AllByRecursion (λ h. h.latch < latch) hs
 all_below done latch order [] low is = tt
@@ -150,8 +149,7 @@ used_lists hs done latch mode le below x = grind (arith, common_steps, held_next
 -- ---- FREE
 
 -- a latch that is freed is in the list no more, and the others are
-freed : (hs : List Held) (latch l : ℕ)
-    → (if latch == l then None else mode_in hs l) ≡ mode_in (filter (λ h. not (is_held latch h)) hs) l
+freed : (hs : List Held) (latch l : ℕ) → (if latch == l then None else mode_in hs l) ≡ mode_in (filter (λ h. not (is_held latch h)) hs) l
 freed [] latch l = grind (arith, common_steps)
 freed (h ∷ hs) latch l = grind (arith, common_steps, freed hs latch l)
 
@@ -236,8 +234,7 @@ planned_jobs before (job ∷ jobs) j e s = (
     accepts = all_map (λ (part : After) (is : deck.IsSoundAfter (length before) part). is.1) job.after s.0.earlier;
     steps = planned_steps [] [] job.steps (record { known = λ l. refl; low = tt }) s.0.steps;
   }),
-  planned_jobs (before ++ job ∷ []) jobs (j + 1)
-      (length-append before (job ∷ []) ∙ ap (λ n. n + 1) e) s.1,
+  planned_jobs (before ++ job ∷ []) jobs (j + 1) (length-append before (job ∷ []) ∙ ap (λ n. n + 1) e) s.1,
 )
 
 -- the deck

@@ -33,15 +33,13 @@ HasRightMark deck e = (m g j : ℕ) (skipped : Bool) → j < length deck → e.o
 
 -- no post finds its block complete
 abbrev pub PostsFirst : Entry → Type 0
-PostsFirst e = (b d code : ℕ) → e.object ≡ Ecb b → e.op ≡ Op.Ecb (EcbOp.Post d)
-    → e.reply ≡ Reply.Ecb (EcbReply.Already code) → ⊥
+PostsFirst e = (b d code : ℕ) → e.object ≡ Ecb b → e.op ≡ Op.Ecb (EcbOp.Post d) → e.reply ≡ Reply.Ecb (EcbReply.Already code) → ⊥
 
 pub record Traces (deck : List JobData) (s : System) (past : List Entry) : Type 0 where
   -- each block with a job's end was posted exactly where it is complete, and with that code
   pub codes : (j b : ℕ) → j < length deck → HasEnd (length deck) j b → post_codes b past ≡ code_list (block s b)
   -- the post of a done block started its exit
-  pub woke : (j : ℕ) → j < length deck
-      → AllByRecursion (λ p. p.1 ≡ Reply.Ecb (EcbReply.Woke (j + 1))) (posts (done (length deck) j) past)
+  pub woke : (j : ℕ) → j < length deck → AllByRecursion (λ p. p.1 ≡ Reply.Ecb (EcbReply.Woke (j + 1))) (posts (done (length deck) j) past)
   pub found : AllByRecursion (FindsEnd deck) past
   pub marked : AllByRecursion (HasRightMark deck) past
   pub first : AllByRecursion PostsFirst past
@@ -178,8 +176,7 @@ one_more : (n j : ℕ) (s : System) → IsComplete s (end_for_writer n j) → ((
 one_more n j s last h k lt = elim
     (cases_lt k j) [
       | inl less ↦ h k less
-      | inr le ↦ subst (λ z. IsComplete s (end_for_writer n z))
-          (let e : j ≡ k = omega arith in e) last
+      | inr le ↦ subst (λ z. IsComplete s (end_for_writer n z)) (let e : j ≡ k = omega arith in e) last
     ]
 
 settled_found : (n j more : ℕ) (s : System) (kept : List ℕ) (code : ℕ) (found : List (Option ℕ)) → found ≡ [] → j + suc more ≡ n

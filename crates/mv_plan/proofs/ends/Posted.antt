@@ -103,8 +103,7 @@ posted_step : (d : ℕ) (v : EcbState) → (code : ℕ) × ((ecb_step (EcbOp.Pos
 posted_step d (Complete c) = (c, refl)
 posted_step d y = (d, refl)
 
-posted_is : (s : System) (k : ℕ) (o : Object) (op : Op) (b d : ℕ) → o ≡ Ecb b → op ≡ Op.Ecb (EcbOp.Post d)
-    → IsComplete (moved s k o op) b
+posted_is : (s : System) (k : ℕ) (o : Object) (op : Op) (b d : ℕ) → o ≡ Ecb b → op ≡ Op.Ecb (EcbOp.Post d) → IsComplete (moved s k o op) b
 posted_is s k o op b d e f = let c = posted_step d (block s b) in
     (c.0, moved_there s k b o op (EcbOp.Post d) e f ∙ c.1)
 
@@ -127,8 +126,7 @@ before_stays n s s' j still ForScheduler w = still _ (OfJob, refl) w
 before_stays n s s' j still ForWriter w = still _ (ForScheduler, refl) w
 
 -- a stage stays where each block with an end of the job stays as it was, complete or not
-stage_stays : (n : ℕ) (s s' : System) (p : Point InitiatorAt)
-    → ((run : Running) → run_of p ≡ Some run → (b : ℕ) → HasEnd n run.job b
+stage_stays : (n : ℕ) (s s' : System) (p : Point InitiatorAt) → ((run : Running) → run_of p ≡ Some run → (b : ℕ) → HasEnd n run.job b
     → (NotComplete s b → NotComplete s' b) × (IsComplete s b → IsComplete s' b)) → EndStage n s p → EndStage n s' p
 stage_stays n s s' p stays = stage_map (IsPostNext n s) (IsPostNext n s') p (λ run e post f.
     ((stays run e _ (post, refl)).0 f.0, before_stays n s s' run.job (λ b has. (stays run e b has).1) post f.1))
@@ -153,14 +151,12 @@ module _ (deck : List JobData) (initiators : ℕ) where
     stands = subst (IsInitiatorAt deck) at (q.0.each i lt)
 
     -- it posts the end of the job that it runs alone
-    own_end_posted : (j b code : ℕ) → j < n → HasEnd n j b → asks.0 ≡ Ecb b
-        → asks.1 ≡ Op.Ecb (EcbOp.Post code) → RunBy t i j
+    own_end_posted : (j b code : ℕ) → j < n → HasEnd n j b → asks.0 ≡ Ecb b → asks.1 ≡ Op.Ecb (EcbOp.Post code) → RunBy t i j
     own_end_posted j b code below has o op =
         let w = posts_run deck i x j b stands below has o in
         (w.0, ap run_of at ∙ w.1, w.2)
 
-    others_end : (j b : ℕ) → j < n → HasEnd n j b → (RunBy t i j → ⊥) → NotComplete s b
-        → NotComplete i_after b
+    others_end : (j b : ℕ) → j < n → HasEnd n j b → (RunBy t i j → ⊥) → NotComplete s b → NotComplete i_after b
     others_end j b below has other free = search (rules, not_moved, own_end_posted)
 
     still : (b : ℕ) → IsComplete s b → IsComplete i_after b
@@ -248,10 +244,8 @@ module _ (deck : List JobData) (initiators : ℕ) where
 
     split_after : (m : ℕ) → next_job n t.scheduler ≤ m → IsSplit n s m → IsSplit n i_after m
     split_after m from sp j below = (
-      λ less. extended_after (block_moved s (initiator i) asks.0 asks.1
-          (done n j)) ((sp j below).0 less),
-      λ le. zero_after (block_moved s (initiator i) asks.0 asks.1
-          (done n j)) le,
+      λ less. extended_after (block_moved s (initiator i) asks.0 asks.1 (done n j)) ((sp j below).0 less),
+      λ le. zero_after (block_moved s (initiator i) asks.0 asks.1 (done n j)) le,
     ) where
       extended_after : Moved j → (block s (done n j) ≡ Extended (j + 1)) ⊎ IsComplete s (done n j)
           → (block i_after (done n j) ≡ Extended (j + 1)) ⊎ IsComplete i_after (done n j)
@@ -308,8 +302,7 @@ module _ (deck : List JobData) (initiators : ℕ) where
     quiet_order j below post w = before_stays n s (moved s k o op) j (λ b has. quiet_still j b below has) post
         (h.order j below post (quiet_was j _ below (post, refl) w))
 
-    quiet_split : ((j : ℕ) → j < n → o ≡ Ecb (done n j) → ⊥) → (m : ℕ) → IsSplit n s m
-        → IsSplit n (moved s k o op) m
+    quiet_split : ((j : ℕ) → j < n → o ≡ Ecb (done n j) → ⊥) → (m : ℕ) → IsSplit n s m → IsSplit n (moved s k o op) m
     quiet_split untouched m sp j below = grind (arith, common_steps)
 
     -- so of an event of the reader or the writer
@@ -335,8 +328,7 @@ module _ (deck : List JobData) (initiators : ℕ) where
   reader_untouched : (x : ReaderAt) (j : ℕ) → IsReaderAt n (At x) → (reader_asks x).0 ≡ Ecb (done n j) → ⊥
   reader_untouched x j at o = grind (arith, common_steps)
 
-  pub reader_ends : (x : ReaderAt) (j b : ℕ) → IsReaderAt n (At x) → HasEnd n j b → (reader_asks x).0 ≡ Ecb b
-      → ⊥
+  pub reader_ends : (x : ReaderAt) (j b : ℕ) → IsReaderAt n (At x) → HasEnd n j b → (reader_asks x).0 ≡ Ecb b → ⊥
   reader_ends x j b at has o = grind (arith, common_steps)
 
   reader_posted : (c : Setup) (s : System) (t : Points) (past : List Entry) (x : ReaderAt) (p : ℕ) (r : Reply) → t.reader ≡ At x
@@ -358,8 +350,7 @@ module _ (deck : List JobData) (initiators : ℕ) where
 
   -- ---- the writer
 
-  pub writer_is : (x : WriterAt) (b : ℕ) → (writer_asks x).0 ≡ Ecb b → IsWriterAt n (At x)
-      → (j : ℕ) × (b ≡ end_for_writer n j)
+  pub writer_is : (x : WriterAt) (b : ℕ) → (writer_asks x).0 ≡ Ecb b → IsWriterAt n (At x) → (j : ℕ) × (b ≡ end_for_writer n j)
   writer_is x b o at = grind (arith, common_steps)
 
   writer_element : (x : WriterAt) (m : ℕ) → (writer_asks x).0 ≡ Element m → ⊥
@@ -379,8 +370,7 @@ module _ (deck : List JobData) (initiators : ℕ) where
   -- ---- the scheduler
 
   -- it touches a done block only to extend it
-  scheduler_untouched : (x : SchedulerAt) (j : ℕ) → IsSchedulerAt deck initiators (At x) → j < n
-      → (scheduler_asks n x).0 ≡ Ecb (done n j)
+  scheduler_untouched : (x : SchedulerAt) (j : ℕ) → IsSchedulerAt deck initiators (At x) → j < n → (scheduler_asks n x).0 ≡ Ecb (done n j)
       → (job : JobData) × (jobs : List JobData) × (skipped : Bool) × (x ≡ Extends j job jobs skipped)
   scheduler_untouched (Extends k job jobs skipped) j s below o = let e : done n k ≡ done n j = cc o in
       let same : k ≡ j = omega arith in (job, jobs, skipped, ap (λ z. Extends z job jobs skipped) same)
@@ -409,12 +399,10 @@ module _ (deck : List JobData) (initiators : ℕ) where
     abbrev s_after : System
     s_after = moved s 1 s_asks.0 s_asks.1
 
-    s_no_post : (j b code : ℕ) → j < n → HasEnd n j b → s_asks.0 ≡ Ecb b
-        → s_asks.1 ≡ Op.Ecb (EcbOp.Post code) → ⊥
+    s_no_post : (j b code : ℕ) → j < n → HasEnd n j b → s_asks.0 ≡ Ecb b → s_asks.1 ≡ Op.Ecb (EcbOp.Post code) → ⊥
     s_no_post j b code below has o op = scheduler_no_post n x code op
 
-    s_no_clear : (j b : ℕ) → j < n → HasEnd n j b → s_asks.0 ≡ Ecb b
-        → s_asks.1 ≡ Op.Ecb EcbOp.Clear → ⊥
+    s_no_clear : (j b : ℕ) → j < n → HasEnd n j b → s_asks.0 ≡ Ecb b → s_asks.1 ≡ Op.Ecb EcbOp.Clear → ⊥
     s_no_clear j b below has o op = grind (arith, common_steps)
 
     free_still : (j : ℕ) → j < n → NotDone n s j → NotDone n s_after j
@@ -430,8 +418,7 @@ module _ (deck : List JobData) (initiators : ℕ) where
         (λ j below o. let w = scheduler_untouched x j s_stands below o in ne j w.0 w.1 w.2 (sym is ∙ w.3))
         (extended_at n x) (subst (λ z. IsSplit n s (extended_at n z)) (sym is) sp)))
 
-    blocks_after : (y : SchedulerAt) → x ≡ y → IsSplit n s (extended_at n y)
-        → DoneBlocks n s_after (scheduler_goes n initiators x r)
+    blocks_after : (y : SchedulerAt) → x ≡ y → IsSplit n s (extended_at n y) → DoneBlocks n s_after (scheduler_goes n initiators x r)
     blocks_after (Extends j job jobs skipped) is sp = grind (arith, common_steps)
     blocks_after y is sp = plain_after y is (λ j job jobs skipped e. cc e) sp
 
@@ -447,14 +434,12 @@ module _ (deck : List JobData) (initiators : ℕ) where
             | inr w ↦ free_still j below (h.coming j below
                 (subst (λ z. next_job n z ≤ j) (sym at) (released_next x w.0 j skipped few s_stands below w.2)))
           ];
-      stages = λ m lm. quiet_stage s t 1 s_asks.0 s_asks.1 h s_no_post s_no_clear
-          (t.initiators m) (q.0.each m lm) (h.stages m lm);
+      stages = λ m lm. quiet_stage s t 1 s_asks.0 s_asks.1 h s_no_post s_no_clear (t.initiators m) (q.0.each m lm) (h.stages m lm);
       order = quiet_order s t 1 s_asks.0 s_asks.1 h s_no_post s_no_clear;
       blocks = blocks_after x refl (subst (λ z. DoneBlocks n s z) at h.blocks);
     }
 
-  pub posted_keeps : (c : Setup) → n ≤ not_to_run
-      → KeepsUnder (HasPlaces deck initiators) (HasPosted deck initiators) c deck initiators
+  pub posted_keeps : (c : Setup) → n ≤ not_to_run → KeepsUnder (HasPlaces deck initiators) (HasPosted deck initiators) c deck initiators
   posted_keeps c few = search (rules, by_moves, initiators, reader_posted, scheduler_posted, initiator_posted, writer_posted)
 
   pub posted_first : (c : Setup) → Posted deck initiators (opening c) (start_points deck initiators)

@@ -113,8 +113,7 @@ other_owns k j place op lists Idle n lt sp w = λ latch. mine_kept k j place op 
 other_owns k j place op lists (Works job held more) n lt sp w =
     record {
       listed = now;
-      holds = holds_still lists (latch_step j place op lists).0 place k job held more
-          (latch_changes j place op lists) now w.holds;
+      holds = holds_still lists (latch_step j place op lists).0 place k job held more (latch_changes j place op lists) now w.holds;
     } where
       now : Listed (latch_step j place op lists).0 k job (held ++ more)
       now = λ latch. mine_kept k j place op lists n lt (spares_works k job held more lists op sp w) latch ∙ w.listed latch
@@ -327,10 +326,8 @@ module _ (c : Setup) (s : System) (deck : List JobData) (i : ℕ) where
       → IsNext c s (entry_of k (initiator_asks (length deck) i x).0 p (initiator_asks (length deck) i x).1 r)
       → IsInitiatorAt deck (At x) → OwnsBy lists k (grip (At x))
       → OwnsNext x r
-  own_next (Pausing more before g) p (Reply.Element (ElementReply.Given code now)) h a w =
-      given_owns lists k deck more before code now w
-  own_next (Resuming more before g) p (Reply.Element (ElementReply.Given code now)) h a w =
-      given_owns lists k deck more before code now w
+  own_next (Pausing more before g) p (Reply.Element (ElementReply.Given code now)) h a w = given_owns lists k deck more before code now w
+  own_next (Resuming more before g) p (Reply.Element (ElementReply.Given code now)) h a w = given_owns lists k deck more before code now w
   own_next (InJob run (Obtaining hand latch mode steps)) p (Reply.Latch (LatchReply.Granted id)) h a w =
       let op = LatchOp.Obtain latch (run.job + 1) mode LatchForm.Waiting in
       let e = granted_reply _ place id

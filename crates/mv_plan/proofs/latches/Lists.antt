@@ -103,8 +103,7 @@ asked_named k job latch id requests [] l e = grind (arith, common_steps)
 asked_named k job latch id requests (g ∷ gs) l e = grind (arith, common_steps, asked_named k job latch id requests gs)
 
 -- they are the job's, and the caller's
-pub asked_of : (k job latch : ℕ) (gs : List Grant)
-    → AllByRecursion (λ q. (q.caller ≡ k) × (q.requestor ≡ job + 1)) (asked k job latch gs)
+pub asked_of : (k job latch : ℕ) (gs : List Grant) → AllByRecursion (λ q. (q.caller ≡ k) × (q.requestor ≡ job + 1)) (asked k job latch gs)
 asked_of k job latch [] = tt
 asked_of k job latch (g ∷ gs) = grind (arith, common_steps, asked_of k job latch gs)
 
@@ -150,8 +149,7 @@ obtained_reply k place latch requestor mode lists = grind (arith, common_steps, 
 
 -- who is granted at once holds the latch
 pub granted_new : (r : Request) (qs : List Request) → grants qs r ≡ true → Contains (granted (qs ++ r ∷ [])) r
-granted_new r qs e = subst (λ z. Contains z r) (sym (granted_at_end qs r e))
-    (Contains-append_right qs (r ∷ []) r (first_is_in r [] r refl))
+granted_new r qs e = subst (λ z. Contains z r) (sym (granted_at_end qs r e)) (Contains-append_right qs (r ∷ []) r (first_is_in r [] r refl))
 
 -- a release that finds the request takes it out
 pub released_list : (k place latch id : ℕ) (lists : List (List Request)) → latch < length lists

@@ -70,8 +70,7 @@ module _ (deck : List JobData) (initiators : ℕ) (s : System) (t : Points) (pas
   run_member : (i : ℕ) → i < initiators → RunBy t i j → (1 ≤ jobs i) × (jobs i ≤ sum_to initiators jobs)
   run_member i lt run = (run_counted j (t.initiators i) run.0 run.1 run.2, sum_member initiators i jobs lt)
 
-  held_member : (i : ℕ) (skipped : Bool) → i < initiators → element_code s i ≡ Some (code_of j skipped)
-      → 1 ≤ sum_to initiators held
+  held_member : (i : ℕ) (skipped : Bool) → i < initiators → element_code s i ≡ Some (code_of j skipped) → 1 ≤ sum_to initiators held
   held_member i skipped lt e =
       let a = sum_member initiators i held lt in
       let b : held i ≡ 1 = ap (λ z. one_of (naming j z)) e ∙ ap one_of (naming_own j skipped) in omega arith
@@ -203,8 +202,7 @@ module _ (deck : List JobData) (s : System) (q : Point SchedulerAt) (i : ℕ) wh
       → IsNotLost (initiator_goes deck x r) → DidAt x r
   initiator_did Opening r sound a w f = on_element _ _ r _ (opened_did deck _ _ (element_of s i) r (cc a) w f)
   initiator_did (Offering more before g) r sound a w f = search (rules, At, Pausing, on_posted_keeps, went_on)
-  initiator_did (Pausing more before g) r sound a w f =
-      on_element _ _ r _ (paused_did deck _ _ more before g (element_of s i) r (cc a) w f)
+  initiator_did (Pausing more before g) r sound a w f = on_element _ _ r _ (paused_did deck _ _ more before g (element_of s i) r (cc a) w f)
   initiator_did (Resuming more before g) r sound a w f =
       on_element _ _ r _ (resumed_did deck _ _ more before g (element_of s i) r (cc a) w f)
   initiator_did (InJob run job) r sound a w f = runs_did (InJob run job) r run refl sound a f

@@ -94,8 +94,7 @@ module _ (c : Setup) (deck : List JobData) (initiators : ℕ) (few : length deck
 
     released_still : u.scheduler ≡ t.scheduler → released_code e.op ≡ None → (j : ℕ) → j < n
         → Released (next_job n u.scheduler) j (released_codes j (past ++ e ∷ []))
-    released_still same none j lt =
-        released_same _ _ j past e (ap (next_job n) same) (ap (naming j) none) (ledger.released j lt)
+    released_still same none j lt = released_same _ _ j past e (ap (next_job n) same) (ap (naming j) none) (ledger.released j lt)
 
     -- neither a release nor a gift
     quiet : next_job n u.scheduler ≡ next_job n t.scheduler → ((m : ℕ) → m < initiators → element_code (next s e) m ≡ element_code s m)

@@ -140,8 +140,7 @@ pub left_next : (deck : List JobData) (run : Running) (step : Step) (steps : Lis
 left_next deck run step steps s l =
     record {
       past = l.past ++ step ∷ [];
-      whole = append_assoc l.past (step ∷ []) steps
-          ∙ l.whole;
+      whole = append_assoc l.past (step ∷ []) steps ∙ l.whole;
       going = all_push IsNoEnd l.past step l.going s;
       runs = l.runs;
     }
@@ -163,8 +162,7 @@ rises_less low high (g ∷ gs) le r = (omega arith, r.1)
 rises_push : (low latch : ℕ) (mode : Mode) (id : ℕ) (gs : List Grant) → Rises low gs → low ≤ latch
     → AllByRecursion (λ h. h.latch < latch) (held_of gs) → Rises low (gs ++ record { latch = latch; mode = mode; id = id } ∷ [])
 rises_push low latch mode id [] r le b = (le, tt)
-rises_push low latch mode id (g ∷ gs) r le b =
-    (r.0, rises_push (g.latch + 1) latch mode id gs r.1 (let lt = b.0 in omega arith) b.1)
+rises_push low latch mode id (g ∷ gs) r le b = (r.0, rises_push (g.latch + 1) latch mode id gs r.1 (let lt = b.0 in omega arith) b.1)
 
 rises_without : (low latch : ℕ) (gs : List Grant) → Rises low gs → Rises low (without_latch latch gs)
 rises_without low latch [] r = tt
@@ -247,8 +245,7 @@ module _ (deck : List JobData) (i : ℕ) (sound : ArePlannedJobs 0 deck) (kept :
       → InitiatorKept i (standing_of (initiator i) run.job hand.holding) kept
       → InitiatorStands deck i kept (steps_at run hand steps)
   steps_stand run hand [] s k = (record { round = s.round; end = left_end deck run [] s.left }, k)
-  steps_stand run hand (Print text ∷ steps) s k =
-      steps_stand run hand steps (step_done deck run hand (Print text) steps tt s.sound s) k
+  steps_stand run hand (Print text ∷ steps) s k = steps_stand run hand steps (step_done deck run hand (Print text) steps tt s.sound s) k
   steps_stand run hand (Free latch ∷ steps) s k = grind (arith, common_steps)
   steps_stand run hand (Abend code ∷ steps) s k = (record { round = s.round; end = left_end deck run (Abend code ∷ steps) s.left }, k)
   steps_stand run hand (Return code ∷ steps) s k = (record { round = s.round; end = left_end deck run (Return code ∷ steps) s.left }, k)
@@ -425,8 +422,7 @@ module _ (c : Setup) (deck : List JobData) (initiators i : ℕ) (facts : Facts c
       (λ counts. rounds c deck i more (before ++ named.job ∷ []) (token_of (initiator i) g))) kept
       ≡ program_at (initiator_program c deck i kept) (named_at deck slot before more g)
   named_enters code (suc more) before g (Some named) kept e round k = go (list_any (λ j. j == named.job) before) refl where
-    go : (b : Bool) → list_any (λ j. j == named.job) before ≡ b
-        → (if b then wrong else followed (run_job c deck named)
+    go : (b : Bool) → list_any (λ j. j == named.job) before ≡ b → (if b then wrong else followed (run_job c deck named)
         (λ counts. rounds c deck i (suc more) (before ++ named.job ∷ []) (token_of (initiator i) g))) kept
         ≡ program_at (initiator_program c deck i kept)
         (if b then Astray else job_start named.skipped (running named before (suc more) g) (job_at deck named.job))

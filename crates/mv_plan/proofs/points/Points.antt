@@ -136,8 +136,7 @@ stage_at n initiators (Dismissing i more) = dismissing_from n i more
 abbrev pub found_at : ℕ → Awaited → List (Option ℕ) → Point SchedulerAt
 found_at n (ForEntry j job jobs) found = lowest_at (λ p code. ends_at n j job jobs) 0 found
 found_at n (ForEnds j job jobs) found = At (Extends j job jobs (some_end_above job.after found))
-found_at n (ForIdle j job jobs skipped) found =
-    lowest_at (λ i g. At (Clears i g (code_of j skipped) (Dispatching (j + 1) jobs))) 0 found
+found_at n (ForIdle j job jobs skipped) found = lowest_at (λ i g. At (Clears i g (code_of j skipped) (Dispatching (j + 1) jobs))) 0 found
 found_at n (ToDismiss i more) found = lowest_at (λ p g. At (Clears i g 0 (Dismissing (i + 1) more))) 0 found
 
 abbrev pub settling_from : ℕ → Awaited → List ℕ → List (Option ℕ) → Point SchedulerAt
@@ -361,8 +360,7 @@ on_obtained run hand latch mode steps (Reply.Latch (LatchReply.Queued id)) = At 
 on_obtained run hand latch mode steps r = Astray
 
 abbrev pub on_confirmed : Running → Hand → ℕ → Mode → ℕ → List Step → Reply → Point InitiatorAt
-on_confirmed run hand latch mode id steps (Reply.Latch (LatchReply.Granted same)) =
-    steps_at run (hand_with hand latch mode id) steps
+on_confirmed run hand latch mode id steps (Reply.Latch (LatchReply.Granted same)) = steps_at run (hand_with hand latch mode id) steps
 on_confirmed run hand latch mode id steps (Reply.Latch LatchReply.Waiting) = TooSoon
 on_confirmed run hand latch mode id steps r = Astray
 
@@ -528,7 +526,6 @@ module _ (P : Point InitiatorAt → Type 0) (lost : P Astray) where
         → P (named_at deck slot before more g)
     named_lands slot more starts = grind (arith, common_steps)
 
-    given : (b : Bool) → (code == 0) ≡ b
-        → P (if b then At (Closing g) else named_at deck (job_named (length deck) code) before more g)
+    given : (b : Bool) → (code == 0) ≡ b → P (if b then At (Closing g) else named_at deck (job_named (length deck) code) before more g)
     given true e = closes (eqb-true code 0 e)
     given false e = named_lands (job_named (length deck) code) more starts

@@ -77,8 +77,7 @@ extending c n initiators j skipped = accepted (extend c (done n j) (j + 1)) (λ 
 
 -- what follows the job's or the initiator's wait within it
 abbrev pub awaited_then : Setup → ℕ → ℕ → Awaited → List (Option ℕ) → Call (Unit {0})
-awaited_then c n initiators (ForEntry j job jobs) =
-    lowest (λ position zero_code. ends_awaited c n job.after (extending c n initiators j)) 0
+awaited_then c n initiators (ForEntry j job jobs) = lowest (λ position zero_code. ends_awaited c n job.after (extending c n initiators j)) 0
 awaited_then c n initiators (ForEnds j job jobs) = λ slots. extending c n initiators j (some_end_above job.after slots)
 awaited_then c n initiators (ForIdle j job jobs skipped) = lowest (hand_over c n (code_of j skipped)) 0
 awaited_then c n initiators (ToDismiss i more) = lowest (λ position generation. hand_over c n 0 i generation) 0
@@ -227,8 +226,7 @@ pub lowest_goes : {A X : Type 0} (g : Program A → Program (List ℕ)) (f : X �
     (p bound : ℕ) (found : List (Option ℕ)) → p + length found ≤ bound
     → ((i code : ℕ) → i < bound → g (call i code kept) ≡ program_at f (pt i code)) → g Wrong ≡ Wrong
     → g (lowest call p found kept) ≡ program_at f (lowest_at pt p found)
-lowest_goes g f call pt kept p bound (None ∷ found) le same lost =
-    lowest_goes g f call pt kept (p + 1) bound found (omega arith) same lost
+lowest_goes g f call pt kept p bound (None ∷ found) le same lost = lowest_goes g f call pt kept (p + 1) bound found (omega arith) same lost
 lowest_goes g f call pt kept p bound found le same lost = grind (arith, common_steps)
 
 -- enough were found, or the wait ended too soon
@@ -291,8 +289,7 @@ pub record WriterKept (initiators : ℕ) (kept : Kept) : Type 0 where
 -- where it may stand, with n jobs
 abbrev pub IsWriterAt : ℕ → Point WriterAt → Type 0
 IsWriterAt n (At (Keeping j more ends (Arming e todo))) = (j + suc more ≡ n) × (e ≡ end_for_writer n j) × (todo ≡ [])
-IsWriterAt n (At (Keeping j more ends (Settling e todo found))) =
-    (j + suc more ≡ n) × (e ≡ end_for_writer n j) × (todo ≡ []) × (found ≡ [])
+IsWriterAt n (At (Keeping j more ends (Settling e todo found))) = (j + suc more ≡ n) × (e ≡ end_for_writer n j) × (todo ≡ []) × (found ≡ [])
 IsWriterAt n p = Unit {0}
 
 pub writer_enters : (c : Setup) (n initiators j more : ℕ) (ends : List ℕ) (kept : Kept) → Facts c n initiators

@@ -45,8 +45,7 @@ run_goes deck (InJob run' w) r run e =
 run_goes deck x r run e = absurd (cc e)
 
 -- what it asks is elsewhere
-pub run_asks : (n i : ℕ) (x : InitiatorAt) (run : Running) → run_of (At x) ≡ Some run → run.job < n
-    → Elsewhere n (initiator_asks n i x).0
+pub run_asks : (n i : ℕ) (x : InitiatorAt) (run : Running) → run_of (At x) ≡ Some run → run.job < n → Elsewhere n (initiator_asks n i x).0
 run_asks n i x run e lt = grind (arith, common_steps)
 
 -- a running job is one of the deck's, and a sound round

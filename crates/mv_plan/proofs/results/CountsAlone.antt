@@ -189,8 +189,7 @@ module _ (deck : List JobData) (initiators : ℕ) (some : 1 ≤ initiators) (sou
       let one : one_if (purged_by (j + 1) e.op) ≡ 1 = ap one_if is in omega arith) where
         parts : (t : Points) × WalkTo c deck initiators (opening c) (start_points deck initiators) front t
             × WalkTo c deck initiators (after_from (opening c) front) t (e ∷ rest) u
-        parts = walk-parts c deck initiators (opening c) (start_points deck initiators) u front (e ∷ rest)
-            (walk_of (front ++ e ∷ rest) q)
+        parts = walk-parts c deck initiators (opening c) (start_points deck initiators) u front (e ∷ rest) (walk_of (front ++ e ∷ rest) q)
 
   pub are_purged_once : ArePurged deck initiators es
   are_purged_once = grind (arith, common_steps, purged_once, no_obtain_after, all_empty, no_requests)

@@ -57,8 +57,7 @@ module _ (c : Setup) (deck : List JobData) (initiators : ℕ) (facts : Facts c (
 
 -- ---- the end
 
-pairs_one : (ps : List (ℕ × Reply)) (a : ℕ) (r : Reply) → map (λ p. p.0) ps ≡ a ∷ [] → AllByRecursion (λ p. p.1 ≡ r) ps
-    → ps ≡ (a, r) ∷ []
+pairs_one : (ps : List (ℕ × Reply)) (a : ℕ) (r : Reply) → map (λ p. p.0) ps ≡ a ∷ [] → AllByRecursion (λ p. p.1 ≡ r) ps → ps ≡ (a, r) ∷ []
 pairs_one [] a r e all = absurd (cc e)
 pairs_one (p ∷ []) a r e all = let q : p.0 ≡ a = cc e in ap (λ z. (z, p.1) ∷ []) q ∙ ap (λ z. (a, z) ∷ []) all.0
 pairs_one (p ∷ q ∷ ps) a r e all = absurd (cc e)

@@ -49,8 +49,7 @@ module _ (c : Setup) (deck : List JobData) (initiators : ℕ) (kept : ℕ → Ke
   ClosesAt q es = Closes n initiators es (dismissed_by initiators (errand q))
 
   abbrev Closing : System → Points → Entry → Points → Type 0
-  Closing s t e u = Stand deck initiators kept t → NoneLost initiators u → ClosesAt t.scheduler past
-      → ClosesAt u.scheduler (past ++ e ∷ [])
+  Closing s t e u = Stand deck initiators kept t → NoneLost initiators u → ClosesAt t.scheduler past → ClosesAt u.scheduler (past ++ e ∷ [])
 
   module _ (i g code p : ℕ) (r : Reply) where
     abbrev out : Entry
@@ -129,8 +128,7 @@ exacting_push g vs v y w = grind (arith, common_steps, filter_map-append)
 pub exacting_next : (c : Setup) (s : System) (past : List Entry) (e : Entry) → IsNext c s e → ClosesNone s e.object e.op
     → AreExacting s past → AreExacting (next s e) (past ++ e ∷ [])
 exacting_next c s past e n none w m g = elim (element_meets c m s e n) [
-  | inl p ↦ exacting_at g (element_events m past) _ (s.element m).state _ (events_same m past e p.none) (ap (λ z. z.state) p.kept)
-      (w m g)
+  | inl p ↦ exacting_at g (element_events m past) _ (s.element m).state _ (events_same m past e p.none) (ap (λ z. z.state) p.kept) (w m g)
   | inr v ↦ exacting_at g (element_events m past ++ v.event ∷ []) _ (element_step v.event.op (s.element m).state).0 _
       (events_more m past e v.event v.is) (ap (λ z. z.state) v.after)
       (exacting_push g (element_events m past) v.event _

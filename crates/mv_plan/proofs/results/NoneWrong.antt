@@ -27,8 +27,7 @@ at_in_time x p at z = cc (at, z)
 
 in_time_before : (deck : List JobData) (initiators : ℕ) (t u : Points) (e : Entry) → Move deck initiators t e u → AreInTime initiators u
     → AreInTime initiators t
-in_time_before deck initiators t u e m f =
-    all_before (λ X p. p ≡ TooSoon → ⊥) (λ X x p at. at_in_time x p at) deck initiators t u e m f
+in_time_before deck initiators t u e m f = all_before (λ X p. p ≡ TooSoon → ⊥) (λ X x p at. at_in_time x p at) deck initiators t u e m f
 
 -- no task is astray
 abbrev pub AllForeseen : ℕ → Points → Type 0
@@ -190,8 +189,7 @@ module _ (deck : List JobData) (initiators : ℕ) where
       → (e.object ≡ (initiator_asks (length deck) i x).0) × (e.op ≡ (initiator_asks (length deck) i x).1)
   initiator_asked t u e i x y lt c given = grind (arith, common_steps)
 
-  scheduler_asked : (t u : Points) (e : Entry) (x : SchedulerAt) → Move deck initiators t e u → e.caller ≡ scheduler
-      → t.scheduler ≡ At x
+  scheduler_asked : (t u : Points) (e : Entry) (x : SchedulerAt) → Move deck initiators t e u → e.caller ≡ scheduler → t.scheduler ≡ At x
       → (e.object ≡ (scheduler_asks (length deck) x).0) × (e.op ≡ (scheduler_asks (length deck) x).1)
   scheduler_asked t u e x y c given = grind (arith, common_steps)
 

@@ -109,8 +109,7 @@ module _ (n initiators : ℕ) (s : System) where
       → P (f slot)) → P Astray → P (on_settled f r)
   settled_slot e r f x q each a = grind (arith, common_steps)
 
-  pub finds_next : (x : SchedulerAt) (r : Reply)
-      → ((a : Awaited) (w : WaitAt) → x ≡ Waits a w → IsWaitAt (awaited_blocks n initiators a) w)
+  pub finds_next : (x : SchedulerAt) (r : Reply) → ((a : Awaited) (w : WaitAt) → x ≡ Waits a w → IsWaitAt (awaited_blocks n initiators a) w)
       → Some r ≡ reply_to s scheduler (scheduler_asks n x).0 (scheduler_asks n x).1
       → Finds n initiators s.ecb (At x) → Finds n initiators (then_s x).ecb (scheduler_goes n initiators x r)
   finds_next (Waits a (Settling e todo found)) r sound q w =
@@ -190,8 +189,7 @@ WriterArms n p b = ⊥
 
 -- a block that is waiting was armed by its owner, the scheduler or the writer, and is still to be settled
 pub record Armed (c : Setup) (n initiators : ℕ) (s : System) (t : Points) : Type 0 where
-  pub armed : (b : ℕ) → (s.ecb b).state ≡ Waiting
-      → ((owner_of c b ≡ scheduler) × SchedulerArms n initiators t.scheduler b)
+  pub armed : (b : ℕ) → (s.ecb b).state ≡ Waiting → ((owner_of c b ≡ scheduler) × SchedulerArms n initiators t.scheduler b)
       ⊎ ((owner_of c b ≡ writer initiators) × WriterArms n t.writer b)
 
 -- ---- tables

@@ -116,8 +116,7 @@ module _ (o h : Option ℕ) where
       → Row (stance (on_resumed deck more before r)) o h (element_step (ElementOp.Resume g) y).0
   resumed_row deck more before g y r e x = grind (arith, common_steps, eq-eqb, given_row)
 
-  closed_row : (g : ℕ) (y : ElementState) (r : Reply) → r ≡ Reply.Element (element_step (ElementOp.Close g) y).1
-      → Row (Works g) o h y
+  closed_row : (g : ℕ) (y : ElementState) (r : Reply) → r ≡ Reply.Element (element_step (ElementOp.Close g) y).1 → Row (Works g) o h y
       → Row (stance (on_closed r)) o h (element_step (ElementOp.Close g) y).0
   closed_row g y r e w = rw (e, w.2, eq-eqb g g refl) (w.0, w.1, refl)
 
@@ -167,13 +166,11 @@ module _ (deck : List JobData) (s : System) (q : Point SchedulerAt) (i : ℕ) wh
 
 -- ---- what the scheduler does to a row
 
-bare_early : (g m code : ℕ) (x : ElementState) → g ≡ m → x ≡ reset m
-    → ((element_step (ElementOp.Release g code) x).0 ≡ prereleased m code)
+bare_early : (g m code : ℕ) (x : ElementState) → g ≡ m → x ≡ reset m → ((element_step (ElementOp.Release g code) x).0 ≡ prereleased m code)
     × ((element_step (ElementOp.Release g code) x).1 ≡ ElementReply.Early)
 bare_early g m code x e q = rw (q, e, eq-eqb m m refl) (refl, refl)
 
-bare_woke : (g m code : ℕ) (x : ElementState) → g ≡ m → x ≡ paused m
-    → ((element_step (ElementOp.Release g code) x).0 ≡ released m code)
+bare_woke : (g m code : ℕ) (x : ElementState) → g ≡ m → x ≡ paused m → ((element_step (ElementOp.Release g code) x).0 ≡ released m code)
     × ((element_step (ElementOp.Release g code) x).1 ≡ ElementReply.Woke)
 bare_woke g m code x e q = rw (q, e, eq-eqb m m refl) (refl, refl)
 
@@ -294,8 +291,7 @@ module _ (c : Setup) (deck : List JobData) (initiators : ℕ) (kept : ℕ → Ke
   each_kept = record {
     of_reader = λ s t x p r at n st w. quiet s t (entry_of reader p (reader_asks x) r) (reader_goes x r) t.writer
         (reader_low (length deck) x (subst (λ q. IsReaderAt (length deck) q) at st.at_reader)) (reader_clear x) w;
-    of_scheduler = λ s t x p r at n st w. scheduled s t x p r at n
-        (subst (λ q. IsSchedulerAt deck initiators q) at st.at_scheduler.0) w;
+    of_scheduler = λ s t x p r at n st w. scheduled s t x p r at n (subst (λ q. IsSchedulerAt deck initiators q) at st.at_scheduler.0) w;
     of_initiator = λ s t i x p r lt at n st w. initiated s t i x p r lt at n
         (subst (λ q. IsInitiatorAt deck q) at (st.at_initiator i lt).0) w;
     of_writer = λ s t x p r at n st w. quiet s t (entry_of (writer initiators) p (writer_asks x) r) t.reader (writer_goes (length deck) x r)

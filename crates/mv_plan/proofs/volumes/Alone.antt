@@ -110,8 +110,7 @@ module _ (c : Setup) (s : System) (deck : List JobData) (i : ℕ) where
   IsNextAt x p r = IsNext c s (entry_of (initiator i) (initiator_asks (length deck) i x).0 p (initiator_asks (length deck) i x).1 r)
 
   -- a read keeps the number that it tells
-  value_led : (x : InitiatorAt) (p : ℕ) (r : Reply) → IsNextAt x p r → (q : Point InitiatorAt) → LeadsTo x r q
-      → ValueAt (volumes_asked x) q
+  value_led : (x : InitiatorAt) (p : ℕ) (r : Reply) → IsNextAt x p r → (q : Point InitiatorAt) → LeadsTo x r q → ValueAt (volumes_asked x) q
   value_led x p r h q w = search (rules, read_keeps, value_is)
 
   own_value : (x : InitiatorAt) (p : ℕ) (r : Reply) → IsNextAt x p r → ValueAt (volumes_asked x) (initiator_goes deck x r)
@@ -306,8 +305,7 @@ module _ (c : Setup) (deck : List JobData) (initiators : ℕ) (s : System) (t u 
   abbrev here : Points
   here = first.0
 
-  second : (v : Points) × IsNext c before r × Move deck initiators here r v
-      × WalkTo c deck initiators (next before r) v (mid ++ w ∷ zs) u
+  second : (v : Points) × IsNext c before r × Move deck initiators here r v × WalkTo c deck initiators (next before r) v (mid ++ w ∷ zs) u
   second = first.2
 
   third : (v : Points) × WalkTo c deck initiators (next before r) second.0 mid v

@@ -136,8 +136,7 @@ module _ (v : ℕ) where
 
 -- the machine's next entry is what initiator i says at this point, and is answered so
 abbrev pub NextAt : Setup → System → List JobData → ℕ → InitiatorAt → ℕ → Reply → Type 0
-NextAt c s deck i x p r = IsNext c s
-    (entry_of (initiator i) (initiator_asks (length deck) i x).0 p (initiator_asks (length deck) i x).1 r)
+NextAt c s deck i x p r = IsNext c s (entry_of (initiator i) (initiator_asks (length deck) i x).0 p (initiator_asks (length deck) i x).1 r)
 
 module _ (c : Setup) (s : System) (deck : List JobData) (i v : ℕ) where
   abbrev DueNext : InitiatorAt → Reply → Type 0
@@ -247,8 +246,7 @@ count_small deck initiators s t past i run hand volume amount steps some sound l
 
 -- ---- all codes, and those that name one job
 
-pub count_named : (j : ℕ) (b : Bool) (es : List Entry)
-    → count_of (code_of j b) (codes_of es) ≡ count_of (code_of j b) (given_codes j es)
+pub count_named : (j : ℕ) (b : Bool) (es : List Entry) → count_of (code_of j b) (codes_of es) ≡ count_of (code_of j b) (given_codes j es)
 count_named j b [] = refl
 count_named j b (e ∷ es) = grind (arith, common_steps, count_named j b es)
 

@@ -109,8 +109,7 @@ module _ (c : Setup) (deck : List JobData) (initiators : ℕ) (facts : Facts c (
     pub record Moved : Type 0 where
       pub points : Points
       pub move : Move deck initiators t e points
-      pub tasks : TasksAt c deck initiators (kept_next kept e) points
-          (with_at programs e.caller (heard (programs e.caller) (hearing s e)))
+      pub tasks : TasksAt c deck initiators (kept_next kept e) points (with_at programs e.caller (heard (programs e.caller) (hearing s e)))
 
     -- an entry that is the machine's next and what its caller's program says is a move
     pub moves : e.caller < initiators + 3 → Fits c s → IsNext c s e → Stand deck initiators kept t

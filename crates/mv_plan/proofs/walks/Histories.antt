@@ -33,8 +33,7 @@ module _ (deck : List JobData) (initiators : ℕ) (some : 1 ≤ initiators) (sou
     blocks : 1 ≤ length c.owners
     blocks = grind (arith, common_steps)
 
-    task_of : (i : ℕ) → i < initiators
-        → task_program deck initiators (initiator i) ≡ initiating c deck i (nothing_kept (initiator i))
+    task_of : (i : ℕ) → i < initiators → task_program deck initiators (initiator i) ≡ initiating c deck i (nothing_kept (initiator i))
     task_of i lt = ap (λ call. call (nothing_kept (initiator i)))
         (fourth (initiator i == reader) (initiator i == scheduler) (initiator i == writer initiators)
         (reading c (length deck)) (scheduling c initiators deck)
@@ -45,8 +44,7 @@ module _ (deck : List JobData) (initiators : ℕ) (some : 1 ≤ initiators) (sou
           two_less : (i : ℕ) → i + 2 - 2 ≡ i
           two_less i = omega arith
 
-    writer_task : task_program deck initiators (writer initiators) ≡ writing c (length deck)
-        (nothing_kept (writer initiators))
+    writer_task : task_program deck initiators (writer initiators) ≡ writing c (length deck) (nothing_kept (writer initiators))
     writer_task = grind (arith, common_steps)
 
   -- the points at which the tasks stand behind a history

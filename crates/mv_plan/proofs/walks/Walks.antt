@@ -26,8 +26,7 @@ start_points deck initiators = record {
 
 -- An entry is the event that its caller's point says, and the caller goes to the point that follows by the reply.
 pub data Move (deck : List JobData) (initiators : ℕ) (t : Points) (e : Entry) (u : Points) : Type 0 where
-  reads : (x : ReaderAt) → e.caller ≡ reader → t.reader ≡ At x
-      → e.object ≡ (reader_asks x).0 → e.op ≡ (reader_asks x).1
+  reads : (x : ReaderAt) → e.caller ≡ reader → t.reader ≡ At x → e.object ≡ (reader_asks x).0 → e.op ≡ (reader_asks x).1
       → u ≡ record t { reader = reader_goes x e.reply } → Move deck initiators t e u
   schedules : (x : SchedulerAt) → e.caller ≡ scheduler → t.scheduler ≡ At x
       → e.object ≡ (scheduler_asks (length deck) x).0 → e.op ≡ (scheduler_asks (length deck) x).1
@@ -35,8 +34,7 @@ pub data Move (deck : List JobData) (initiators : ℕ) (t : Points) (e : Entry) 
   initiates : (i : ℕ) (x : InitiatorAt) → i < initiators → e.caller ≡ initiator i → t.initiators i ≡ At x
       → e.object ≡ (initiator_asks (length deck) i x).0 → e.op ≡ (initiator_asks (length deck) i x).1
       → u ≡ record t { initiators = with_at t.initiators i (initiator_goes deck x e.reply) } → Move deck initiators t e u
-  writes : (x : WriterAt) → e.caller ≡ writer initiators → t.writer ≡ At x
-      → e.object ≡ (writer_asks x).0 → e.op ≡ (writer_asks x).1
+  writes : (x : WriterAt) → e.caller ≡ writer initiators → t.writer ≡ At x → e.object ≡ (writer_asks x).0 → e.op ≡ (writer_asks x).1
       → u ≡ record t { writer = writer_goes (length deck) x e.reply } → Move deck initiators t e u
 
 -- each task's point is so
@@ -83,8 +81,7 @@ WalkTo c deck initiators s t (e ∷ es) u =
 pub walk-append : (c : Setup) (deck : List JobData) (initiators : ℕ) (s : System) (t u v : Points) (xs ys : List Entry)
     → WalkTo c deck initiators s t xs u → WalkTo c deck initiators (after_from s xs) u ys v → WalkTo c deck initiators s t (xs ++ ys) v
 walk-append c deck initiators s t u v [] ys w z = subst (λ p. WalkTo c deck initiators s p ys v) (sym w) z
-walk-append c deck initiators s t u v (x ∷ xs) ys w z =
-    (w.0, w.1, w.2, walk-append c deck initiators (next s x) w.0 u v xs ys w.3 z)
+walk-append c deck initiators s t u v (x ∷ xs) ys w z = (w.0, w.1, w.2, walk-append c deck initiators (next s x) w.0 u v xs ys w.3 z)
 
 -- a front and the rest of a walk
 pub walk-parts : (c : Setup) (deck : List JobData) (initiators : ℕ) (s : System) (t v : Points) (xs ys : List Entry)
@@ -101,8 +98,7 @@ pub walk_keeps : (P : System → Points → List Entry → Type 0) (c : Setup) (
     → P (next s e) u (past ++ e ∷ []))
     → (s : System) (t u : Points) (past es : List Entry) → WalkTo c deck initiators s t es u → P s t past
     → P (after_from s es) u (past ++ es)
-walk_keeps P c deck initiators keeps s t u past [] w p =
-    subst (λ q. P s q (past ++ [])) w (subst (λ l. P s t l) (sym (append-nil past)) p)
+walk_keeps P c deck initiators keeps s t u past [] w p = subst (λ q. P s q (past ++ [])) w (subst (λ l. P s t l) (sym (append-nil past)) p)
 walk_keeps P c deck initiators keeps s t u past (e ∷ es) w p =
     subst (λ l. P (after_from s (e ∷ es)) u l) (append_assoc past (e ∷ []) es)
     (walk_keeps P c deck initiators keeps (next s e) w.0 u (past ++ e ∷ []) es w.3 (keeps s t w.0 past e w.1 w.2 p))
@@ -152,8 +148,7 @@ of_move c deck initiators Q w s t u e n (writes x k at o op moved) =
     (renamed (λ e. IsNext c s e → Q s t e (record t { writer = writer_goes (length deck) x e.reply })) e (writer initiators)
     (writer_asks x) k o op (w.of_writer s t x e.place e.reply at) n)
 
-pub entry_is : (e : Entry) (k : ℕ) (ask : Object × Op) → e.caller ≡ k → e.object ≡ ask.0 → e.op ≡ ask.1
-    → entry_of k e.place ask e.reply ≡ e
+pub entry_is : (e : Entry) (k : ℕ) (ask : Object × Op) → e.caller ≡ k → e.object ≡ ask.0 → e.op ≡ ask.1 → entry_of k e.place ask e.reply ≡ e
 entry_is e k ask a b d = renamed (λ z. entry_of k z.place ask z.reply ≡ z) e k ask a b d refl
 
 pub entry_next : (c : Setup) (s : System) (e : Entry) (k : ℕ) (ask : Object × Op) → IsNext c s e
