@@ -53,8 +53,6 @@ run_by deck initiators es ends legal done =
     finish (spool_setup deck initiators) (task_program deck initiators) es (legal_by (spool_setup deck initiators) es legal)
     (λ k lt. each_at _ (kept_ends initiators ends) done k (omega arith))
 
--- ---- two decks
-
 -- ---- the empty deck with one initiator
 unfoldable pub empty_deck : List JobData
 empty_deck = []

@@ -41,8 +41,6 @@ pub released_some : (j : ℕ) (past : List Entry) (e : Entry) (code : ℕ) → n
     → released_codes j (past ++ e ∷ []) ≡ released_codes j past ++ code ∷ []
 released_some j past e code q = filter_map-append (λ e. naming j (released_code e.op)) past (e ∷ []) ∙ rw q refl
 
--- ---- the ends of a sound deck
-
 -- ---- ends
 
 -- the job of each number in a sound deck is sound

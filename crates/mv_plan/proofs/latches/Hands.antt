@@ -286,8 +286,6 @@ module _ (lists : List (List Request)) (k : ℕ) where
       → Owns lists k run.job hand.holding [] → OwnsAt (counting_at run hand volume amount steps number)
   counting_owns run hand volume amount steps number w = counting_lands OwnsAt tt run hand volume amount steps number w
 
--- ---- each move keeps the hands
-
 -- ---- replies of the latch set
 
 granted_reply : (b : Bool) (place id : ℕ)

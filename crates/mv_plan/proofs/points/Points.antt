@@ -272,7 +272,7 @@ hand_at (Freeing hand latch id steps) = hand
 hand_at (Reading hand volume purpose steps) = hand
 hand_at (Writing hand volume amount number steps) = hand
 hand_at (Purging hand code) = hand
-hand_at w = empty_hand
+hand_at (Ending post code counts) = empty_hand
 
 pub data InitiatorAt : Type 0 where
   Opening : InitiatorAt

@@ -97,8 +97,6 @@ adds_by_jobs deck v (code ∷ codes) = go (nat_le 1 code && nat_le code (length 
       omega arith
   go false e rest = grind (arith, common_steps)
 
--- ---- what is still due
-
 -- ---- what is still to be added
 
 -- by the job that is run
