@@ -1,5 +1,5 @@
-//! What no clause says: two threads of which one wakes the other; an exchange, whose refusals by the state scripts don't show; and the
-//! hand-offs that `bench/run` times. Tables of calls with their answers are scripts, in mv_program.
+//! What no clause says: two threads of which one wakes the other; and the hand-offs that `bench/run` times. And rows of an exchange that is
+//! refused by the state, which no script shows. Tables of calls with their answers are scripts, in mv_program.
 
 ghost use Rattle.std.specs.Prelude.{◌≡◌, ◌<◌, ◌≤◌, IfOk};
 ghost use Rattle.mv_element.specs.Table.{release_limit};
@@ -120,7 +120,7 @@ fn assert_has_no_pause(rt: &impl Abort, element: u32, word: u64)
     }
 }
 
-// A release of element 0 by one exchange.
+// A release by one exchange, by a task that has an event left.
 fn exchange(
     rt: &impl Abort,
     station: &Station,
@@ -144,27 +144,31 @@ fn exchange(
 // What one more place adds to a word.
 const PLACE: u64 = 35_184_372_088_832;
 
-// The words of an element of generation 0: allocated; and released with code 5.
+// The words of an element of generation 0 at place 0: reset; and prereleased with code 5.
 const RESET: u64 = 16_777_216;
 
-const RELEASED: u64 = 33_554_437;
+const PRERELEASED: u64 = 33_554_437;
 
 #[test]
-fn an_exchange_releases_where_the_word_is_the_one_expected(rt: HostRuntime) -> Result<(), Fail> {
+fn an_exchange_is_refused_by_the_state_that_is_expected(rt: HostRuntime) -> Result<(), Fail> {
     let (station, mut task, _other) = open_two(&rt, rt.alloc(), 20)?;
     let first = exchange(&rt, &station, &mut task, token(0, 0), PLACE + RESET, 5);
     assert_eq!(rt; first, Ok(ReleaseAnswer::Early));
-    let moved = exchange(&rt, &station, &mut task, token(0, 0), PLACE + RESET, 6);
-    let released = 2 * PLACE + RELEASED;
-    assert_eq!(rt; moved, Err(TryReleaseRefusal::Moved(released)));
-    let already = exchange(&rt, &station, &mut task, token(0, 0), released, 6);
-    assert_eq!(rt; already, Err(TryReleaseRefusal::Already));
+    let second = exchange(
+        &rt,
+        &station,
+        &mut task,
+        token(0, 0),
+        2 * PLACE + PRERELEASED,
+        6,
+    );
+    assert_eq!(rt; second, Err(TryReleaseRefusal::Already));
     let spent = exchange(
         &rt,
         &station,
         &mut task,
         token(0, 1),
-        3 * PLACE + RELEASED,
+        3 * PLACE + PRERELEASED,
         6,
     );
     assert_eq!(rt; spent, Err(TryReleaseRefusal::Spent(0)));

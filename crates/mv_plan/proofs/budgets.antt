@@ -1,19 +1,19 @@
 -- How many events each task may still make, by its point, and that each event takes one of them; so no task makes more than its
 -- budget, behind each entry of a walk.
-use Rattle.mv_plan.proofs.Words.{◌≡◌, ℕ, suc, ◌+◌, ◌*◌, ◌≤◌, nat_le, true, false, cond, List, [], ◌∷◌, ◌++◌, length, Option, arith}
-use Rattle.mv_plan.proofs.Words.{length-map, length-map-range_with_len, Reply, After, Step, JobData, complete_count, EcbReply, common_steps}
-use Rattle.mv_plan.proofs.Words.{rules, ◌<◌, ◌==◌, Bool, if◌then◌else◌, refl, ap, list_any, eq-eqb, ne_eqb, job_at, slice_index, Some, sym}
-use Rattle.mv_plan.proofs.Words.{subst, Entry, Object, Op, of, opening, asks, left_in, Follows, spool_setup, task_budgets}
-use Rattle.mv_plan.proofs.Words.{initiator, task_program, Program, cases_eq, inl, inr, step_events, sum_by, sum_by-cons}
+use Rattle.mv_plan.proofs.Words.{◌≡◌, ℕ, suc, ◌+◌, ◌*◌, ◌≤◌, nat_le, true, false, cond, List, [], ◌∷◌, ◌++◌, length, Option, arith, Reply}
+use Rattle.mv_plan.proofs.Words.{length-map, length-map-range_with_len, After, Step, JobData, complete_count, EcbReply, common_steps, rules}
+use Rattle.mv_plan.proofs.Words.{◌<◌, ◌==◌, Bool, if◌then◌else◌, refl, ap, list_any, eq-eqb, ne_eqb, job_at, slice_index, Some, sym, subst}
+use Rattle.mv_plan.proofs.Words.{Entry, Object, Op, of, opening, asks, left_in, Follows, spool_setup, task_budgets, initiator, task_program}
+use Rattle.mv_plan.proofs.Words.{Program, cases_eq, inl, inr, step_events, sum_by, sum_by-cons}
 use Rattle.mv_plan.proofs.deck.{IsPlanned}
 use Rattle.mv_plan.proofs.points.{Point, At, TooSoon, ReaderAt, Entering, entering_from, reader_goes, Arming, Settling, Stage, Dispatching}
 use Rattle.mv_plan.proofs.points.{Dismissing, Awaited, ForEntry, ForEnds, ForIdle, ToDismiss, SchedulerAt, Waits, Extends, Clears, Releases}
 use Rattle.mv_plan.proofs.points.{awaited_blocks, arming_first, ends_at, stage_at, found_at, settling_from, arming_from, scheduler_goes}
 use Rattle.mv_plan.proofs.points.{WriterAt, Keeping, writing_from, end_found, lowest_at, writer_goes, on_armed_keeps, on_settled_keeps}
-use Rattle.mv_plan.proofs.points.{lowest_keeps, Running, Hand, InitiatorAt, Opening, Offering, Pausing, Resuming, Obtaining}
-use Rattle.mv_plan.proofs.points.{Confirming, Freeing, Reading, Writing, Compares, Purging, Ending, OfJob, ForScheduler}
-use Rattle.mv_plan.proofs.points.{ForWriter, Closing, initiator_goes, rounds_from, steps_at, running, job_start, given_at, InJob}
-use Rattle.mv_plan.proofs.points.{given_lands, named_is, initiator_program, program_at}
+use Rattle.mv_plan.proofs.points.{lowest_keeps, Running, Hand, InitiatorAt, Opening, Offering, Pausing, Resuming, Obtaining, Confirming}
+use Rattle.mv_plan.proofs.points.{Freeing, Reading, Writing, Compares, Purging, Ending, OfJob, ForScheduler, ForWriter, Closing, steps_at}
+use Rattle.mv_plan.proofs.points.{initiator_goes, rounds_from, running, job_start, given_at, InJob, given_lands, named_is, program_at}
+use Rattle.mv_plan.proofs.points.{initiator_program, ToAdd, ToCompare}
 use Rattle.mv_plan.proofs.lists.{sum_to, sum_front, sum_change}
 use Rattle.mv_plan.specs.StayingWithin.{IsWithinBudgets}
 use Rattle.mv_plan.proofs.walks.{Who, is_reader, is_scheduler, is_initiator, is_writer, who, Stood, stood, Points, start_points, Move}
@@ -209,8 +209,9 @@ module _ (deck : List JobData) where
   initiator_rest (At (InJob run (Confirming hand latch mode id steps))) = 5 + (steps_events steps + behind_job run)
   initiator_rest (At (InJob run (Freeing hand latch id steps))) = 5 + (steps_events steps + behind_job run)
   initiator_rest (At (InJob run (Writing hand volume amount number steps))) = 5 + (steps_events steps + behind_job run)
+  initiator_rest (At (InJob run (Reading hand volume (ToAdd amount) steps))) = 6 + (steps_events steps + behind_job run)
+  initiator_rest (At (InJob run (Reading hand volume ToCompare steps))) = 6 + (steps_events steps + behind_job run)
   initiator_rest (At (InJob run (Reading hand volume (Compares number) steps))) = 5 + (steps_events steps + behind_job run)
-  initiator_rest (At (InJob run (Reading hand volume purpose steps))) = 6 + (steps_events steps + behind_job run)
   initiator_rest (At (InJob run (Purging hand code))) = 4 + behind_job run
   initiator_rest (At (InJob run (Ending OfJob code counts))) = 3 + behind_job run
   initiator_rest (At (InJob run (Ending ForScheduler code counts))) = 2 + behind_job run
@@ -231,7 +232,7 @@ module _ (deck : List JobData) where
   -- where a job begins
   start_rest : (skipped : Bool) (run : Running) (job : JobData)
       → initiator_rest (job_start skipped run job) ≤ 4 + (steps_events job.steps + behind_job run)
-  start_rest x1 run job = grind (arith, common_steps, steps_rest)
+  start_rest skipped run job = grind (arith, common_steps, steps_rest)
 
   -- where a code was given
   given_rest : (more : ℕ) (before : List ℕ) (code g : ℕ)
@@ -262,6 +263,8 @@ kept k b past e rest other le = grind (arith, common_steps)
 one_left : {X : Type 0} (f : X → Program (List ℕ)) (rest : Point X → ℕ) (q : Program (List ℕ)) (p : Point X) (o : Object) (op : Op)
     → q ≡ program_at f p → asks q ≡ Some (o, op) → ((x : X) → 1 ≤ rest (At x)) → 1 ≤ rest p
 one_left f rest q p o op e a some = grind (arith, common_steps)
+
+-- ---- what each task has made and may still make is within its budget
 
 module _ (deck : List JobData) (initiators : ℕ) where
   -- the budgets, task by task

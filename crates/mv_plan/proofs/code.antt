@@ -28,7 +28,7 @@ sum_left_of f g (x ∷ xs) (suc i) d lt =
     sum_left_of f g xs i d (omega arith) ∙ ap (λ k. f (g (get_or xs i d)) + sum_by f (map g (drop k (x ∷ xs)))) (next_place i)
 sum_left_of f g xs i d lt = grind (arith, common_steps, sum_by-cons)
 
--- the steps, and the jobs
+-- the events of steps
 pub steps_left : (xs : List Step) (i : ℕ) (d : Step) → i < length xs
     → sum_by step_events (drop i xs) ≡ step_events (get_or xs i d) + sum_by step_events (drop (i + 1) xs)
 steps_left xs i d lt = sum_left step_events xs i d lt

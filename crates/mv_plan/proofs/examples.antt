@@ -1,6 +1,6 @@
 -- Histories of small decks are runs, by computing them: a check on the definitions. What the law of ends says of a run, by computing it;
--- and the law applied to it. Legal histories that are no runs: another end posted, the closing release left out, a volume read before its
--- latch was granted, and a job released twice. Each is legal by computing it, and its program says another event at the wrong entry.
+-- and the law applied to it. Legal histories that are no runs: another end posted, the closing release left out, a job released twice, and a
+-- volume read before its latch was granted. Each is legal by computing it, and its program says another event at the wrong entry.
 use Rattle.mv_plan.proofs.Words.{◌≡◌, ℕ, zero, suc, ◌+◌, ◌<◌, List, [], ◌∷◌, ◌++◌, length, replicate, ◌∙◌, arith, length-append, Entry, map}
 use Rattle.mv_plan.proofs.Words.{length-replicate, opening, legal_by, JobData, spool_setup, task_program, IsRun, codes, false, refl, Print}
 use Rattle.mv_plan.proofs.Words.{range_with_len, Exclusive, Use, Count, Abend, Return, weight, ends, total, made, at_block, at_element, ◌≤◌}
@@ -43,7 +43,7 @@ AreDone deck initiators es ends =
     (kept_ends initiators ends)
 
 -- the entries are a run where the machine answers what they say, and each task is done
-pub run_by : (deck : List JobData) (initiators : ℕ) (es : List Entry) (ends : List ℕ)
+run_by : (deck : List JobData) (initiators : ℕ) (es : List Entry) (ends : List ℕ)
     → answers (spool_setup deck initiators) (opening (spool_setup deck initiators)) es ≡ claims es
     → AreDone deck initiators es ends → IsRun deck initiators es
 run_by deck initiators es ends legal done =
@@ -204,7 +204,7 @@ night_journal =
     ∷ at_element 3 3 7 (ElementOp.Close 2) ElementReply.Closed
     ∷ []
 
-pub night_is_run : IsRun night_deck 2 night_journal
+night_is_run : IsRun night_deck 2 night_journal
 unfolding night_deck night_journal
 night_is_run = run_by night_deck 2 night_journal (4 ∷ 16777228 ∷ 33554432 ∷ 0 ∷ []) refl
     (made refl refl, (made refl refl, (made refl refl, (made refl refl, (made refl refl, tt)))))
@@ -223,7 +223,7 @@ night_totals = refl
 
 -- ---- the law of ends
 
--- a deck with ends 4, U0012, not run and 0
+-- its four jobs end with 4, U0012, not run and 0
 done_posts : map (λ j. posts (done 4 j) night_journal) (0 ∷ 1 ∷ 2 ∷ 3 ∷ [])
     ≡ ((4, Reply.Ecb (EcbReply.Woke 1)) ∷ []) ∷ ((16777228, Reply.Ecb (EcbReply.Woke 2)) ∷ []) ∷
     ((33554432, Reply.Ecb (EcbReply.Woke 3)) ∷ []) ∷ ((0, Reply.Ecb (EcbReply.Woke 4)) ∷ []) ∷ []

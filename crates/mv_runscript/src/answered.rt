@@ -5,7 +5,7 @@ ghost use Rattle.mv_latchset.specs.Answers.{obtain_answer, standing_as, freed_an
 ghost use Rattle.mv_pause.specs.Answers.{allocate_answer, pause_answer, release_answer, transfer_answer, deallocate_answer};
 ghost use Rattle.mv_wait.specs.Answers.{clear_answer, extend_answer, wait_answer};
 ghost use Rattle.mv_script.specs.declared.answer.Answer.TheVariants as answer;
-ghost use Rattle.mv_script.specs.Answered.{done_or, given as given_as, given_if_paused, reached, obtained as obtained_answer};
+ghost use Rattle.mv_script.specs.Answered.{done_or, given as given_as, given_if_paused, reached, obtained as obtained_told};
 ghost use Rattle.mv_script.specs.Answered.{purged as purged_as, slot_with, standing as standing_of, entered as entered_as, found};
 ghost use Rattle.mv_events.specs.Answers.{entering_answer, next_answer};
 ghost use Rattle.mv_runscript.specs.Answered.{posted_as};
@@ -137,7 +137,7 @@ pub(crate) fn deallocated(outcome: Result<(), DeallocateRefusal>) -> Answer
 
 /// An OBTAIN. Its number is not told.
 pub(crate) fn obtained(outcome: Result<Obtained, ObtainRefusal>) -> Answer
-    ensures { result ≡ done_or obtained_answer (obtain_answer outcome) }
+    ensures { result ≡ done_or obtained_told (obtain_answer outcome) }
 {
     match outcome {
         Ok(Obtained::Granted(_)) => Answer::Granted,

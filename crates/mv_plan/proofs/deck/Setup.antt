@@ -134,7 +134,7 @@ facts deck initiators some = grind
 within : (low high n : ℕ) → low ≤ n → n ≤ high → is_within low high n ≡ true
 within low high n a b = rw (le-leb low n a, le-leb n high b) refl
 
--- ---- limits
+-- ---- its limits are kept
 
 -- one budget for each caller
 length_budgets : (deck : List JobData) (initiators : ℕ) → length (task_budgets deck initiators) ≡ initiators + 3
@@ -151,7 +151,7 @@ limits_kept : (c : Setup) → keeps Callers c ≡ true → c.elements_per_caller
     → first_limit c ≡ None
 limits_kept c a e v l q p b o x t = rw (a, e, v, l, q, p, b, o, x, t) refl
 
--- ---- owners
+-- ---- each of its owners is a caller
 
 -- each owner is a caller
 all_owned : (m : ℕ) (owners : List ℕ) (i : ℕ) → AllByRecursion (λ o. o < m) owners → position_from (λ o. nat_le m o) i owners ≡ None
@@ -175,15 +175,14 @@ owners_below n initiators =
       ones : (k : ℕ) → AllByRecursion (λ o. o < initiators + 3) (replicate k scheduler)
       ones k = all_copies (λ o. o < initiators + 3) k scheduler (omega arith)
 
--- ---- exits
+-- ---- none of its exits is bad
 
--- all exits do
 good_exits : (n ecbs from count i : ℕ) → from + count ≤ n → 4 * n ≤ ecbs
     → position_from (is_bad_exit ecbs) i (map (end_exit n) (range_with_len from count)) ≡ None
 good_exits n ecbs from zero i le big = refl
 good_exits n ecbs from (suc count) i le big = grind (arith, common_steps, good_exits n ecbs (from + 1) count (i + 1))
 
--- ---- all of them
+-- ---- so nothing refuses it
 
 -- nothing refuses a configuration that passes each test
 none_refuses : (c : Setup) → first_limit c ≡ None → first_bad_owner c ≡ None → first_bad_exit c ≡ None → bad_budget c ≡ None → IsValid c

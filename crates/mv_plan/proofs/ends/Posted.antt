@@ -107,7 +107,7 @@ posted_is : (s : System) (k : ℕ) (o : Object) (op : Op) (b d : ℕ) → o ≡ 
 posted_is s k o op b d e f = let c = posted_step d (block s b) in
     (c.0, moved_there s k b o op (EcbOp.Post d) e f ∙ c.1)
 
--- the job that is handed out next is not above those whose a job's done block is extended
+-- the number of the job that is handed out next is not above that of the done blocks that are extended
 pub next_extended : (n : ℕ) (y : SchedulerAt) → next_job n (At y) ≤ extended_at n y
 next_extended n x = grind (arith, common_steps)
 
@@ -184,14 +184,15 @@ module _ (deck : List JobData) (initiators : ℕ) where
     job_below : (y : InitiatorAt) (run : Running) → x ≡ y → run_of (At y) ≡ Some run → run.job < n
     job_below y run is e = run_below deck (At x) run stands (ap (λ z. run_of (At z)) is ∙ e)
 
-    -- it posts this block: it is complete then, and another that was not is not
-    posts : (b code : ℕ) → asks ≡ (Ecb b, Op.Ecb (EcbOp.Post code)) → IsComplete i_after b
-    posts b code e = posted_is s (initiator i) asks.0 asks.1 b code (ap (λ z. z.0) e) (ap (λ z. z.1) e)
+    -- a block that it posts is complete then
+    posted_now : (b code : ℕ) → asks ≡ (Ecb b, Op.Ecb (EcbOp.Post code)) → IsComplete i_after b
+    posted_now b code e = posted_is s (initiator i) asks.0 asks.1 b code (ap (λ z. z.0) e) (ap (λ z. z.1) e)
 
+    -- and another that was not is not
     posts_alone : (m b code : ℕ) → asks ≡ (Ecb m, Op.Ecb (EcbOp.Post code)) → (m ≡ b → ⊥) → NotComplete s b → NotComplete i_after b
     posts_alone m b code e apart free = grind (arith, common_steps)
 
-    -- then where it posts no end
+    -- its stage after an event that posts no end
     own_plain : NotEnding x → EndStage n i_after (initiator_goes deck x r)
     own_plain plain = stage_goes (IsPostNext n i_after) deck x r plain
         (stage_stays n s i_after (At x)
@@ -207,26 +208,26 @@ module _ (deck : List JobData) (initiators : ℕ) where
     after_job run = rounds_land (EndStage n i_after) tt run.more _ run.generation (λ left e. tt)
 
     -- behind a post of its job's end, that post is made, and the next one is not
-    own_next : (run : Running) (post later : EndPost) (code : ℕ) (counts : Counts) → x ≡ InJob run (Ending post code counts)
+    later_next : (run : Running) (post later : EndPost) (code : ℕ) (counts : Counts) → x ≡ InJob run (Ending post code counts)
         → (post ≡ later → ⊥) → (IsComplete s (end_block n run.job later) → IsComplete s (end_block n run.job post))
         → NotComplete i_after (end_block n run.job later) × IsComplete i_after (end_block n run.job post)
-    own_next run post later code counts is apart order =
+    later_next run post later code counts is apart before =
         let asked : asks ≡ (Ecb (end_block n run.job post), Op.Ecb (EcbOp.Post code)) =
         ap (λ z. initiator_asks n i z) is in
         let job = job_below _ run is refl in (
           posts_alone _ _ code asked (λ e. apart (one_post n run.job run.job post later job job e).1)
-              (λ d e. let w = order (d, e) in (its_stage _ is).0 w.0 w.1),
-          posts _ code asked,
+              (λ d e. let w = before (d, e) in (its_stage _ is).0 w.0 w.1),
+          posted_now _ code asked,
         )
 
-    -- and at each point
+    -- its stage after each event
     own_stage : (y : InitiatorAt) → x ≡ y → EndStage n i_after (initiator_goes deck y r)
     own_stage (InJob run (Ending OfJob code counts)) is = ended_lands (EndStage n i_after) tt run code counts r
-        (own_next run OfJob ForScheduler code counts is (λ e. cc e) (h.order run.job (job_below _ run is refl) ForScheduler))
+        (later_next run OfJob ForScheduler code counts is (λ e. cc e) (h.order run.job (job_below _ run is refl) ForScheduler))
         (after_job run)
     own_stage (InJob run (Ending ForScheduler code counts)) is =
         on_posted_keeps (EndStage n i_after) (At (InJob run (Ending ForWriter code counts))) r
-        (own_next run ForScheduler ForWriter code counts is (λ e. cc e) (h.order run.job (job_below _ run is refl) ForWriter)) tt
+        (later_next run ForScheduler ForWriter code counts is (λ e. cc e) (h.order run.job (job_below _ run is refl) ForWriter)) tt
     own_stage y is = grind (arith, common_steps, own_plain)
 
     -- the order of its posts
@@ -253,9 +254,9 @@ module _ (deck : List JobData) (initiators : ℕ) where
 
       zero_after : Moved j → m ≤ j → block i_after (done n j) ≡ Zero
       zero_after (inl same) le = same ∙ (sp j below).1 le
-      zero_after (inr w) le = let post = initiator_ecb n i x w.0 w.2 in
+      zero_after (inr w) le = let made = initiator_ecb n i x w.0 w.2 in
           let behind = run_released deck initiators s t past q.1 j below i lt
-          (own_end_posted j (done n j) post.0 below (OfJob, refl) w.1 (w.2 ∙ ap (λ z. Op.Ecb z) post.1)) in
+          (own_end_posted j (done n j) made.0 below (OfJob, refl) w.1 (w.2 ∙ ap (λ z. Op.Ecb z) made.1)) in
           absurd (omega arith)
 
     pub initiator_posted : Posted deck initiators i_after (record t { initiators = with_at t.initiators i (initiator_goes deck x r) })

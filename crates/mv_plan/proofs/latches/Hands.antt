@@ -105,7 +105,7 @@ spares_works : (k job : ℕ) (held more : List Grant) (lists : List (List Reques
 spares_works k job held more lists (LatchOp.Purge requestor) n w = search (rules, all_map, ne_eqb, asked_of)
 spares_works k job held more lists op n w = tt
 
-pub other_owns : (k j place : ℕ) (op : LatchOp) (lists : List (List Request)) (st : Grip) → (k ≡ j → ⊥) → NamesLatch op lists
+other_owns : (k j place : ℕ) (op : LatchOp) (lists : List (List Request)) (st : Grip) → (k ≡ j → ⊥) → NamesLatch op lists
     → SparesJob op st → OwnsBy lists k st
     → OwnsBy (latch_step j place op lists).0 k st
 other_owns k j place op lists Lost n lt sp w = tt
@@ -143,7 +143,7 @@ module _ (k place job latch : ℕ) (mode : Mode) (lists : List (List Request)) (
       ∙ sym (asked_push k job other held (new_grant ∷ [])))
 
   -- it waits
-  pub obtain_owns : latch < length lists → Owns lists k job held [] → Owns after_obtain k job held (new_grant ∷ [])
+  obtain_owns : latch < length lists → Owns lists k job held [] → Owns after_obtain k job held (new_grant ∷ [])
   obtain_owns lt w = record {
     listed = obtain_listed lt (listed_plain lists k job held w);
     holds = holds_still lists after_obtain place k job held (new_grant ∷ [])
@@ -152,7 +152,7 @@ module _ (k place job latch : ℕ) (mode : Mode) (lists : List (List Request)) (
   }
 
   -- or is granted at once
-  pub obtain_holds : latch < length lists → grants (list_of lists latch) (request_of k job new_grant) ≡ true → Owns lists k job held []
+  obtain_holds : latch < length lists → grants (list_of lists latch) (request_of k job new_grant) ≡ true → Owns lists k job held []
       → Owns after_obtain k job (held ++ new_grant ∷ []) []
   obtain_holds lt e w =
       let more : Owns after_obtain k job held (new_grant ∷ []) = obtain_owns lt w in
@@ -173,7 +173,7 @@ asked_last : (k job : ℕ) (held : List Grant) (g : Grant) → AllByRecursion (�
 asked_last k job held g b = asked_push k job g.latch held (g ∷ [])
     ∙ ap (λ z. z ++ asked k job g.latch (g ∷ [])) (asked_below k job g.latch held b) ∙ asked_here k job g
 
-pub confirm_owns : (lists : List (List Request)) (k job : ℕ) (held : List Grant) (g : Grant)
+confirm_owns : (lists : List (List Request)) (k job : ℕ) (held : List Grant) (g : Grant)
     → AllByRecursion (λ h. h.latch < g.latch) (held_of held)
     → list_any (is_own k g.id) (granted (list_of lists g.latch)) ≡ true → Owns lists k job held (g ∷ [])
     → Owns lists k job (held ++ g ∷ []) []
@@ -234,7 +234,7 @@ module _ (k place job latch id : ℕ) (lists : List (List Request)) (held : List
   abbrev after_free : List (List Request)
   after_free = (latch_step k place (LatchOp.Release latch id false) lists).0
 
-  pub free_owns : (requests : ℕ → Option ℕ) → latch < length lists → list_any (is_own k id) (list_of lists latch) ≡ true
+  free_owns : (requests : ℕ → Option ℕ) → latch < length lists → list_any (is_own k id) (list_of lists latch) ≡ true
       → AllByRecursion (λ g. requests g.latch ≡ Some g.id) held → requests latch ≡ Some id → Owns lists k job held []
       → Owns after_free k job (without_latch latch held) []
   free_owns requests lt there last e w = owns_plain after_free k job (without_latch latch held) now
@@ -256,7 +256,7 @@ module _ (k place job latch id : ℕ) (lists : List (List Request)) (held : List
             ∙ sym (asked_kept k job latch other held n))
 
 -- a purge takes out all of the job's
-pub purge_owns : (k place job : ℕ) (lists : List (List Request)) (held : List Grant) → Owns lists k job held []
+purge_owns : (k place job : ℕ) (lists : List (List Request)) (held : List Grant) → Owns lists k job held []
     → HasNone (latch_step k place (LatchOp.Purge (job + 1)) lists).0 k
 purge_owns k place job lists held w = search (rules, mine, purged_list, mine_purged, listed_plain, filter_none, all_map, eq-eqb, asked_of)
 
@@ -266,7 +266,7 @@ module _ (lists : List (List Request)) (k : ℕ) where
   abbrev OwnsAt : Point InitiatorAt → Type 0
   OwnsAt p = OwnsBy lists k (grip p)
 
-  pub steps_own : (run : Running) (hand : Hand) (steps : List Step) → Owns lists k run.job hand.holding []
+  steps_own : (run : Running) (hand : Hand) (steps : List Step) → Owns lists k run.job hand.holding []
       → OwnsAt (steps_at run hand steps)
   steps_own run hand (Print text ∷ steps) w = steps_own run hand steps w
   steps_own run hand (Free latch ∷ steps) w = freeing_lands OwnsAt tt run hand latch (hand.requests latch) steps (λ id e. w)
@@ -277,12 +277,12 @@ module _ (lists : List (List Request)) (k : ℕ) where
   start_owns run job true w = record { listed = w; holds = tt }
   start_owns run job false w = steps_own run empty_hand job.steps (record { listed = w; holds = tt })
 
-  pub given_owns : (deck : List JobData) (more : ℕ) (before : List ℕ) (code g : ℕ) → HasNone lists k
+  given_owns : (deck : List JobData) (more : ℕ) (before : List ℕ) (code g : ℕ) → HasNone lists k
       → OwnsAt (given_at deck more before code g)
   given_owns deck more before code g w = given_lands OwnsAt tt deck more before code g (λ z. w)
       (λ named left e t m. start_owns (running named before (suc left) g) (job_at deck named.job) named.skipped w)
 
-  pub counting_owns : (run : Running) (hand : Hand) (volume amount : ℕ) (steps : List Step) (number : ℕ)
+  counting_owns : (run : Running) (hand : Hand) (volume amount : ℕ) (steps : List Step) (number : ℕ)
       → Owns lists k run.job hand.holding [] → OwnsAt (counting_at run hand volume amount steps number)
   counting_owns run hand volume amount steps number w = counting_lands OwnsAt tt run hand volume amount steps number w
 
@@ -320,7 +320,7 @@ module _ (c : Setup) (s : System) (deck : List JobData) (i : ℕ) where
   abbrev OwnsNext : InitiatorAt → Reply → Type 0
   OwnsNext x r = OwnsBy (after_asks x) k (grip (initiator_goes deck x r))
 
-  pub own_next : (x : InitiatorAt) (p : ℕ) (r : Reply)
+  own_next : (x : InitiatorAt) (p : ℕ) (r : Reply)
       → IsNext c s (entry_of k (initiator_asks (length deck) i x).0 p (initiator_asks (length deck) i x).1 r)
       → IsInitiatorAt deck (At x) → OwnsBy lists k (grip (At x))
       → OwnsNext x r

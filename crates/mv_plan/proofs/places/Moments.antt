@@ -14,10 +14,9 @@ use Rattle.mv_plan.proofs.places.Deeds.{Deed, went_on, given, elsewhere_gave, in
 use Rattle.mv_plan.proofs.standing.{Stance, Loses, stance, RowAt, hold_for, offer_of, element_of, row_at, Apart, apart, reader_low, Row}
 use Rattle.mv_plan.proofs.standing.{writer_low, rows_start, rows_next, Rows}
 use Rattle.mv_plan.proofs.walks.{Stand, SameTalk, same_talk, Points, Move, entry_of, Each, of_move, fits_opening, fits_next, stand_start}
-use Rattle.mv_plan.proofs.walks.{stand_next, kept_next, none_lost_before, start_points, WalkTo, walk_keeps, NoneLost}
+use Rattle.mv_plan.proofs.walks.{stand_next, kept_next, none_lost_before, start_points, WalkTo, walk_keeps, NoneLost, Fits}
 use Rattle.mv_plan.proofs.lists.{sum_to, sum_ext, sum_change, sum_with_at, count_of, one_of, length-pushed, with_at-same, with_at-other}
 use Rattle.mv_plan.proofs.lists.{all_but, sum_zero}
-use Rattle.mv_plan.proofs.walks.Stands.{Fits}
 
 -- a task that is not lost has a stance
 pub has_stance : (p : Point InitiatorAt) → IsNotLost p → stance p ≡ Loses → ⊥

@@ -15,7 +15,7 @@ use Rattle.mv_plan.proofs.points.Points.{Point, At, Grant, Running, Hand, hand_w
 use Rattle.mv_plan.proofs.points.Points.{Opening, Offering, Pausing, Resuming, Obtaining, Confirming, Freeing, Reading, ToAdd, Writing}
 use Rattle.mv_plan.proofs.points.Points.{Compares, Purging, Ending, initiator_asks, initiator_goes, rounds_after, steps_at, running, InJob}
 use Rattle.mv_plan.proofs.points.Points.{job_start, given_at, Astray, empty_hand, ToCompare, OfJob, Closing, rounds_from, named_at}
-use Rattle.mv_plan.proofs.points.Points.{rounds_land, given_lands}
+use Rattle.mv_plan.proofs.points.Points.{rounds_land, given_lands, ForScheduler, ForWriter}
 use Rattle.mv_plan.proofs.points.Programs.{keeps, program_at, rounds_rest, given_rest, ending, stepping, steps_rest, obtained_rest}
 use Rattle.mv_plan.proofs.points.Programs.{initiator_program, post_is_now, IsPlainPost}
 use Rattle.mv_calls.specs.LatchCalls.{obtain_refusal}
@@ -93,7 +93,8 @@ IsInitiatorAt deck (At (InJob run (Freeing hand latch id steps))) =
     IsStepping deck run hand (Free latch ∷ steps) × (hand.requests latch ≡ Some id)
 IsInitiatorAt deck (At (InJob run (Reading hand volume (ToAdd amount) steps))) = IsStepping deck run hand (Count volume amount ∷ steps)
 IsInitiatorAt deck (At (InJob run (Writing hand volume amount number steps))) = IsStepping deck run hand (Count volume amount ∷ steps)
-IsInitiatorAt deck (At (InJob run (Reading hand volume purpose steps))) = IsStepping deck run hand (Scan volume ∷ steps)
+IsInitiatorAt deck (At (InJob run (Reading hand volume ToCompare steps))) = IsStepping deck run hand (Scan volume ∷ steps)
+IsInitiatorAt deck (At (InJob run (Reading hand volume (Compares number) steps))) = IsStepping deck run hand (Scan volume ∷ steps)
 IsInitiatorAt deck (At (InJob run (Purging hand code))) = IsEnding deck run code
 IsInitiatorAt deck (At (InJob run (Ending post code counts))) = IsEnding deck run code
 IsInitiatorAt deck p = Unit {0}
@@ -145,7 +146,7 @@ left_next deck run step steps s l =
       runs = l.runs;
     }
 
-pub step_done : (deck : List JobData) (run : Running) (hand : Hand) (step : Step) (steps : List Step) → IsNoEnd step
+step_done : (deck : List JobData) (run : Running) (hand : Hand) (step : Step) (steps : List Step) → IsNoEnd step
     → ArePlannedSteps (held_of hand.holding) steps → IsStepping deck run hand (step ∷ steps) → IsStepping deck run hand steps
 step_done deck run hand step steps goes sound s = grind (arith, common_steps, left_next)
 
@@ -169,7 +170,7 @@ rises_without low latch [] r = tt
 rises_without low latch (g ∷ gs) r = grind (arith, common_steps, rises_less, rises_without (g.latch + 1) latch gs r.1)
 
 -- those that are held below a latch are not more than it
-pub rises_few : (low latch : ℕ) (gs : List Grant) → Rises low gs → low ≤ latch → AllByRecursion (λ h. h.latch < latch) (held_of gs)
+rises_few : (low latch : ℕ) (gs : List Grant) → Rises low gs → low ≤ latch → AllByRecursion (λ h. h.latch < latch) (held_of gs)
     → low + length gs ≤ latch
 rises_few low latch [] r le b = omega arith
 rises_few low latch (g ∷ gs) r le b =
@@ -269,7 +270,7 @@ pub obtained_stand : (deck : List JobData) (run : Running) (hand : Hand) (latch 
     → IsStepping deck run hand (Use latch mode ∷ steps) → IsStepping deck run (hand_with hand latch mode id) steps
 obtained_stand deck run hand latch mode id steps s = search (rules, hand_push, left_next, held_push)
 
-pub pushed_kept : (i : ℕ) (kept : Kept) (run : Running) (hand : Hand) (latch : ℕ) (mode : Mode) (id : ℕ)
+pushed_kept : (i : ℕ) (kept : Kept) (run : Running) (hand : Hand) (latch : ℕ) (mode : Mode) (id : ℕ)
     → InitiatorKept i (standing_of (initiator i) run.job hand.holding) kept → {o : Kept} → o.caller ≡ kept.caller
     → o.requests ≡ kept.requests ++ standing_one kept.caller run.job (record { latch = latch; mode = mode; id = id }) ∷ []
     → InitiatorKept i (standing_of (initiator i) run.job (hand_with hand latch mode id).holding) o
@@ -279,7 +280,7 @@ pub freed_stand : (deck : List JobData) (run : Running) (hand : Hand) (latch : �
     → IsStepping deck run hand (Free latch ∷ steps) → IsStepping deck run (hand_without hand latch) steps
 freed_stand deck run hand latch steps s = search (rules, hand_less, left_next, held_without)
 
-pub freed_kept : (i : ℕ) (kept : Kept) (run : Running) (hand : Hand) (latch id : ℕ) → IsHand hand → hand.requests latch ≡ Some id
+freed_kept : (i : ℕ) (kept : Kept) (run : Running) (hand : Hand) (latch id : ℕ) → IsHand hand → hand.requests latch ≡ Some id
     → InitiatorKept i (standing_of (initiator i) run.job hand.holding) kept
     → {o : Kept} → o.caller ≡ kept.caller → o.requests ≡ less (is_named latch id) kept.requests
     → InitiatorKept i (standing_of (initiator i) run.job (hand_without hand latch).holding) o
@@ -313,13 +314,14 @@ initiator_stands deck i kept (InJob run (Ending post code counts)) r sound s =
     s.0.round (record { caller = s.1.caller; stand = s.1.stand }) in grind (arith, common_steps)
 initiator_stands deck i kept x r sound s = grind (arith, common_steps, standing_purged)
 
--- ---- the initiator, from point to point
+-- ---- at each point the program says the point's event
 
 pub initiator_says : (c : Setup) (deck : List JobData) (i : ℕ) (kept : Kept) (x : InitiatorAt)
     → asks (initiator_program c deck i kept x) ≡ Some (initiator_asks (length deck) i x)
 initiator_says c deck i kept x = grind (arith, common_steps)
 
 -- ---- what a reply must be for the points to be the program's: the machine gives no other
+
 -- none of these wakes posts a block
 abbrev pub PostNothing : List Wake → Type 0
 PostNothing ws = AllByRecursion (λ w. w.ecb ≡ None) ws
@@ -338,10 +340,13 @@ WokeAs j r = Unit {0}
 abbrev pub IsPlainReply : InitiatorAt → Reply → List Wake → Type 0
 IsPlainReply (Offering more before g) r ws = IsPlainPost r
 IsPlainReply (InJob run (Ending OfJob code counts)) r ws = WokeAs run.job r
-IsPlainReply (InJob run (Ending post code counts)) r ws = IsPlainPost r
+IsPlainReply (InJob run (Ending ForScheduler code counts)) r ws = IsPlainPost r
+IsPlainReply (InJob run (Ending ForWriter code counts)) r ws = IsPlainPost r
 IsPlainReply (InJob run (Freeing hand latch id steps)) r ws = PostNothing ws
 IsPlainReply (InJob run (Purging hand code)) r ws = PostNothing ws
 IsPlainReply x r ws = Unit {0}
+
+-- ---- the program goes from point to point
 
 module _ (c : Setup) (deck : List JobData) (initiators i : ℕ) (facts : Facts c (length deck) initiators)
     (sound : ArePlannedJobs 0 deck) where

@@ -234,7 +234,7 @@ without_latch latch hs = filter (λ g. not (g.latch == latch)) hs
 abbrev pub hand_without : Hand → ℕ → Hand
 hand_without hand latch = record { requests = hand.requests; holding = without_latch latch hand.holding }
 
--- which post of a job's end: that of its done block, or one of those of its exit
+-- the posts of a job's end: that to its done block, and the two of that block's exit
 pub data EndPost : Type 0 where
   OfJob : EndPost
   ForScheduler : EndPost
@@ -246,7 +246,7 @@ end_block n job OfJob = done n job
 end_block n job ForScheduler = end_for_scheduler n job
 end_block n job ForWriter = end_for_writer n job
 
--- what a volume is read for: a COUNT adds an amount to its number; a SCAN is to compare its number, and compares it with a second one
+-- what a volume is read for: a COUNT adds an amount to the number; a SCAN reads a number, and then compares it with a second one
 pub data Purpose : Type 0 where
   ToAdd : (amount : ℕ) → Purpose
   ToCompare : Purpose
@@ -413,7 +413,7 @@ initiator_goes deck (InJob run (Ending ForScheduler code counts)) r = on_posted 
 initiator_goes deck (InJob run (Ending ForWriter code counts)) r = on_posted (rounds_after run) r
 initiator_goes deck (Closing g) r = on_closed r
 
--- ---- what is read off a point
+-- ---- whether a task is lost
 
 -- a task is on its way, or has ended with its answer
 abbrev pub IsNotLost : {X : Type 0} → Point X → Type 0
@@ -422,7 +422,7 @@ IsNotLost (Finished answer) = Unit {0}
 IsNotLost TooSoon = ⊥
 IsNotLost Astray = ⊥
 
--- ---- an element
+-- ---- the code that an element holds
 
 -- a code that was released to an element and that its pause has not been given
 abbrev pub code_at : Phase → ℕ → Option ℕ
@@ -435,7 +435,7 @@ code_at Released code = Some code
 abbrev pub code_held : ElementState → Option ℕ
 code_held x = code_at x.phase x.code
 
--- ---- an initiator
+-- ---- what is read off an initiator's point
 
 -- the job that it runs
 abbrev pub run_of : Point InitiatorAt → Option Running
@@ -497,12 +497,12 @@ module _ (P : Point InitiatorAt → Type 0) (lost : P Astray) where
   -- a next round
   pub rounds_land : (more : ℕ) (before : List ℕ) (g : ℕ) → ((left : ℕ) → more ≡ suc left → P (At (Offering left before g)))
       → P (rounds_from more before g)
-  rounds_land x1 before g next = grind (arith, common_steps)
+  rounds_land more before g next = grind (arith, common_steps)
 
   -- a FREE
   pub freeing_lands : (run : Running) (hand : Hand) (latch : ℕ) (slot : Option ℕ) (steps : List Step)
       → ((id : ℕ) → slot ≡ Some id → P (At (InJob run (Freeing hand latch id steps)))) → P (freeing_at run hand latch slot steps)
-  freeing_lands run hand latch x4 steps next = grind (arith, common_steps)
+  freeing_lands run hand latch slot steps next = grind (arith, common_steps)
 
   -- a COUNT's write
   pub counting_lands : (run : Running) (hand : Hand) (volume amount : ℕ) (steps : List Step) (number : ℕ)

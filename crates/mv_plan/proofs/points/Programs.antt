@@ -202,7 +202,7 @@ IsPlainPost (Reply.Ecb (EcbReply.Woke (suc x))) = ⊥
 IsPlainPost r = Unit {0}
 
 -- what a reply to a plain post leads to, where g is what goes on
-pub posted_goes : {X : Type 0} (c : Setup) (each : ℕ → Program Posting) (g : Program Posting → Program (List ℕ))
+posted_goes : {X : Type 0} (c : Setup) (each : ℕ → Program Posting) (g : Program Posting → Program (List ℕ))
     (f : X → Program (List ℕ)) (pt : Point X) (r : Reply)
     → ((p : Posting) → g (Done p) ≡ program_at f pt) → g Wrong ≡ Wrong → IsPlainPost r
     → g (on_ecb r (posting (λ p. each_posted each (posted_next c p) p))) ≡ program_at f (on_posted pt r)
@@ -252,7 +252,7 @@ pub lowest_keeps : {X : Type 0} (P : Point X → Type 0) (f : ℕ → ℕ → Po
 lowest_keeps P f p (None ∷ found) each lost = lowest_keeps P f (p + 1) found each lost
 lowest_keeps P f p found each lost = grind (arith, common_steps)
 
--- ---- the reader and the writer: their programs go from point to point, where they may stand, and what the writer keeps
+-- ---- what is kept after an event
 
 -- what is kept after what was heard
 abbrev pub keeps : Kept → Object × Op → Reply → Kept

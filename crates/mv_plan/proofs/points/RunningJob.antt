@@ -104,7 +104,7 @@ module _ (Q : Running → Type 0) where
 
 -- ---- what holds of the job that an initiator runs, by how far its end is posted
 
--- The job that a point runs meets this of the post of its end that is next: that of its done block until it is made.
+-- The job that a point runs meets this with the post of its end that is next: with that of its done block until that is made.
 abbrev pub ByStage : (EndPost → ℕ → Type 0) → Point InitiatorAt → Type 0
 ByStage Q (At (InJob run (Ending post code counts))) = Q post run.job
 ByStage Q (At (InJob run w)) = Q OfJob run.job

@@ -9,7 +9,7 @@ use Rattle.mv_plan.proofs.Words.{ElementOp}
 use Rattle.mv_calls.proofs.Distinct.{few, none_found}
 use Rattle.mv_ecb.specs.Word.{Waiting}
 use Rattle.mv_plan.proofs.deck.{ArePlannedSteps, ArePlannedJobs, Facts}
-use Rattle.mv_plan.proofs.walks.{Points}
+use Rattle.mv_plan.proofs.walks.{Points, Fits}
 use Rattle.mv_plan.proofs.standing.{Armed, In, in_middle, in_all, IsNoDone, awaited_no_done, SchedulerArms, WriterArms, Starts, Works, Row}
 use Rattle.mv_plan.proofs.standing.{Offers, Parks, RowAt, element_of}
 use Rattle.mv_plan.proofs.points.{IsWriterAt, IsInitiatorAt, IsRound, IsRunning, held_of, held_request, job_sound, Point, At, TooSoon, Hand}
@@ -20,7 +20,6 @@ use Rattle.mv_plan.proofs.points.{Keeping, writer_asks, writer_goes, writing_fro
 use Rattle.mv_plan.proofs.points.{Opening, Pausing, Resuming, Ending, Closing, initiator_asks, initiator_goes, rounds_from, freeing_at}
 use Rattle.mv_plan.proofs.points.{steps_at, job_start, named_at, given_at, on_opened, on_paused, on_resumed, on_closed, InJob, code_held}
 use Rattle.mv_plan.proofs.points.{IsSchedulerAt, jobs_of, IsNotLost, IsOfRounds}
-use Rattle.mv_plan.proofs.walks.Stands.{Fits}
 use Rattle.mv_plan.proofs.places.{element_code}
 use Rattle.mv_plan.proofs.ends.{IsCode}
 

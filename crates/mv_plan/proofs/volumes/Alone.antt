@@ -102,18 +102,19 @@ leads deck (InJob run (Writing hand volume amount number steps)) (Reply.Volume V
 leads deck (InJob run (Reading hand volume (Compares n) steps)) (Reply.Volume (VolumeReply.Value again)) = steps_lead _ _ run hand steps
 leads deck x r = grind (arith, common_steps, rounds_lead)
 
+-- the machine's next entry is what initiator i says at this point, and is answered so
+abbrev pub NextAt : Setup → System → List JobData → ℕ → InitiatorAt → ℕ → Reply → Type 0
+NextAt c s deck i x p r = IsNext c s (entry_of (initiator i) (initiator_asks (length deck) i x).0 p (initiator_asks (length deck) i x).1 r)
+
 module _ (c : Setup) (s : System) (deck : List JobData) (i : ℕ) where
   abbrev pub volumes_asked : InitiatorAt → Numbers
   volumes_asked x = (moved s (initiator i) (initiator_asks (length deck) i x).0 (initiator_asks (length deck) i x).1).volume
 
-  abbrev IsNextAt : InitiatorAt → ℕ → Reply → Type 0
-  IsNextAt x p r = IsNext c s (entry_of (initiator i) (initiator_asks (length deck) i x).0 p (initiator_asks (length deck) i x).1 r)
-
   -- a read keeps the number that it tells
-  value_led : (x : InitiatorAt) (p : ℕ) (r : Reply) → IsNextAt x p r → (q : Point InitiatorAt) → LeadsTo x r q → ValueAt (volumes_asked x) q
+  value_led : (x : InitiatorAt) (p : ℕ) (r : Reply) → NextAt c s deck i x p r → (q : Point InitiatorAt) → LeadsTo x r q → ValueAt (volumes_asked x) q
   value_led x p r h q w = search (rules, read_keeps, value_is)
 
-  own_value : (x : InitiatorAt) (p : ℕ) (r : Reply) → IsNextAt x p r → ValueAt (volumes_asked x) (initiator_goes deck x r)
+  own_value : (x : InitiatorAt) (p : ℕ) (r : Reply) → NextAt c s deck i x p r → ValueAt (volumes_asked x) (initiator_goes deck x r)
   own_value x p r h = value_led x p r h (initiator_goes deck x r) (leads deck x r)
 
   -- another initiator's number stays, unless this one writes where that one reads

@@ -4,16 +4,16 @@
 use Rattle.mv_plan.proofs.Words.{◌≡◌, ℕ, ◌+◌, List, [], ◌∷◌, refl, ap, ◌∙◌, suc, ◌-◌, ◌<◌, ◌≤◌, nat_le, Bool, true, false, ◌&&◌, ◌++◌, Some}
 use Rattle.mv_plan.proofs.Words.{if◌then◌else◌, length, Option, None, sym, arith, eq-eqb, leb-true, and_parts, Entry, gift_code, JobData}
 use Rattle.mv_plan.proofs.Words.{job_at, before_end, Named, job_named, common_steps, Reply, Setup, System, with_at, advanced, Step, Count}
-use Rattle.mv_plan.proofs.Words.{added, IsNext, initiator, LatchReply, VolumeReply, inl, inr, ◌*◌, ◌^◌, subst, append-nil, next, opening}
+use Rattle.mv_plan.proofs.Words.{added, IsNext, LatchReply, VolumeReply, inl, inr, ◌*◌, ◌^◌, subst, append-nil, next, opening}
 use Rattle.mv_plan.proofs.Words.{moved, ◌==◌, slice_index, ne_eqb, given_codes, step_events, sum_by-cons, end_of, not_run, ends, total}
 use Rattle.mv_plan.proofs.Words.{code_of, one_end_per_job, sum_by, rules}
 use Rattle.mv_report.specs.Outcome.{added_by, steps_with, all_steps_with}
 use Rattle.mv_plan.proofs.lists.{sum_to, sum_zero, sum_change, times, count_of, sum_le, sum_member, sum_front, times_once, sum_ext}
 use Rattle.mv_machine.proofs.EntryRuns.{entry_of}
 use Rattle.mv_plan.proofs.points.{Point, At, Running, Hand, InitiatorAt, Obtaining, Confirming, Freeing, Reading, ToAdd, Writing, Compares}
-use Rattle.mv_plan.proofs.points.{initiator_goes, steps_at, running, job_start, given_at, initiator_asks, InJob, IsNotLost, given_lands}
-use Rattle.mv_plan.proofs.points.{no_gift}
-use Rattle.mv_plan.proofs.volumes.Alone.{ValueAt, read_keeps, volumes_asked, Values, volumes_same}
+use Rattle.mv_plan.proofs.points.{initiator_goes, steps_at, running, job_start, given_at, InJob, IsNotLost, given_lands}
+use Rattle.mv_plan.proofs.points.{no_gift, ToCompare}
+use Rattle.mv_plan.proofs.volumes.Alone.{ValueAt, read_keeps, volumes_asked, Values, volumes_same, NextAt}
 use Rattle.mv_plan.proofs.deck.{Held, ArePlannedSteps, ArePlannedJobs, IsPlanned}
 use Rattle.mv_plan.proofs.walks.{NoneLost, none_lost_before, who_moved, mover_asked, mover_goes, mover_sum, Points, start_points, Move}
 use Rattle.mv_deck.specs.Weight.{all_events}
@@ -29,7 +29,7 @@ abbrev pub codes_of : List Entry → List ℕ
 codes_of [] = []
 codes_of (e ∷ es) = with_code (gift_code e.reply) (codes_of es)
 
-pub codes-push : (xs : List Entry) (e : Entry) → codes_of (xs ++ e ∷ []) ≡ codes_of xs ++ with_code (gift_code e.reply) []
+codes-push : (xs : List Entry) (e : Entry) → codes_of (xs ++ e ∷ []) ≡ codes_of xs ++ with_code (gift_code e.reply) []
 codes-push [] e = refl
 codes-push (x ∷ xs) e = grind (arith, common_steps, codes-push xs e)
 
@@ -54,19 +54,20 @@ abbrev pub adds_all : List JobData → ℕ → List ℕ → ℕ
 adds_all deck v [] = 0
 adds_all deck v (code ∷ codes) = adds deck v code + adds_all deck v codes
 
-pub adds-append : (deck : List JobData) (v : ℕ) (xs ys : List ℕ) → adds_all deck v (xs ++ ys) ≡ adds_all deck v xs + adds_all deck v ys
+adds-append : (deck : List JobData) (v : ℕ) (xs ys : List ℕ) → adds_all deck v (xs ++ ys) ≡ adds_all deck v xs + adds_all deck v ys
 adds-append deck v [] ys = omega arith
 adds-append deck v (x ∷ xs) ys = grind (arith, common_steps, adds-append deck v xs ys)
 
--- a code that names no job to be run adds nothing
+-- the code of a job that is to be run adds what the job does
 adds_low : (deck : List JobData) (v code : ℕ) → 1 ≤ code → code ≤ length deck → adds deck v code ≡ full deck v (code - 1)
 adds_low deck v code a b = grind (arith, common_steps)
 
-pub adds_high : (deck : List JobData) (v code : ℕ) → ((nat_le 1 code && nat_le code (length deck)) ≡ false) → adds deck v code ≡ 0
+-- a code that names no job to be run adds nothing
+adds_high : (deck : List JobData) (v code : ℕ) → ((nat_le 1 code && nat_le code (length deck)) ≡ false) → adds deck v code ≡ 0
 adds_high deck v code e = grind (arith, common_steps)
 
 -- What the codes given add is, summed over the jobs, what each adds as often as it was named to be run.
-pub adds_by_jobs : (deck : List JobData) (v : ℕ) (codes : List ℕ)
+adds_by_jobs : (deck : List JobData) (v : ℕ) (codes : List ℕ)
     → adds_all deck v codes ≡ sum_to (length deck) (λ j. times (count_of (j + 1) codes) (full deck v j))
 adds_by_jobs deck v [] = sym (sum_zero (length deck) (λ j. 0) (λ j lt. refl))
 adds_by_jobs deck v (code ∷ codes) = go (nat_le 1 code && nat_le code (length deck)) refl (adds_by_jobs deck v codes) where
@@ -106,7 +107,8 @@ due v (At (InJob run (Confirming hand latch mode id steps))) = added_by v (befor
 due v (At (InJob run (Freeing hand latch id steps))) = added_by v (before_end steps)
 due v (At (InJob run (Reading hand volume (ToAdd amount) steps))) = added v (Count volume amount) + added_by v (before_end steps)
 due v (At (InJob run (Writing hand volume amount number steps))) = added v (Count volume amount) + added_by v (before_end steps)
-due v (At (InJob run (Reading hand volume purpose steps))) = added_by v (before_end steps)
+due v (At (InJob run (Reading hand volume ToCompare steps))) = added_by v (before_end steps)
+due v (At (InJob run (Reading hand volume (Compares number) steps))) = added_by v (before_end steps)
 due v p = 0
 
 -- what the job that a given code names adds
@@ -130,11 +132,7 @@ module _ (v : ℕ) where
       (λ z n. sym (ap (adds deck v) z ∙ adds_high deck v 0 refl))
       (λ named left e t m n. due_start deck (running named before (suc left) g) named.job named.skipped n ∙ sym (ap (adds_named deck v) e))
 
--- ---- the initiator that moves
-
--- the machine's next entry is what initiator i says at this point, and is answered so
-abbrev pub NextAt : Setup → System → List JobData → ℕ → InitiatorAt → ℕ → Reply → Type 0
-NextAt c s deck i x p r = IsNext c s (entry_of (initiator i) (initiator_asks (length deck) i x).0 p (initiator_asks (length deck) i x).1 r)
+-- ---- what an initiator's event pays of what is due
 
 module _ (c : Setup) (s : System) (deck : List JobData) (i v : ℕ) where
   abbrev DueNext : InitiatorAt → Reply → Type 0

@@ -107,7 +107,7 @@ none_lost_at_end initiators t f = record {
   at_writer = not_lost t.writer f.at_writer.0 f.at_writer.1;
 }
 
--- ---- what stays
+-- ---- events that touch neither elements nor idle blocks
 
 -- elements and initiators' blocks are as they were
 pub record SameTalk (n : ℕ) (s z : System) : Type 0 where
@@ -135,6 +135,8 @@ pub walk_rest : (c : Setup) (deck : List JobData) (initiators : ℕ) (s : System
     → WalkTo c deck initiators s t (xs ++ ys) u → WalkTo c deck initiators s t xs v
     → WalkTo c deck initiators (after_from s xs) v ys u
 walk_rest c deck initiators s t v u xs ys w z = grind (arith, common_steps, walk-parts, walk_same)
+
+-- ---- what holds at each moment of a walk
 
 module _ (c : Setup) (deck : List JobData) (initiators : ℕ) where
   -- after each front of the entries, wherever the walk along it leads

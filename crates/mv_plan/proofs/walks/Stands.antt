@@ -80,8 +80,9 @@ wakes_unposted k x lists a =
       all_drop,
     )
 
--- ---- both, of the machine
+-- ---- the machine after every legal list
 
+-- each exit in a block is one of its own, and no request that stands posts a block
 pub record Fits (c : Setup) (s : System) : Type 0 where
   pub exits : (n x : ℕ) → (s.ecb n).state ≡ Extended x → is_exit_of c x n ≡ true
   pub plain : AllUnposted s.latches.state

@@ -1,4 +1,4 @@
--- The law is within_budgets of budgets/Within.
+-- The law is within_budgets of budgets.
 use Rattle.mv_plan.proofs.deck.Planned.{planned}
 use Rattle.mv_plan.proofs.budgets.{within_budgets}
 use Rattle.mv_plan.proofs.laws.tasks_stay_within_budgets.Goals as goal
