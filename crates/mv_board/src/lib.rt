@@ -16,6 +16,3 @@ pub use board::Board;
 pub use caller::{Caller, Moved};
 pub use closing::{Closed, Closing};
 pub use watch::Watch;
-
-#[cfg(test)]
-mod tests;

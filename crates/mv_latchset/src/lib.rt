@@ -16,6 +16,3 @@ pub use obtaining::{Asking, ObtainRefusal, Obtained, begin_obtain, end_obtain, o
 pub use purging::{Purged, purge};
 pub use releasing::{ReleaseLatchRefusal, release_latch};
 pub use token::{LatchToken, Standing};
-
-#[cfg(test)]
-mod tests;

@@ -16,6 +16,3 @@ pub use pausing::{Given, PauseRefusal, begin_pause, end_pause, pause};
 pub use releasing::{ReleaseAnswer, ReleaseRefusal, TryReleaseRefusal, release, try_release};
 pub use testing::test_element;
 pub use transferring::{TransferRefusal, transfer};
-
-#[cfg(test)]
-mod tests;

@@ -8,3 +8,6 @@ mod meeting;
 pub use ending::{end_of_job, end_of_task};
 pub use gate::{Gate, OpenGate, Point};
 pub use meeting::MeetGate;
+
+#[cfg(test)]
+mod tests;

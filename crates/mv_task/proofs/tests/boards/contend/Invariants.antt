@@ -1,0 +1,13 @@
+use Rattle.std.proofs.Common.{◌≡◌, ◌≤◌, ◌+◌, []}
+use Rattle.mv_machine.specs.Kept.{standing}
+use Rattle.mv_board.specs.Faces.{IsOf}
+use Rattle.mv_task.proofs.tests.boards.contend.Given as goal
+
+abbrev pub invariant-loop : goal.invariant-loop
+invariant-loop g l = record {
+  board : IsOf l.board l.caller;
+  number : l.caller.number ≡ l.initial.caller.number;
+  left : l.tries + l.tries ≤ l.caller.left + l.counter + l.counter;
+  none : standing l.caller.log ≡ [];
+  granted : l.granted ≤ l.counter;
+}

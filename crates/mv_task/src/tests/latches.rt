@@ -1,0 +1,276 @@
+//! What no clause says: the key of a token, and two threads of which one waits for what the other holds; and the rounds that `bench/run`
+//! times. Tables of calls with their answers are scripts, in mv_program.
+
+ghost use Rattle.std.specs.Prelude.{◌≡◌, ◌<◌, ◌≤◌, length, IfOk, IfSome};
+ghost use Rattle.mv_latch.specs.Request.{posted_ecb};
+ghost use Rattle.mv_calls.specs.Rest.{IsAtRest};
+ghost use Rattle.mv_board.specs.Faces.{AreFresh, AreInOrder, IsOf};
+
+use mv_latch::{LatchForm, Mode};
+use mv_latchset::{LatchToken, ObtainRefusal, Obtained, obtain, purge, release_latch};
+use mv_machine::{Config, replay};
+use mv_wait::{Station, Task};
+use std::alloc::Global;
+use std::process::Abort;
+use std::sync::Wait;
+use std::test::Fail;
+use std::thread::{self, Threads, join};
+
+// A new station with eight latches, and one block of the last task's; and its tasks, which have these budgets.
+fn open(alloc: Global, budgets: Vec<u32>) -> Result<(Station, Vec<Task>), Fail>
+    requires { (1 ≤ length budgets.items) × (length budgets.items ≤ 16) }
+    ensures tasks { IfOk result (λ r. AreFresh r.0 0 r.1.items × (length r.1.items ≡ length budgets.items)) }
+    ensures callers { IfOk result (λ r. r.0.config.callers ≡ length budgets.items) }
+    ensures latches { IfOk result (λ r. r.0.config.latches ≡ 8) }
+    ensures block { IfOk result (λ r. length r.0.config.owners ≡ 1) }
+{
+    let callers = budgets.len() as u32;
+    let config = Config {
+        callers,
+        elements_per_caller: 1,
+        volumes: 1,
+        latches: 8,
+        quota: 8,
+        posted_quota: 1,
+        budgets,
+        owners: vec![in alloc; callers - 1]?,
+        exits: Vec::new(alloc),
+    };
+    Ok(Station::open(alloc, config.check(alloc)?)?)
+}
+
+// ---- the calls, of a task at rest that is asserted to have the events for them
+
+// Waits for the block until it is posted with 0, and clears it.
+#[tactic(auto, using(mv_wait::proofs::Compose::served))]
+fn await_post<R: Abort + Wait>(rt: &R, station: &Station, task: &mut Task)
+    requires task { IsOf station.now task.old }
+    requires rest { IsAtRest task.old.log }
+    requires block { length station.now.config.owners ≡ 1 }
+    ensures task { IsOf station.now task.new }
+    ensures rest { IsAtRest task.new.log }
+    ensures number { task.new.number ≡ task.old.number }
+{
+    assert!(rt; station.config().ecb_owner(0) == task.number());
+    assert!(rt; !task.extended(0));
+    assert!(rt; task.left() >= 3);
+    let code = station.wait_one(rt, task, 0);
+    let cleared = station.clear(rt, task, 0);
+    assert!(rt; code == 0 && cleared == Ok(1_073_741_824));
+}
+
+// Takes a latch alone for this requestor. Where the request is to be posted, its post is waited for.
+#[tactic(auto, using(mv_wait::proofs::Compose::served, mv_latchset::proofs::Obtains::few_events))]
+fn take<R: Abort + Wait>(
+    rt: &R,
+    station: &Station,
+    task: &mut Task,
+    latch: u32,
+    requestor: u64,
+    form: LatchForm,
+) -> LatchToken
+    requires task { IsOf station.now task.old }
+    requires rest { IsAtRest task.old.log }
+    requires form { IfSome (posted_ecb form) (λ e. e ≡ 0) }
+    requires block { length station.now.config.owners ≡ 1 }
+    ensures task { IsOf station.now task.new }
+    ensures rest { IsAtRest task.new.log }
+    ensures number { task.new.number ≡ task.old.number }
+    ensures latch { result.latch ≡ latch }
+{
+    assert!(rt; task.left() >= 2);
+    match obtain(station, rt, task, latch, requestor, Mode::Exclusive, form) {
+        Ok(Obtained::Granted(token)) => token,
+        Ok(Obtained::Pending(token)) => {
+            await_post(rt, station, task);
+            token
+        }
+        Err(_) => panic!(rt; "refused"),
+    }
+}
+
+// Gives a latch back.
+#[tactic(auto, using(mv_wait::proofs::Compose::served))]
+fn give_back<R: Abort + Wait>(rt: &R, station: &Station, task: &mut Task, token: LatchToken)
+    requires task { IsOf station.now task.old }
+    requires rest { IsAtRest task.old.log }
+    requires latch { token.latch < station.now.config.latches }
+    ensures task { IsOf station.now task.new }
+    ensures rest { IsAtRest task.new.log }
+    ensures number { task.new.number ≡ task.old.number }
+{
+    assert!(rt; station.config().release_cost() <= task.left());
+    assert!(rt; release_latch(station, rt, task, token, false).is_ok());
+}
+
+// ---- one task
+
+#[test]
+#[tactic(auto, using(mv_wait::proofs::Compose::served))]
+fn a_token_has_the_key_of_its_record(rt: HostRuntime) -> Result<(), Fail> {
+    let (station, mut tasks) = open(rt.alloc(), vec![in rt.alloc(); 100]?)?;
+    let mut task = station.take_last(&mut tasks);
+    let first = take(&rt, &station, &mut task, 0, 1, LatchForm::Conditional);
+    let second = take(&rt, &station, &mut task, 1, 1, LatchForm::Conditional);
+    assert_eq!(rt; (first.key, second.key), (0, 1));
+    give_back(&rt, &station, &mut task, first);
+    // The record that was given back is used again, under the number of another request.
+    let third = take(&rt, &station, &mut task, 2, 1, LatchForm::Conditional);
+    assert_eq!(rt; (third.id, third.key), (3, 0));
+    assert_eq!(rt; task.key(first.id), None);
+    assert_eq!(rt; task.key(second.id), Some(1));
+    assert_eq!(rt; task.key(third.id), Some(0));
+    Ok(())
+}
+
+// ---- two threads
+
+// Purges requestor 9 until one of its requests was taken out, at most 200,000 times: whether one was.
+#[tactic(auto, using(mv_wait::proofs::Compose::served))]
+fn purge_often<R: Abort + Wait>(rt: &R, station: &Station, task: &mut Task) -> bool
+    requires task { IsOf station.now task.old }
+    requires rest { IsAtRest task.old.log }
+    ensures task { IsOf station.now task.new }
+    ensures rest { IsAtRest task.new.log }
+{
+    for _ in 0..200_000u32 {
+        assert!(rt; station.config().release_cost() <= task.left());
+        if purge(station, rt, task, 9).removed == 1 {
+            return true;
+        }
+        thread::yield_now();
+    }
+    false
+}
+
+// Behind a post of the block, purges requestor 9, and then gives back the latch that it holds: whether a request was purged.
+fn hold_until_a_purge<R: Abort + Wait>(
+    rt: &R,
+    station: &Station,
+    mut task: Task,
+    held: LatchToken,
+) -> bool
+    requires task { IsOf station.now task }
+    requires rest { IsAtRest task.log }
+    requires latch { held.latch < station.now.config.latches }
+    requires block { length station.now.config.owners ≡ 1 }
+{
+    await_post(rt, station, &mut task);
+    let removed = purge_often(rt, station, &mut task);
+    give_back(rt, station, &mut task, held);
+    removed
+}
+
+// Posts the block, and then waits for the latch.
+#[tactic(auto, using(mv_wait::proofs::Compose::served))]
+fn obtain_behind_a_post<R: Abort + Wait>(
+    rt: &R,
+    station: &Station,
+    mut task: Task,
+) -> Result<Obtained, ObtainRefusal>
+    requires task { IsOf station.now task }
+    requires rest { IsAtRest task.log }
+    requires block { length station.now.config.owners ≡ 1 }
+{
+    assert!(rt; station.config().reach(0) <= task.left());
+    station.post(rt, &mut task, 0, 0);
+    assert!(rt; task.left() >= 2);
+    obtain(
+        station,
+        rt,
+        &mut task,
+        0,
+        9,
+        Mode::Exclusive,
+        LatchForm::Waiting,
+    )
+}
+
+#[test]
+fn a_request_is_purged_while_its_task_waits(rt: HostRuntime) -> Result<(), Fail> {
+    let (station, mut tasks) = open(rt.alloc(), vec![in rt.alloc(); 100, 200_100]?)?;
+    let mut holder = station.take_last(&mut tasks);
+    let waiter = station.take_last(&mut tasks);
+    let held = take(&rt, &station, &mut holder, 0, 1, LatchForm::Conditional);
+    let (purged, obtained) = join(
+        &rt,
+        || hold_until_a_purge(&rt, &station, holder, held),
+        || obtain_behind_a_post(&rt, &station, waiter),
+    );
+    assert!(rt; purged);
+    assert_eq!(rt; obtained, Err(ObtainRefusal::Purged));
+    Ok(())
+}
+
+// Takes latch 0 and gives it back, so many times.
+fn take_often<R: Abort + Wait>(
+    rt: &R,
+    station: &Station,
+    mut task: Task,
+    requestor: u64,
+    form: LatchForm,
+    times: u32,
+) -> Task
+    requires task { IsOf station.now task }
+    requires rest { IsAtRest task.log }
+    requires form { IfSome (posted_ecb form) (λ e. e ≡ 0) }
+    requires block { length station.now.config.owners ≡ 1 }
+    requires latches { station.now.config.latches ≡ 8 }
+    ensures task { IsOf station.now result }
+    ensures number { result.number ≡ task.number }
+{
+    for _ in 0..times {
+        let token = take(rt, station, &mut task, 0, requestor, form);
+        give_back(rt, station, &mut task, token);
+    }
+    task
+}
+
+// Two threads take one latch so many times, the second by requests of this form, and come to their end.
+fn contend<R: Abort + Wait + Threads + Sync>(
+    rt: &R,
+    alloc: Global,
+    form: LatchForm,
+    times: u32,
+) -> Result<(Station, Vec<Task>), Fail>
+    requires form { IfSome (posted_ecb form) (λ e. e ≡ 0) }
+    requires times { times ≤ 10000 }
+    ensures tasks { IfOk result (λ r. AreInOrder r.0 0 r.1.items × (length r.1.items ≡ r.0.config.callers)) }
+{
+    let budget = 5 * times + 100;
+    let (station, mut tasks) = open(alloc, vec![in alloc; budget, budget]?)?;
+    let second = station.take_last(&mut tasks);
+    let first = station.take_last(&mut tasks);
+    let (first, second) = join(
+        rt,
+        || take_often(rt, &station, first, 1, LatchForm::Waiting, times),
+        || take_often(rt, &station, second, 2, form, times),
+    );
+    Ok((station, vec![in alloc; first, second]?))
+}
+
+#[test]
+fn one_task_takes_a_latch_beside_one_that_is_posted_for_it(rt: HostRuntime) -> Result<(), Fail> {
+    let (station, tasks) = contend(&rt, rt.alloc(), LatchForm::Posted(0), 1000)?;
+    let closed = station.close(tasks);
+    let listed = closed.history.listed(rt.alloc())?;
+    replay(rt.alloc(), &listed.config, &listed.journal)?;
+    Ok(())
+}
+
+// ---- what bench/run times
+
+#[test]
+fn a_free_latch_is_taken_and_given_back(rt: HostRuntime) -> Result<(), Fail> {
+    let (station, mut tasks) = open(rt.alloc(), vec![in rt.alloc(); 50_010]?)?;
+    let task = station.take_last(&mut tasks);
+    let task = take_often(&rt, &station, task, 1, LatchForm::Waiting, 25_000);
+    assert_eq!(rt; task.log().len(), 50_000);
+    Ok(())
+}
+
+#[test]
+fn two_threads_take_one_latch(rt: HostRuntime) -> Result<(), Fail> {
+    contend(&rt, rt.alloc(), LatchForm::Waiting, 10_000)?;
+    Ok(())
+}

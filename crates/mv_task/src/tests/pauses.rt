@@ -1,0 +1,416 @@
+//! What no clause says: two threads of which one wakes the other; and the hand-offs that `bench/run` times. And rows of an exchange that is
+//! refused by the state, which no script shows. Tables of calls with their answers are scripts, in mv_program.
+
+ghost use Rattle.std.specs.Prelude.{◌≡◌, ◌<◌, ◌≤◌, IfOk};
+ghost use Rattle.mv_element.specs.Table.{release_limit};
+ghost use Rattle.mv_machine.specs.Limits.{highest_generation};
+ghost use Rattle.mv_machine.specs.Setup.{element_count};
+ghost use Rattle.mv_calls.specs.Rest.{IsAtRest};
+ghost use Rattle.mv_board.specs.Faces.{IsOf};
+ghost use Rattle.mv_pause.specs.Releasing.{HasNoPause};
+
+use super::linger;
+use mv_element::{ElementOp, Phase, Token};
+use mv_machine::{Config, Object, Op, WordState, unpack};
+use mv_pause::{
+    Given, ReleaseAnswer, ReleaseRefusal, TryReleaseRefusal, allocate, pause, release, transfer,
+    try_release,
+};
+use mv_wait::{Station, Task};
+use std::alloc::Global;
+use std::process::Abort;
+use std::sync::Wait;
+use std::test::Fail;
+use std::thread::{self, join};
+
+// A new station with its two tasks, which have this budget, and of which each has the first of its two elements in use.
+#[tactic(auto, using(mv_wait::proofs::Compose::served))]
+fn open_two<R: Abort + Wait>(
+    rt: &R,
+    alloc: Global,
+    budget: u32,
+) -> Result<(Station, Task, Task), Fail>
+    ensures elements { IfOk result (λ r. element_count r.0.config ≡ 4) }
+    ensures first { IfOk result (λ r. IsOf r.0 r.1 × IsAtRest r.1.log) }
+    ensures second { IfOk result (λ r. IsOf r.0 r.2 × IsAtRest r.2.log) }
+{
+    let config = Config {
+        callers: 2,
+        elements_per_caller: 2,
+        volumes: 1,
+        latches: 1,
+        quota: 1,
+        posted_quota: 0,
+        budgets: vec![in alloc; budget, budget]?,
+        owners: Vec::new(alloc),
+        exits: Vec::new(alloc),
+    };
+    let (station, mut tasks) = Station::open(alloc, config.check(alloc)?)?;
+    let mut second = station.take_last(&mut tasks);
+    let mut first = station.take_last(&mut tasks);
+    assert!(rt; first.left() > 0 && second.left() > 0);
+    assert_eq!(rt; allocate(&station, rt, &mut first), Ok(token(0, 0)));
+    assert_eq!(rt; allocate(&station, rt, &mut second), Ok(token(2, 0)));
+    Ok((station, first, second))
+}
+
+fn token(element: u32, generation: u32) -> Token
+    ensures { (result.element ≡ element) × (result.generation ≡ generation) }
+{
+    Token {
+        element,
+        generation,
+    }
+}
+
+fn given(code: u32, element: u32, generation: u32) -> Given {
+    Given {
+        code,
+        next: token(element, generation),
+    }
+}
+
+// ---- a pause and a release, each asserted to have the events for it
+
+// The code of each release.
+const CODE: u32 = 7;
+
+// A pause with this token, which is given the code.
+#[tactic(auto, using(mv_wait::proofs::Compose::served))]
+fn take<R: Abort + Wait>(rt: &R, station: &Station, task: &mut Task, own: u32, generation: u32)
+    requires task { IsOf station.now task.old }
+    requires rest { IsAtRest task.old.log }
+    requires element { own < element_count station.now.config }
+    requires generation { generation < highest_generation }
+    ensures task { IsOf station.now task.new }
+    ensures rest { IsAtRest task.new.log }
+{
+    assert!(rt; task.left() >= 2);
+    let paused = pause(station, rt, task, token(own, generation));
+    assert_eq!(rt; paused, Ok(given(CODE, own, generation + 1)));
+}
+
+// A release.
+#[tactic(auto, using(mv_wait::proofs::Compose::served))]
+fn hand<R: Abort + Wait>(
+    rt: &R,
+    station: &Station,
+    task: &mut Task,
+    other: u32,
+    generation: u32,
+) -> Result<ReleaseAnswer, ReleaseRefusal>
+    requires task { IsOf station.now task.old }
+    requires rest { IsAtRest task.old.log }
+    requires element { other < element_count station.now.config }
+    ensures task { IsOf station.now task.new }
+    ensures rest { IsAtRest task.new.log }
+{
+    assert!(rt; task.left() > 0);
+    release(station, rt, task, token(other, generation), CODE)
+}
+
+// ---- exchanges
+
+// Stops the test where this is no word of the element, or a task pauses in it.
+fn assert_has_no_pause(rt: &impl Abort, element: u32, word: u64)
+    ensures { HasNoPause element word }
+{
+    let Some((_, WordState::Element(state))) = unpack(Object::Element(element), word) else {
+        panic!(rt; "no word of an element")
+    };
+    if state.phase == Phase::Paused {
+        panic!(rt; "a task pauses in it")
+    }
+}
+
+// A release by one exchange, by a task that has an event left.
+fn exchange(
+    rt: &impl Abort,
+    station: &Station,
+    task: &mut Task,
+    token: Token,
+    expected: u64,
+    code: u32,
+) -> Result<ReleaseAnswer, TryReleaseRefusal>
+    requires task { IsOf station.now task.old }
+    requires rest { IsAtRest task.old.log }
+    requires element { token.element < element_count station.now.config }
+    requires code { code < release_limit }
+    ensures task { IsOf station.now task.new }
+    ensures rest { IsAtRest task.new.log }
+{
+    assert_has_no_pause(rt, token.element, expected);
+    assert!(rt; task.left() > 0);
+    try_release(station, task, token, expected, code)
+}
+
+// What one more place adds to a word.
+const PLACE: u64 = 35_184_372_088_832;
+
+// The words of an element of generation 0 at place 0: reset; and prereleased with code 5.
+const RESET: u64 = 16_777_216;
+
+const PRERELEASED: u64 = 33_554_437;
+
+#[test]
+fn an_exchange_is_refused_by_the_state_that_is_expected(rt: HostRuntime) -> Result<(), Fail> {
+    let (station, mut task, _other) = open_two(&rt, rt.alloc(), 20)?;
+    let first = exchange(&rt, &station, &mut task, token(0, 0), PLACE + RESET, 5);
+    assert_eq!(rt; first, Ok(ReleaseAnswer::Early));
+    let second = exchange(
+        &rt,
+        &station,
+        &mut task,
+        token(0, 0),
+        2 * PLACE + PRERELEASED,
+        6,
+    );
+    assert_eq!(rt; second, Err(TryReleaseRefusal::Already));
+    let spent = exchange(
+        &rt,
+        &station,
+        &mut task,
+        token(0, 1),
+        3 * PLACE + PRERELEASED,
+        6,
+    );
+    assert_eq!(rt; spent, Err(TryReleaseRefusal::Spent(0)));
+    Ok(())
+}
+
+// ---- two threads
+
+// The pause of a task that does nothing after it.
+fn pause_once<R: Abort + Wait>(rt: &R, station: &Station, mut task: Task)
+    requires task { IsOf station.now task }
+    requires rest { IsAtRest task.log }
+    requires elements { element_count station.now.config ≡ 4 }
+{
+    take(rt, station, &mut task, 0, 0);
+}
+
+// Looks at an element until a task pauses in it.
+fn await_pause<R: Abort + Wait>(rt: &R, station: &Station, task: &mut Task, element: u32)
+    requires task { IsOf station.now task.old }
+    requires rest { IsAtRest task.old.log }
+    requires element { element < element_count station.now.config }
+    ensures task { IsOf station.now task.new }
+    ensures rest { IsAtRest task.new.log }
+{
+    for _ in rt.forever() {
+        let word = station.look(task, Object::Element(element));
+        if is_paused(unpack(Object::Element(element), word)) {
+            return;
+        }
+        thread::yield_now();
+    }
+}
+
+// Whether a task pauses in an element that has this word.
+fn is_paused(word: Option<(u32, WordState)>) -> bool {
+    match word {
+        Some((_, WordState::Element(state))) => state.phase == Phase::Paused,
+        _ => false,
+    }
+}
+
+// Releases the pause of element 0, as soon as its task has parked.
+fn release_the_paused<R: Abort + Wait>(
+    rt: &R,
+    station: &Station,
+    mut task: Task,
+) -> Result<ReleaseAnswer, ReleaseRefusal>
+    requires task { IsOf station.now task }
+    requires rest { IsAtRest task.log }
+    requires elements { element_count station.now.config ≡ 4 }
+{
+    await_pause(rt, station, &mut task, 0);
+    linger();
+    hand(rt, station, &mut task, 0, 0)
+}
+
+#[test]
+fn a_pause_that_parked_is_woken(rt: HostRuntime) -> Result<(), Fail> {
+    let (station, first, second) = open_two(&rt, rt.alloc(), 20)?;
+    let (_paused, released) = join(
+        &rt,
+        || pause_once(&rt, &station, first),
+        || release_the_paused(&rt, &station, second),
+    );
+    assert_eq!(rt; released, Ok(ReleaseAnswer::Woke));
+    Ok(())
+}
+
+// A call of its own, made of a look and an exchange: releases a pause that is on. Whether there was one.
+fn release_paused(station: &Station, task: &mut Task, element: u32) -> bool
+    requires task { IsOf station.now task.old }
+    requires element { element < element_count station.now.config }
+    requires left { 0 < task.old.left }
+    ensures task { IsOf station.now task.new }
+{
+    let object = Object::Element(element);
+    let word = station.look(task, object);
+    let Some((_, WordState::Element(state))) = unpack(object, word) else {
+        return false;
+    };
+    if state.phase != Phase::Paused {
+        return false;
+    }
+    let op = Op::Element(ElementOp::Release(state.generation, CODE));
+    match station.try_event(task, object, op, word) {
+        Ok(_) => {
+            // The exchange has woken nobody: whose pause it ends is for this call to wake.
+            station.wake(station.config().element_owner(element));
+            true
+        }
+        Err(_) => false,
+    }
+}
+
+// Releases the pause of element 0 by that call, as soon as its task has parked.
+fn release_by_exchange<R: Abort + Wait>(rt: &R, station: &Station, mut task: Task) -> bool
+    requires task { IsOf station.now task }
+    requires rest { IsAtRest task.log }
+    requires elements { element_count station.now.config ≡ 4 }
+{
+    await_pause(rt, station, &mut task, 0);
+    linger();
+    assert!(rt; task.left() > 0);
+    release_paused(station, &mut task, 0)
+}
+
+#[test]
+fn a_call_made_of_events_wakes_whom_it_releases(rt: HostRuntime) -> Result<(), Fail> {
+    let (station, first, second) = open_two(&rt, rt.alloc(), 20)?;
+    let (_paused, released) = join(
+        &rt,
+        || pause_once(&rt, &station, first),
+        || release_by_exchange(&rt, &station, second),
+    );
+    assert!(rt; released);
+    Ok(())
+}
+
+// Releases the other's pause and pauses, once with each generation.
+fn hand_over<R: Abort + Wait>(rt: &R, station: &Station, mut task: Task, times: u32) -> Task
+    requires task { IsOf station.now task }
+    requires rest { IsAtRest task.log }
+    requires elements { element_count station.now.config ≡ 4 }
+    requires times { times ≤ highest_generation }
+{
+    for generation in 0..times {
+        assert!(rt; hand(rt, station, &mut task, 2, generation).is_ok());
+        take(rt, station, &mut task, 0, generation);
+    }
+    task
+}
+
+// Pauses first, and is the last to release.
+fn hand_back<R: Abort + Wait>(rt: &R, station: &Station, mut task: Task, times: u32) -> Task
+    requires task { IsOf station.now task }
+    requires rest { IsAtRest task.log }
+    requires elements { element_count station.now.config ≡ 4 }
+    requires times { times ≤ highest_generation }
+{
+    for generation in 0..times {
+        take(rt, station, &mut task, 2, generation);
+        assert!(rt; hand(rt, station, &mut task, 0, generation).is_ok());
+    }
+    task
+}
+
+// How often, there and back. `bench/run` times it beside its twin.
+const ROUNDS: u32 = 10_000;
+
+#[test]
+fn two_threads_hand_over_and_back(rt: HostRuntime) -> Result<(), Fail> {
+    let (station, first, second) = open_two(&rt, rt.alloc(), 3 * ROUNDS + 1)?;
+    join(
+        &rt,
+        || hand_over(&rt, &station, first, ROUNDS),
+        || hand_back(&rt, &station, second, ROUNDS),
+    );
+    Ok(())
+}
+
+// ---- two threads that transfer
+
+// A transfer to the other's pause, as soon as its task has parked, and back.
+#[tactic(auto, using(mv_wait::proofs::Compose::served))]
+fn hand_and_take<R: Abort + Wait>(
+    rt: &R,
+    station: &Station,
+    task: &mut Task,
+    own: Token,
+    other: Token,
+)
+    requires task { IsOf station.now task.old }
+    requires rest { IsAtRest task.old.log }
+    requires elements { (own.element < element_count station.now.config) × (other.element < element_count station.now.config) }
+    requires generation { own.generation < highest_generation }
+    ensures task { IsOf station.now task.new }
+    ensures rest { IsAtRest task.new.log }
+{
+    await_pause(rt, station, task, other.element);
+    linger();
+    assert!(rt; task.left() >= 3);
+    let answer = transfer(station, rt, task, Some(own), other, CODE);
+    let back = given(CODE, own.element, own.generation + 1);
+    assert_eq!(rt; answer, Ok(Some(back)));
+}
+
+// How often each of two tasks transfers to the other.
+const TRANSFERS: u32 = 500;
+
+// Transfers from the own element to the other's, once with each of its generations. The own one is so far ahead.
+fn transfer_often<R: Abort + Wait>(
+    rt: &R,
+    station: &Station,
+    task: &mut Task,
+    own: u32,
+    ahead: u32,
+    other: u32,
+)
+    requires task { IsOf station.now task.old }
+    requires rest { IsAtRest task.old.log }
+    requires elements { (own < element_count station.now.config) × (other < element_count station.now.config) }
+    requires ahead { ahead ≤ 1 }
+    ensures task { IsOf station.now task.new }
+    ensures rest { IsAtRest task.new.log }
+{
+    for generation in 0..TRANSFERS {
+        let current = token(own, generation + ahead);
+        hand_and_take(rt, station, task, current, token(other, generation));
+    }
+}
+
+// Transfers first, and is the last to release.
+fn transfer_over<R: Abort + Wait>(rt: &R, station: &Station, mut task: Task)
+    requires task { IsOf station.now task }
+    requires rest { IsAtRest task.log }
+    requires elements { element_count station.now.config ≡ 4 }
+{
+    transfer_often(rt, station, &mut task, 0, 0, 2);
+    assert!(rt; hand(rt, station, &mut task, 2, TRANSFERS).is_ok());
+}
+
+// Pauses first.
+fn transfer_back<R: Abort + Wait>(rt: &R, station: &Station, mut task: Task)
+    requires task { IsOf station.now task }
+    requires rest { IsAtRest task.log }
+    requires elements { element_count station.now.config ≡ 4 }
+{
+    take(rt, station, &mut task, 2, 0);
+    transfer_often(rt, station, &mut task, 2, 1, 0);
+}
+
+#[test]
+fn a_transfer_wakes_whom_it_releases(rt: HostRuntime) -> Result<(), Fail> {
+    let (station, first, second) = open_two(&rt, rt.alloc(), 3 * TRANSFERS + 4)?;
+    join(
+        &rt,
+        || transfer_over(&rt, &station, first),
+        || transfer_back(&rt, &station, second),
+    );
+    Ok(())
+}

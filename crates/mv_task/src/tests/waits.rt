@@ -1,0 +1,355 @@
+//! What no clause says: how long a chain of exits may be, two threads that hand over to each other, and whom a post wakes; and what
+//! `bench/run` times. Tables of calls with their answers are scripts, in mv_program.
+
+ghost use Rattle.std.specs.Prelude.{◌≡◌, ◌<◌, ◌≤◌, ◌^◌, length, map, IfOk};
+ghost use Rattle.std.specs.List.{AllByRecursion};
+ghost use Rattle.mv_machine.specs.Config.{exit_of};
+ghost use Rattle.mv_calls.specs.Rest.{IsAtRest};
+ghost use Rattle.mv_board.specs.Faces.{IsFresh, IsOf};
+
+use super::linger;
+use mv_machine::{Config, Exit, Object, ValidConfig};
+use mv_wait::{PostAnswer, Station, Task, WaitSlot};
+use std::alloc::Global;
+use std::process::Abort;
+use std::sync::Wait;
+use std::test::Fail;
+use std::thread::{self, Threads, join};
+
+// Tasks with these budgets, these blocks and these exits.
+fn setup(
+    alloc: Global,
+    budgets: &[u32],
+    owners: &[u32],
+    exits: Vec<Exit>,
+) -> Result<ValidConfig, Fail>
+    requires { length budgets.now ≤ 16 }
+    ensures { IfOk result (λ c. c ≡ record {
+      callers = length budgets.now;
+      elements_per_caller = 1;
+      volumes = 1;
+      latches = 1;
+      quota = 1;
+      posted_quota = 0;
+      budgets = budgets.now;
+      owners = owners.now;
+      exits = map exit_of exits.items;
+    }) }
+{
+    let config = Config {
+        callers: budgets.len() as u32,
+        elements_per_caller: 1,
+        volumes: 1,
+        latches: 1,
+        quota: 1,
+        posted_quota: 0,
+        budgets: Vec::from_slice(alloc, budgets)?,
+        owners: Vec::from_slice(alloc, owners)?,
+        exits,
+    };
+    Ok(config.check(alloc)?)
+}
+
+// A new station of this configuration, with its one task.
+fn open_one(alloc: Global, config: ValidConfig) -> Result<(Station, Task), Fail>
+    requires { config.callers ≡ 1 }
+    ensures config { IfOk result (λ r. r.0.config ≡ config) }
+    ensures task { IfOk result (λ r. IsFresh r.0 0 r.1) }
+{
+    let (station, mut tasks) = Station::open(alloc, config)?;
+    let task = station.take_last(&mut tasks);
+    Ok((station, task))
+}
+
+// ---- one task
+
+// A chain of blocks, the exit of each of which posts the next.
+fn chain(alloc: Global, exits: u32) -> Result<ValidConfig, Fail>
+    requires { exits ≤ 1000 }
+    ensures { IfOk result (λ c. c.callers ≡ 1) }
+{
+    let mut owners = vec![in alloc; 0]?;
+    let mut list = Vec::new(alloc);
+    for i in 0..exits {
+        owners.push(0)?;
+        list.push(Exit {
+            source: i,
+            targets: vec![in alloc; i + 1]?,
+        })?;
+    }
+    setup(alloc, &[4000], &owners, list)
+}
+
+// Stops the test where there is no such block.
+fn assert_is_block(rt: &impl Abort, station: &Station, ecb: u32)
+    ensures { ecb < length station.now.config.owners }
+{
+    assert!(rt; (ecb as usize) < station.config().config().owners.len());
+}
+
+// A post of a block that there is.
+#[tactic(auto, using(mv_wait::proofs::Compose::served))]
+fn post<R: Abort + Wait>(rt: &R, station: &Station, task: &mut Task, ecb: u32) -> PostAnswer
+    requires task { IsOf station.now task.old }
+    requires rest { IsAtRest task.old.log }
+    ensures task { IsOf station.now task.new }
+    ensures rest { IsAtRest task.new.log }
+    ensures number { task.new.number ≡ task.old.number }
+{
+    assert_is_block(rt, station, ecb);
+    assert!(rt; station.config().reach(ecb) <= task.left());
+    station.post(rt, task, ecb, 5)
+}
+
+#[test]
+#[tactic(auto, using(mv_wait::proofs::Compose::served))]
+fn a_chain_of_a_thousand_exits_is_posted(rt: HostRuntime) -> Result<(), Fail> {
+    let (station, mut task) = open_one(rt.alloc(), chain(rt.alloc(), 1000)?)?;
+    for i in 0..1000u32 {
+        assert_is_block(&rt, &station, i);
+        assert!(rt; task.left() > 0);
+        assert!(rt; station.extend(&rt, &mut task, i, i + 1).is_ok());
+        assert!(rt; task.extended(i));
+    }
+    assert_eq!(rt; post(&rt, &station, &mut task, 0), PostAnswer::Woke);
+    // An extend of each, and the posts of all of them and of the last block.
+    assert_eq!(rt; task.log().len(), 2001);
+    Ok(())
+}
+
+// ---- two threads
+
+// Waits for the own block, and clears it.
+#[tactic(auto, using(mv_wait::proofs::Compose::served))]
+fn take<R: Abort + Wait>(rt: &R, station: &Station, task: &mut Task, own: u32)
+    requires task { IsOf station.now task.old }
+    requires rest { IsAtRest task.old.log }
+    ensures task { IsOf station.now task.new }
+    ensures rest { IsAtRest task.new.log }
+    ensures number { task.new.number ≡ task.old.number }
+{
+    assert_is_block(rt, station, own);
+    assert!(rt; station.config().ecb_owner(own) == task.number());
+    assert!(rt; !task.extended(own));
+    assert!(rt; task.left() >= 3);
+    let code = station.wait_one(rt, task, own);
+    let cleared = station.clear(rt, task, own);
+    assert!(rt; code == 5 && cleared == Ok(1_073_741_829));
+}
+
+// Posts the other's block and waits for the own one, so many times.
+fn hand_over<R: Abort + Wait>(
+    rt: &R,
+    station: &Station,
+    mut task: Task,
+    own: u32,
+    other: u32,
+    times: u32,
+) -> Task
+    requires task { IsOf station.now task }
+    requires rest { IsAtRest task.log }
+    ensures task { IsOf station.now result }
+    ensures rest { IsAtRest result.log }
+    ensures number { result.number ≡ task.number }
+{
+    for _ in 0..times {
+        post(rt, station, &mut task, other);
+        take(rt, station, &mut task, own);
+    }
+    task
+}
+
+// Waits first, and is the last to post.
+fn hand_back<R: Abort + Wait>(
+    rt: &R,
+    station: &Station,
+    mut task: Task,
+    own: u32,
+    other: u32,
+    times: u32,
+) -> Task
+    requires task { IsOf station.now task }
+    requires rest { IsAtRest task.log }
+    requires times { 0 < times }
+    ensures task { IsOf station.now result }
+    ensures number { result.number ≡ task.number }
+{
+    take(rt, station, &mut task, own);
+    let mut task = hand_over(rt, station, task, own, other, times - 1);
+    post(rt, station, &mut task, other);
+    task
+}
+
+// How often, there and back. `bench/run` times it beside its twin.
+const ROUNDS: u32 = 10_000;
+
+#[test]
+fn two_threads_hand_over_and_back(rt: HostRuntime) -> Result<(), Fail> {
+    let alloc = rt.alloc();
+    let config = setup(alloc, &[4 * ROUNDS, 4 * ROUNDS], &[0, 1], Vec::new(alloc))?;
+    let (station, mut tasks) = Station::open(alloc, config)?;
+    let second = station.take_last(&mut tasks);
+    let first = station.take_last(&mut tasks);
+    let (first, second) = join(
+        &rt,
+        || hand_over(&rt, &station, first, 0, 1, ROUNDS),
+        || hand_back(&rt, &station, second, 1, 0, ROUNDS),
+    );
+    let closed = station.close(vec![in alloc; first, second]?);
+    let listed = closed.history.listed(alloc)?;
+    assert_eq!(rt; listed.journal.len(), 8 * ROUNDS as usize);
+    Ok(())
+}
+
+// ---- two threads and an exit
+
+// Looks at block 1 until a task waits for it.
+fn await_arm<R: Abort + Wait>(rt: &R, station: &Station, task: &mut Task)
+    requires task { IsOf station.now task.old }
+    requires rest { IsAtRest task.old.log }
+    ensures task { IsOf station.now task.new }
+    ensures rest { IsAtRest task.new.log }
+{
+    assert_is_block(rt, station, 1);
+    for _ in rt.forever() {
+        // The wait bit.
+        if (station.look(task, Object::Ecb(1)) >> 31) % 2 == 1 {
+            return;
+        }
+        thread::yield_now();
+    }
+}
+
+// Posts the own block 0, whose exit posts block 1, where the other task has parked for that, and waits for block 2.
+#[tactic(auto, using(mv_wait::proofs::Compose::served))]
+fn post_by_exit<R: Abort + Wait>(rt: &R, station: &Station, mut task: Task, times: u32)
+    requires task { IsOf station.now task }
+    requires rest { IsAtRest task.log }
+{
+    for _ in 0..times {
+        assert_is_block(rt, station, 0);
+        assert!(rt; task.left() >= 2);
+        assert!(rt; station.extend(rt, &mut task, 0, 1).is_ok());
+        await_arm(rt, station, &mut task);
+        linger();
+        post(rt, station, &mut task, 0);
+        assert!(rt; task.left() > 0);
+        assert!(rt; station.clear(rt, &mut task, 0).is_ok());
+        take(rt, station, &mut task, 2);
+    }
+}
+
+#[test]
+fn a_post_wakes_whom_its_exit_posts(rt: HostRuntime) -> Result<(), Fail> {
+    let exit = Exit {
+        source: 0,
+        targets: vec![in rt.alloc(); 1]?,
+    };
+    let exits = vec![in rt.alloc(); exit]?;
+    let config = setup(rt.alloc(), &[700, 400], &[0, 1, 0], exits)?;
+    let (station, mut tasks) = Station::open(rt.alloc(), config)?;
+    let second = station.take_last(&mut tasks);
+    let first = station.take_last(&mut tasks);
+    join(
+        &rt,
+        || post_by_exit(&rt, &station, first, 100),
+        || hand_back(&rt, &station, second, 1, 2, 100),
+    );
+    Ok(())
+}
+
+// ---- a wait for many blocks
+
+// The blocks before this one.
+fn first_blocks(
+    rt: &impl Abort,
+    alloc: Global,
+    station: &Station,
+    blocks: u32,
+) -> Result<Vec<u32>, Fail>
+    ensures { IfOk result (λ es. AllByRecursion (λ e. e < length station.now.config.owners) es.items) }
+{
+    let mut ecbs = Vec::new(alloc);
+    for ecb in 0..blocks {
+        assert_is_block(rt, station, ecb);
+        ecbs.push(ecb)?;
+    }
+    Ok(ecbs)
+}
+
+// Waits until all of the first blocks are complete.
+fn wait_for_all<R: Abort + Wait>(
+    rt: &R,
+    alloc: Global,
+    station: &Station,
+    mut task: Task,
+    blocks: u32,
+) -> Result<(), Fail>
+    requires task { IsOf station.now task }
+    requires rest { IsAtRest task.log }
+{
+    let ecbs = first_blocks(rt, alloc, station, blocks)?;
+    let mut out = vec![in alloc; WaitSlot::Open; ecbs.len()]?;
+    assert!(rt; out.len() == ecbs.len());
+    assert!(rt; task.left() as usize >= 2 * ecbs.len());
+    let waited = station.wait(rt, &mut task, blocks, &ecbs, &mut out);
+    assert!(rt; waited.is_ok());
+    Ok(())
+}
+
+// Posts each of the first blocks.
+#[tactic(auto, using(mv_wait::proofs::Compose::served))]
+fn post_each<R: Abort + Wait>(rt: &R, station: &Station, mut task: Task, blocks: u32)
+    requires task { IsOf station.now task }
+    requires rest { IsAtRest task.log }
+{
+    for ecb in 0..blocks {
+        assert_is_block(rt, station, ecb);
+        assert!(rt; task.left() >= station.config().reach(ecb));
+        station.post(rt, &mut task, ecb, 5);
+    }
+}
+
+// One task waits for all of so many blocks, and another posts them one by one.
+fn wait_for_many<R: Abort + Wait + Threads + Sync>(
+    rt: &R,
+    alloc: Global,
+    blocks: u32,
+) -> Result<(), Fail>
+    requires { blocks < 2 ^ 16 }
+{
+    let owners = vec![in alloc; 0u32; blocks as usize]?;
+    let config = setup(alloc, &[2 * blocks, blocks], &owners, Vec::new(alloc))?;
+    let (station, mut tasks) = Station::open(alloc, config)?;
+    let second = station.take_last(&mut tasks);
+    let first = station.take_last(&mut tasks);
+    let (waited, ()) = join(
+        rt,
+        || wait_for_all(rt, alloc, &station, first, blocks),
+        || post_each(rt, &station, second, blocks),
+    );
+    waited
+}
+
+// `bench/run` times these two: the second is to take twice as long as the first.
+#[test]
+fn a_wait_for_five_thousand_blocks(rt: HostRuntime) -> Result<(), Fail> {
+    wait_for_many(&rt, rt.alloc(), 5_000)
+}
+
+#[test]
+fn a_wait_for_ten_thousand_blocks(rt: HostRuntime) -> Result<(), Fail> {
+    wait_for_many(&rt, rt.alloc(), 10_000)
+}
+
+// ---- many events
+
+// `bench/run` times it: 500,000 events that nobody disputes.
+#[test]
+fn posts_and_waits_of_one_thread(rt: HostRuntime) -> Result<(), Fail> {
+    let config = setup(rt.alloc(), &[500_000], &[0], Vec::new(rt.alloc()))?;
+    let (station, task) = open_one(rt.alloc(), config)?;
+    let task = hand_over(&rt, &station, task, 0, 0, 125_000);
+    assert_eq!(rt; task.log().len(), 500_000);
+    Ok(())
+}
