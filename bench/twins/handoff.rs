@@ -1,4 +1,4 @@
-//! The hand-off of `crates/mv_wait`'s test of it, in plain Rust: two threads hand over to each other and back, each by a
+//! The hand-off by posts of `crates/mv_task`'s tests, in plain Rust: two threads hand over to each other and back, each by a
 //! mutex and a condition variable of its own, as many times as its argument says. It prints nothing; `bench/run` times it.
 
 use std::sync::{Condvar, Mutex};

@@ -1,4 +1,4 @@
-//! The contended latch of `crates/mv_latchset`'s test of it, in plain Rust: two threads take a ticket lock in turn, each as many times
+//! The contended latch of `crates/mv_task`'s tests, in plain Rust: two threads take a ticket lock in turn, each as many times
 //! as the argument says. It prints nothing; `bench/run` times it.
 
 use std::sync::atomic::{AtomicU32, Ordering};

@@ -1,4 +1,4 @@
-//! The hand-off of `crates/mv_pause`'s test of it, in plain Rust: two threads hand over to each other and back, each by an
+//! The hand-off by pauses of `crates/mv_task`'s tests, in plain Rust: two threads hand over to each other and back, each by an
 //! atomic word of its own on which it parks, as many times as its argument says. It prints nothing; `bench/run` times it.
 
 use std::sync::atomic::{AtomicU32, Ordering};
