@@ -6,7 +6,7 @@ mod cache;
 
 pub use cache::{Pair, Shared, share};
 use mv_machine::replay;
-use std::io::{self, ErrorKind};
+use std::io::{self, ErrorKind, Print};
 
 // What is written, one after the other.
 const PAIRS: [Pair; 4] = [
@@ -19,18 +19,23 @@ const PAIRS: [Pair; 4] = [
 // How often each reader reads.
 const READS: u32 = 5;
 
-fn main(rt: HostRuntime) -> io::Result<()> {
-    // Nothing but memory can be wanting.
-    let Ok(Shared { read, history }) = share(&rt, rt.alloc(), &PAIRS, READS) else {
-        return Err(io::Error::from(ErrorKind::OutOfMemory));
-    };
-    // Which pairs a reader saw, the schedule decides: what is printed may not hang on it.
-    for pairs in &read {
+// Which pairs a reader saw, the schedule decides: what is printed may not hang on it.
+fn tell_read(rt: &impl Print, read: &[Vec<Pair>]) -> io::Result<()> {
+    for pairs in read {
         let whole = pairs
             .iter()
             .all(|pair| *pair == cache::FIRST || PAIRS.contains(pair));
         println!(rt; "{} PAIRS, WHOLE {whole}", pairs.len())?;
     }
+    Ok(())
+}
+
+fn main(rt: HostRuntime) -> io::Result<()> {
+    // Nothing but memory can be wanting.
+    let Ok(Shared { read, history }) = share(&rt, rt.alloc(), &PAIRS, READS) else {
+        return Err(io::Error::from(ErrorKind::OutOfMemory));
+    };
+    tell_read(&rt, &read)?;
     let Ok(listed) = history.listed(rt.alloc()) else {
         return Err(io::Error::from(ErrorKind::OutOfMemory));
     };

@@ -6,19 +6,24 @@ mod handover;
 
 pub use handover::{HandedOver, hand_over};
 use mv_machine::replay;
-use std::io::{self, ErrorKind};
+use std::io::{self, ErrorKind, Print};
 
 // What is handed over.
 const ITEMS: [u32; 10] = [3, 1, 4, 1, 5, 9, 2, 6, 5, 3];
+
+fn tell_taken(rt: &impl Print, taken: &[u32]) -> io::Result<()> {
+    for item in taken {
+        println!(rt; "TAKEN {item}")?;
+    }
+    Ok(())
+}
 
 fn main(rt: HostRuntime) -> io::Result<()> {
     // The configuration is one that nothing refuses, so only memory can be wanting.
     let Ok(HandedOver { taken, history }) = hand_over(&rt, rt.alloc(), &ITEMS) else {
         return Err(io::Error::from(ErrorKind::OutOfMemory));
     };
-    for item in &taken {
-        println!(rt; "TAKEN {item}")?;
-    }
+    tell_taken(&rt, &taken)?;
     let Ok(listed) = history.listed(rt.alloc()) else {
         return Err(io::Error::from(ErrorKind::OutOfMemory));
     };
