@@ -11,7 +11,7 @@ use Rattle.mv_polled.specs.Polled.{HasTakenUp, IsPolled, Stands}
 use Rattle.mv_polled.proofs.Calls.{need_fits, new_meets}
 use Rattle.mv_wait.proofs.Runs.{same_caller}
 use Rattle.mv_work.specs.declared.need.Need.{Need}
-use Rattle.mv_work.specs.declared.work.Work.{Work}
+use Rattle.mv_work.specs.declared.work.SpoolWork.{SpoolWork}
 use Rattle.mv_work.specs.Works.{HasCome, IsNew}
 use Rattle.mv_work.proofs.Meeting.{CanMeet, waits_ready}
 
@@ -26,15 +26,15 @@ pub record IsAtCall (b : BoardFace) (deck : List JobData) (i : ℕ) (t : CallerF
 
 module _ (b : BoardFace) (deck : List JobData) (i : ℕ) (config : b.config ≡ spool_setup deck i) where
   -- what a task has come to fits a meeting
-  pub fits : (w : Work) (need : Option Need) (t u : CallerFace) → HasCome b deck i w t need u → IfSome need IsNeed
+  pub fits : (w : SpoolWork) (need : Option Need) (t u : CallerFace) → HasCome b deck i w t need u → IfSome need IsNeed
   fits w (Some n) t u come = need_fits b.config u.number n (waits_ready b deck i w t n u config come).may
   fits w None t u come = tt
 
   -- and stands so once it is taken up
-  pub stands_next : (k : ℕ) (t : CallerFace) (p : Polled) (need : Option Need) {w : Work} {u : CallerFace} → (p.task ≡ u) × (p.work ≡ w)
+  pub stands_next : (k : ℕ) (t : CallerFace) (p : Polled) (need : Option Need) {w : SpoolWork} {u : CallerFace} → (p.task ≡ u) × (p.work ≡ w)
       → HasCome b deck i w t need u → HasTakenUp need p.state p.meeting → Stands b deck i k t p p.state
   stands_next k t p need {w} {u} same come taken =
-      go need taken (subst (λ (w : Work). HasCome b deck i w t need p.task) (sym same.1)
+      go need taken (subst (λ (w : SpoolWork). HasCome b deck i w t need p.task) (sym same.1)
       (subst (λ (u : CallerFace). HasCome b deck i w t need u) (sym same.0) come)) where
         go : (need : Option Need) → HasTakenUp need p.state p.meeting → HasCome b deck i p.work t need p.task
             → Stands b deck i k t p p.state

@@ -10,7 +10,7 @@ use Rattle.mv_polled.specs.declared.polled.State.{State}
 use Rattle.mv_polled.specs.declared.polled.State.TheVariants.{New, Waits, Finished}
 use Rattle.mv_polled.specs.Polled.{ArePolled, IsUnpolled, Stands, is_finished, is_over, unfinished}
 use Rattle.mv_wait.proofs.Parts.{fresh_at, one_of}
-use Rattle.mv_work.specs.declared.work.Work.{Work}
+use Rattle.mv_work.specs.declared.work.SpoolWork.{SpoolWork}
 use Rattle.mv_work.specs.Works.{AreWorked, HasCome, IsNew}
 use Rattle.mv_work.proofs.Histories.{first_of}
 use Rattle.mv_work.proofs.Runs.{still_of}
@@ -21,7 +21,7 @@ task_of p = p.task
 pub task_count : (tasks : List CallerFace) (ps : List Polled) → map task_of ps ≡ tasks → length ps ≡ length tasks
 task_count tasks ps is = sym (length-map ps task_of) ∙ ap (λ (ts : List CallerFace). length ts) is
 
-abbrev pub work_of : Polled → Work
+abbrev pub work_of : Polled → SpoolWork
 work_of p = p.work
 
 -- tasks that were not polled are polled tasks

@@ -14,7 +14,7 @@ use mv_deck::Job;
 use mv_io::NoMemory;
 use mv_task::OpenGate;
 use mv_wait::{Station, Task};
-use mv_work::{Need, Work};
+use mv_work::{Need, SpoolWork};
 use std::alloc::Global;
 use std::sync::Wait;
 
@@ -33,7 +33,7 @@ pub(crate) enum State {
 #[derive(Drop)]
 pub(crate) struct Polled {
     pub task: Task,
-    pub work: Work,
+    pub work: SpoolWork,
     pub meeting: Meeting,
     pub state: State,
 }
@@ -50,7 +50,7 @@ impl Polled {
         ensures task { IfOk result (λ p. p.task ≡ task) }
         ensures new { IfOk result (IsUnpolled (jobs_of deck.now) initiators) }
     {
-        let work = Work::new(alloc, deck, initiators, task.number())?;
+        let work = SpoolWork::new(alloc, deck, initiators, task.number())?;
         Ok(Polled {
             task,
             work,

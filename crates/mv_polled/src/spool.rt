@@ -25,7 +25,7 @@ use mv_io::NoMemory;
 use mv_machine::ValidConfig;
 use mv_plan::spool_config;
 use mv_wait::{Station, Task};
-use mv_work::{Brought, Left, SpoolRun, Work, brought_by, spool_run};
+use mv_work::{Brought, Left, SpoolRun, SpoolWork, brought_by, spool_run};
 use std::alloc::Global;
 use std::sync::Wait;
 
@@ -51,11 +51,11 @@ fn all_polled(
 #[derive(Drop)]
 struct Room {
     tasks: Vec<Task>,
-    works: Vec<Work>,
+    works: Vec<SpoolWork>,
 }
 
 // The tasks and their works, each by itself.
-fn parted(polled: Vec<Polled>, room: Room) -> (Vec<Task>, Vec<Work>)
+fn parted(polled: Vec<Polled>, room: Room) -> (Vec<Task>, Vec<SpoolWork>)
     requires tasks { (room.tasks.items ≡ []) × (length polled.items ≤ vec_capacity room.tasks) }
     requires works { (room.works.items ≡ []) × (length polled.items ≤ vec_capacity room.works) }
     ensures tasks { result.0.items ≡ map (λ p. p.task) polled.items }

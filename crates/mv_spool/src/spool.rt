@@ -23,13 +23,13 @@ use mv_machine::ValidConfig;
 use mv_plan::spool_config;
 use mv_task::Gate;
 use mv_wait::Station;
-use mv_work::{Left, SpoolRun, Work, brought_by, spool_run};
+use mv_work::{Left, SpoolRun, SpoolWork, brought_by, spool_run};
 use std::alloc::Global;
 use std::sync::Wait;
 use std::thread::Threads;
 
 // The work of each task, which was not begun.
-fn works_of(alloc: Global, deck: &[Job], initiators: u32) -> Result<Vec<Work>, NoMemory>
+fn works_of(alloc: Global, deck: &[Job], initiators: u32) -> Result<Vec<SpoolWork>, NoMemory>
     requires { initiators ≤ most_initiators }
     ensures count { IfOk result (λ works. length works.items ≡ initiators + 3) }
     ensures new { IfOk result (λ works. (k : ℕ) (d : _) → k < length works.items
@@ -38,7 +38,7 @@ fn works_of(alloc: Global, deck: &[Job], initiators: u32) -> Result<Vec<Work>, N
     let tasks = initiators + 3;
     let mut works = Vec::with_capacity(alloc, tasks as usize)?;
     for number in 0..tasks {
-        works.push_reserved(Work::new(alloc, deck, initiators, number)?);
+        works.push_reserved(SpoolWork::new(alloc, deck, initiators, number)?);
     }
     Ok(works)
 }

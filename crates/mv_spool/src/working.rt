@@ -5,10 +5,11 @@ ghost use Rattle.mv_work.specs.Waiting.{IsSpool};
 ghost use Rattle.mv_work.specs.Works.{IsNew, IsWorked};
 
 use crate::meeting::meet;
+use mv_attach::Work;
 use mv_deck::Job;
 use mv_task::Gate;
 use mv_wait::{Station, Task};
-use mv_work::Work;
+use mv_work::SpoolWork;
 use std::sync::Wait;
 
 /// What the tasks of a run have in common. What each has of its own is its work.
@@ -19,14 +20,14 @@ pub(crate) struct Working<'a, G> {
     pub gate: &'a G,
 }
 
-impl<G: Gate + Sync> mv_attach::Work for Working<'_, G> {
-    type Room = Work;
+impl<G: Gate + Sync> Work for Working<'_, G> {
+    type Room = SpoolWork;
 
     ghost can_start = { λ w b k work. IsSpool b w.deck.now w.initiators × IsNew (jobs_of w.deck.now) w.initiators k work };
 
     ghost has_done = { λ w b k old t new. IsWorked (jobs_of w.deck.now) w.initiators k b new t };
 
-    fn work<R: Wait>(&self, rt: &R, station: &Station, task: &mut Task, room: &mut Work) {
+    fn work<R: Wait>(&self, rt: &R, station: &Station, task: &mut Task, room: &mut SpoolWork) {
         let (deck, initiators) = (self.deck, self.initiators);
         let mut needed = room.begin(rt, station, task, deck, initiators, self.gate);
         for _ in rt.forever() {

@@ -7,7 +7,7 @@ use Rattle.mv_work.specs.declared.need.Need.{Need}
 use Rattle.mv_work.specs.declared.stage.InitiatorStage.{InitiatorStage}
 use Rattle.mv_work.specs.declared.stage.SchedulerStage.{SchedulerStage}
 use Rattle.mv_work.specs.declared.stage.Stage.TheVariants as stage
-use Rattle.mv_work.specs.declared.work.Work.{Work}
+use Rattle.mv_work.specs.declared.work.SpoolWork.{SpoolWork}
 use Rattle.mv_work.specs.Initiating.{InitiatorComes, initiator_left}
 use Rattle.mv_work.specs.Needs.{answer_of}
 use Rattle.mv_work.specs.Noting.{initiating_noted}
@@ -19,7 +19,7 @@ use Rattle.mv_work.proofs.Meeting.{scheduler_worked, writer_worked, initiator_wo
 use Rattle.mv_work.proofs.Runs.{leads_out}
 use Rattle.mv_work.proofs.Waits.{comes_on}
 
-module _ (b : BoardFace) (deck : List JobData) (i : ℕ) (w new : Work) {t u : CallerFace} (v : CallerFace) (g : Got) where
+module _ (b : BoardFace) (deck : List JobData) (i : ℕ) (w new : SpoolWork) {t u : CallerFace} (v : CallerFace) (g : Got) where
   -- the scheduler was told its last
   pub scheduler_over : (s : SchedulerStage) → ToldAt b deck i w (Some (stage.Scheduler s)) t g u
       → RanOut (scheduler_left b.config deck i s (answer_of g)) [] u v → HasCome b deck i new t None v

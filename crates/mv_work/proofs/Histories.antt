@@ -28,7 +28,7 @@ use Rattle.mv_plan.specs.SpoolTasks.{task, task_program, reading, scheduling, wr
 use Rattle.mv_plan.proofs.deck.Planned.{planned}
 use Rattle.mv_plan.proofs.results.NoneWrong.{none_wrong}
 use Rattle.mv_work.specs.declared.bringing.Brought.{Brought}
-use Rattle.mv_work.specs.declared.work.Work.{Work}
+use Rattle.mv_work.specs.declared.work.SpoolWork.{SpoolWork}
 use Rattle.mv_work.specs.Noting.{initiating_noted}
 use Rattle.mv_work.specs.Ran.{Ran, RanOut, IsOver}
 use Rattle.mv_work.specs.Recording.{IsLeft}
@@ -69,11 +69,11 @@ forgets c deck m {records} {t} {u} r =
 -- ---- what a task of each number has made
 
 -- what the program of task k answers: the writer's the ends that it found
-abbrev answered : ℕ → ℕ → Work → List ℕ
+abbrev answered : ℕ → ℕ → SpoolWork → List ℕ
 answered i k w = if k == reader then [] else if k == scheduler then [] else if k == writer i then ends_found w else []
 
 -- what the plan says of it
-plan_made : (deck : List JobData) (i : ℕ) (w : Work) (t u : CallerFace) → HasWorked (spool_setup deck i) deck i w t u
+plan_made : (deck : List JobData) (i : ℕ) (w : SpoolWork) (t u : CallerFace) → HasWorked (spool_setup deck i) deck i w t u
     → RanOut (task deck i t.number) (answered i t.number w) t u
 plan_made deck i w t u made = go (t.number == reader) (t.number == scheduler) (t.number == writer i) made where
   go : (x y z : Bool) → MatchBool x (RanOut (reading (spool_setup deck i) (length deck)) [] t u)
@@ -91,7 +91,7 @@ plan_made deck i w t u made = go (t.number == reader) (t.number == scheduler) (t
   go false false false made = forgets (spool_setup deck i) deck (t.number - 2) made
 
 -- an initiator's records
-initiator_made : (deck : List JobData) (i m : ℕ) (w : Work) (t u : CallerFace) → t.number ≡ initiator m → m < i
+initiator_made : (deck : List JobData) (i m : ℕ) (w : SpoolWork) (t u : CallerFace) → t.number ≡ initiator m → m < i
     → HasWorked (spool_setup deck i) deck i w t u → RanOut (initiating_noted (spool_setup deck i) deck m) (records w) t u
 initiator_made deck i m w t u is lt made =
     subst (λ k. RanOut (initiating_noted (spool_setup deck i) deck k) (records w) t u) (let e : t.number - 2 ≡ m = omega arith in e)
@@ -108,7 +108,7 @@ initiator_is deck i m lt =
     (ap (initiating (spool_setup deck i) deck) (let e : initiator m - 2 ≡ m = omega arith in e))
 
 -- and what the writer's answers
-writer_answered : (i : ℕ) (w : Work) → answered i (writer i) w ≡ ends_found w
+writer_answered : (i : ℕ) (w : SpoolWork) → answered i (writer i) w ≡ ends_found w
 writer_answered i w =
     rw (ne_eqb (writer i) reader (λ e. omega arith), ne_eqb (writer i) scheduler (λ e. omega arith), eq-eqb (writer i) (writer i) refl) refl
 
@@ -119,20 +119,20 @@ pub first_of : {A : Type 0} (xs : List A) → 0 < length xs → A
 first_of [] some = absurd (omega arith)
 first_of (x ∷ xs) some = x
 
-module _ (deck : List JobData) (i : ℕ) (b : BoardFace) (works : List Work) (tasks : List CallerFace) (closed : Closed) (some : 1 ≤ i)
+module _ (deck : List JobData) (i : ℕ) (b : BoardFace) (works : List SpoolWork) (tasks : List CallerFace) (closed : Closed) (some : 1 ≤ i)
     (sound : deck_is.IsSound deck i) (config : b.config ≡ spool_setup deck i) (legal : Legal b.config closed.history.coming)
     (within : AllByRecursion (IsIn b.config closed.history.coming) tasks) (worked : AreWorked deck i b works tasks) where
   abbrev es : List Entry
   es = closed.history.coming
 
   -- where none is to be read, the first is
-  first_work : Work
+  first_work : SpoolWork
   first_work = first_of works (let size = worked.works in omega arith)
 
   first_task : CallerFace
   first_task = first_of tasks (let size = worked.tasks in omega arith)
 
-  abbrev work : ℕ → Work
+  abbrev work : ℕ → SpoolWork
   work k = get_or works k first_work
 
   abbrev back : ℕ → CallerFace
@@ -216,10 +216,10 @@ module _ (deck : List JobData) (i : ℕ) (b : BoardFace) (works : List Work) (ta
   pub is_left : (brought : Brought) → closed.history.config ≡ b.config → closed.history.past ≡ [] → length es ≤ events_limit
       → AreHeld b.config (after b.config es) closed.volumes
       → map (λ r. r.jobs) brought.records.items ≡ drop 2 (map records (take (length works - 1) works))
-      → ((d : Work) → brought.ends.items ≡ ends_found (get_or works (length works - 1) d)) → IsLeft deck i closed brought
+      → ((d : SpoolWork) → brought.ends.items ≡ ends_found (get_or works (length works - 1) d)) → IsLeft deck i closed brought
   is_left brought own whole few held noted ends =
       let size = worked.works in
-      let front : List Work = take (length works - 1) works in
+      let front : List SpoolWork = take (length works - 1) works in
       let count : length front ≡ length works - 1 = length-take-le (length works - 1) works (omega arith) in record {
         config = own ∙ config;
         whole = whole;

@@ -20,7 +20,7 @@ use Rattle.mv_work.specs.declared.stage.InitiatorStage.{InitiatorStage}
 use Rattle.mv_work.specs.declared.stage.InitiatorStage.TheVariants as at
 use Rattle.mv_work.specs.declared.stage.Stage.{Stage}
 use Rattle.mv_work.specs.declared.stage.Stage.TheVariants as stage
-use Rattle.mv_work.specs.declared.work.Work.{Work}
+use Rattle.mv_work.specs.declared.work.SpoolWork.{SpoolWork}
 use Rattle.mv_work.specs.Initiating.{IsInitiatorAnswer, IsInitiatorNeed}
 use Rattle.mv_work.specs.Meeting.{IsAnswerTo, MayMeet}
 use Rattle.mv_work.specs.Needs.{Answer, answer_of, need_call, need_events}
@@ -34,7 +34,7 @@ use Rattle.mv_work.proofs.Waits.{rests_less, told_answer}
 
 -- ---- what a task of each number has made
 
-module _ (c : Setup) (deck : List JobData) (i : ℕ) (w : Work) {t u : CallerFace} where
+module _ (c : Setup) (deck : List JobData) (i : ℕ) (w : SpoolWork) {t u : CallerFace} where
   pub reader_worked : t.number ≡ 0 → RanOut (reading c (length deck)) [] t u → HasWorked c deck i w t u
   reader_worked is x = rw (eq-eqb t.number 0 is) x
 
@@ -80,7 +80,7 @@ own_there c deck i notes me (at.Latch r) (need.Latch latch requestor mode) is lt
 own_there c deck i notes me s n is lt fits = absurd fits
 
 -- the call of what the task waits for may be made; behind an answer the task was told that, and otherwise it has worked
-pub record CanMeet (b : BoardFace) (deck : List JobData) (i : ℕ) (w : Work) (t : CallerFace) (n : Need) (u : CallerFace)
+pub record CanMeet (b : BoardFace) (deck : List JobData) (i : ℕ) (w : SpoolWork) (t : CallerFace) (n : Need) (u : CallerFace)
     (o : Option Stage) : Type 0 where
   pub same : IsSame t u
   pub rests : IsResting b (need_events n) u
@@ -89,7 +89,7 @@ pub record CanMeet (b : BoardFace) (deck : List JobData) (i : ℕ) (w : Work) (t
       → u.left ≤ v.left + need_events n → ToldAt b deck i w o t g v
   pub lost : (v : CallerFace) → Ran (need_call b.config n) Wrong u v → HasCome b deck i w t None v
 
-module _ (b : BoardFace) (deck : List JobData) (i : ℕ) (w : Work) (t : CallerFace) (n : Need) (u : CallerFace) where
+module _ (b : BoardFace) (deck : List JobData) (i : ℕ) (w : SpoolWork) (t : CallerFace) (n : Need) (u : CallerFace) where
   ready : {S A : Type 0} {stages : Stages S A} {Fits : S → Need → Type 0} {Answers : S → Got → Type 0} {whole : Call A} {s : S} (a : A)
       (o : Option Stage) (k : ℕ) → t.number ≡ k → Waits b stages Fits whole t s n u → (Fits s n → MayMeet b.config k n)
       → ((g : Got) → IsAnswerTo n g → Fits s n → Answers s g)

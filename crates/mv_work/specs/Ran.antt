@@ -8,11 +8,11 @@ use Rattle.mv_wait.specs.Run.{Went}
 
 -- The call was begun with what the task kept of its log, the task made these events, which are what the call says, and this is
 -- left of it. The task is at rest.
-pub record Ran {A : Type 0} (call : Call A) (rest : Program A) (t u : CallerFace) : Type 0 where
+pub record Ran {A : Type 0} (call : Call A) (later : Program A) (t u : CallerFace) : Type 0 where
   pub events : List Heard
   pub went : Went events t u
   pub says : Says (call (kept_of t.number t.log)) events
-  pub leaves : left (call (kept_of t.number t.log)) events ≡ rest
+  pub leaves : left (call (kept_of t.number t.log)) events ≡ later
   pub quiet : IsAtRest u.log
 
 -- a program says nothing more: it is done with this answer, or met a reply that nothing foresees
@@ -28,7 +28,7 @@ pub record RanOut {A : Type 0} (call : Call A) (a : A) (t u : CallerFace) : Type
   pub over : IsOver a last
   pub ran : Ran call last t u
 
--- The whole was begun by the task as it was at t, and this rest of it is what is to be done from u on: whatever the rest comes
--- to, the whole comes to.
+-- The whole was begun by the task as it was at t, and this later part of it is what is to be done from u on: whatever the part
+-- comes to, the whole comes to.
 abbrev pub Leads : {A : Type 0} → Call A → Call A → CallerFace → CallerFace → Type 0
-Leads {A} whole rest t u = (q : Program A) (v : CallerFace) → Ran rest q u v → Ran whole q t v
+Leads {A} whole later t u = (q : Program A) (v : CallerFace) → Ran later q u v → Ran whole q t v

@@ -64,12 +64,12 @@ pub record Comes {S A : Type 0} (b : BoardFace) (stages : Stages S A) (Fits : S 
 -- This is what is left to do: the call of the need, and behind its answer what the stage says; where nothing is needed, nothing. It
 -- needs at most so many events.
 abbrev pub AsksFor : {S A : Type 0} → Setup → Stages S A → (S → Need → Type 0) → A → Call A → ℕ → Option (S × Need) → Type 0
-AsksFor c stages Fits a rest most (Some next) =
-    (rest ≡ followed (need_call c next.1) (stages.then next.0)) × Fits next.0 next.1
+AsksFor c stages Fits a later most (Some next) =
+    (later ≡ followed (need_call c next.1) (stages.then next.0)) × Fits next.0 next.1
     × (need_events next.1 + stages.due next.0 ≤ most)
-AsksFor c stages Fits a rest most None = (kept : Kept) → rest kept ≡ Done a
+AsksFor c stages Fits a later most None = (kept : Kept) → later kept ≡ Done a
 
 -- the same as a record
-pub record Asks {S A : Type 0} (c : Setup) (stages : Stages S A) (Fits : S → Need → Type 0) (a : A) (rest : Call A) (most : ℕ)
+pub record Asks {S A : Type 0} (c : Setup) (stages : Stages S A) (Fits : S → Need → Type 0) (a : A) (later : Call A) (most : ℕ)
     (next : Option (S × Need)) : Type 0 where
-  pub asks : AsksFor c stages Fits a rest most next
+  pub asks : AsksFor c stages Fits a later most next

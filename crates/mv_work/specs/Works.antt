@@ -11,7 +11,7 @@ use Rattle.mv_work.specs.declared.need.Got.{Got}
 use Rattle.mv_work.specs.declared.need.Need.{Need}
 use Rattle.mv_work.specs.declared.stage.Stage.{Stage}
 use Rattle.mv_work.specs.declared.stage.Stage.TheVariants.{Scheduler, Initiator, Writer}
-use Rattle.mv_work.specs.declared.work.Work.{Work}
+use Rattle.mv_work.specs.declared.work.SpoolWork.{SpoolWork}
 use Rattle.mv_work.specs.Initiating.{IsInitiatorAnswer, IsInitiatorNeed, initiator_stages, marks_left}
 use Rattle.mv_work.specs.Noting.{initiating_noted}
 use Rattle.mv_work.specs.Ran.{RanOut}
@@ -21,7 +21,7 @@ use Rattle.mv_work.specs.Waiting.{Told, Waits}
 use Rattle.mv_work.specs.Writing.{IsWriterAnswer, IsWriterNeed, writer_stages}
 
 -- the work of task k was not begun, and has the room that it needs
-pub record IsNew (deck : List JobData) (i k : ℕ) (w : Work) : Type 0 where
+pub record IsNew (deck : List JobData) (i k : ℕ) (w : SpoolWork) : Type 0 where
   pub given : AllByRecursion (λ b. b ≡ false) w.notes.given.items
   pub none : (w.notes.noted.jobs ≡ []) × (w.notes.noted.notes ≡ []) × (w.ends.items ≡ [])
   pub size : 2 ≤ k → k < i + 2 → length w.notes.given.items ≡ length deck
@@ -29,15 +29,15 @@ pub record IsNew (deck : List JobData) (i k : ℕ) (w : Work) : Type 0 where
   pub ends : k ≡ i + 2 → length deck ≤ vec_capacity w.ends
 
 -- what the task of number k brings back: the writer the ends, an initiator the records of the jobs that it ran
-abbrev pub records : Work → List JobRecord
+abbrev pub records : SpoolWork → List JobRecord
 records w = w.notes.noted.jobs
 
 -- the ends that the writer found
-abbrev pub ends_found : Work → List ℕ
+abbrev pub ends_found : SpoolWork → List ℕ
 ends_found w = w.ends.items
 
 -- All events of the task were made, which was t when it was new, and the work has what it brings back.
-abbrev pub HasWorked : Setup → List JobData → ℕ → Work → CallerFace → CallerFace → Type 0
+abbrev pub HasWorked : Setup → List JobData → ℕ → SpoolWork → CallerFace → CallerFace → Type 0
 HasWorked c deck i w t u =
     MatchBool (t.number == reader) (RanOut (reading c (length deck)) [] t u)
     (MatchBool (t.number == scheduler) (RanOut (scheduling c i deck) [] t u)
@@ -45,7 +45,7 @@ HasWorked c deck i w t u =
     (RanOut (initiating_noted c deck (t.number - 2)) (records w) t u)))
 
 -- The task, which was t when it was new, waits for this.
-abbrev pub WaitsAt : BoardFace → List JobData → ℕ → Work → Option Stage → CallerFace → Need → CallerFace → Type 0
+abbrev pub WaitsAt : BoardFace → List JobData → ℕ → SpoolWork → Option Stage → CallerFace → Need → CallerFace → Type 0
 WaitsAt b deck i w None t n u = ⊥
 WaitsAt b deck i w (Some (Scheduler s)) t n u = (t.number ≡ scheduler)
     × Waits b (scheduler_stages b.config deck i) (IsSchedulerNeed b.config deck i) (scheduling b.config i deck) t s n u
@@ -56,7 +56,7 @@ WaitsAt b deck i w (Some (Writer j)) t n u = (t.number ≡ writer i)
     (IsWriterNeed b.config i (length deck) (vec_capacity w.ends - length w.ends.items)) (writing b.config (length deck)) t j n u
 
 -- It was told this.
-abbrev pub ToldAt : BoardFace → List JobData → ℕ → Work → Option Stage → CallerFace → Got → CallerFace → Type 0
+abbrev pub ToldAt : BoardFace → List JobData → ℕ → SpoolWork → Option Stage → CallerFace → Got → CallerFace → Type 0
 ToldAt b deck i w None t g u = ⊥
 ToldAt b deck i w (Some (Scheduler s)) t g u = (t.number ≡ scheduler)
     × Told b (scheduler_stages b.config deck i) (IsSchedulerAnswer deck i) (scheduling b.config i deck) t s g u
@@ -67,22 +67,22 @@ ToldAt b deck i w (Some (Writer j)) t g u = (t.number ≡ writer i)
     (IsWriterAnswer (length deck) (vec_capacity w.ends - length w.ends.items)) (writing b.config (length deck)) t j g u
 
 -- The task was t when it was new. It waits for what it needs, or needs nothing more and has worked.
-abbrev pub HasCome : BoardFace → List JobData → ℕ → Work → CallerFace → Option Need → CallerFace → Type 0
+abbrev pub HasCome : BoardFace → List JobData → ℕ → SpoolWork → CallerFace → Option Need → CallerFace → Type 0
 HasCome b deck i w t (Some n) u = WaitsAt b deck i w w.stage t n u
 HasCome b deck i w t None u = IsSame t u × HasWorked b.config deck i w t u
 
 -- The task, which was t when it was new, was told what it waited for.
-abbrev pub WasTold : BoardFace → List JobData → ℕ → Work → CallerFace → Got → CallerFace → Type 0
+abbrev pub WasTold : BoardFace → List JobData → ℕ → SpoolWork → CallerFace → Got → CallerFace → Type 0
 WasTold b deck i w t g u = ToldAt b deck i w w.stage t g u
 
 -- Task k of the board was new once. It has made all its events, and the work has what it brings back.
-pub record IsWorked (deck : List JobData) (i k : ℕ) (b : BoardFace) (w : Work) (u : CallerFace) : Type 0 where
+pub record IsWorked (deck : List JobData) (i k : ℕ) (b : BoardFace) (w : SpoolWork) (u : CallerFace) : Type 0 where
   pub before : CallerFace
   pub fresh : IsFresh b k before
   pub come : HasCome b deck i w before None u
 
 -- So each task has, in the order of their numbers.
-pub record AreWorked (deck : List JobData) (i : ℕ) (b : BoardFace) (ws : List Work) (ts : List CallerFace) : Type 0 where
+pub record AreWorked (deck : List JobData) (i : ℕ) (b : BoardFace) (ws : List SpoolWork) (ts : List CallerFace) : Type 0 where
   pub works : length ws ≡ i + 3
   pub tasks : length ts ≡ i + 3
-  pub each : (k : ℕ) (w : Work) (t : CallerFace) → k < i + 3 → IsWorked deck i k b (slice_index_or ws k w) (slice_index_or ts k t)
+  pub each : (k : ℕ) (w : SpoolWork) (t : CallerFace) → k < i + 3 → IsWorked deck i k b (slice_index_or ws k w) (slice_index_or ts k t)

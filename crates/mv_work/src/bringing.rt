@@ -5,7 +5,7 @@ ghost use Rattle.mv_work.specs.Works.{ends_found, records};
 
 use crate::initiator::Notes;
 use crate::records::InitiatorRecord;
-use crate::work::Work;
+use crate::work::SpoolWork;
 
 /// What the tasks of a run brought back.
 #[derive(Debug, Drop)]
@@ -17,7 +17,7 @@ pub struct Brought {
 }
 
 /// Takes from the works of all tasks, in the order of their numbers, what the initiators and the writer bring back.
-pub fn brought_by(works: Vec<Work>, room: Vec<InitiatorRecord>) -> Brought
+pub fn brought_by(works: Vec<SpoolWork>, room: Vec<InitiatorRecord>) -> Brought
     requires some { 3 ≤ length works.items }
     requires room { (room.items ≡ []) × (length works.items ≤ vec_capacity room) }
     ensures records { map (λ r. r.jobs) result.records.items ≡ drop 2 (map records (take (length works.items - 1) works.items)) }
@@ -31,18 +31,18 @@ pub fn brought_by(works: Vec<Work>, room: Vec<InitiatorRecord>) -> Brought
     // The reader and the scheduler note nothing.
     let _ = records.remove(0);
     let _ = records.remove(0);
-    let Work { ends, .. } = writer;
+    let SpoolWork { ends, .. } = writer;
     Brought { records, ends }
 }
 
 // What each of these works noted.
-fn records_of(works: Vec<Work>, room: Vec<InitiatorRecord>) -> Vec<InitiatorRecord>
+fn records_of(works: Vec<SpoolWork>, room: Vec<InitiatorRecord>) -> Vec<InitiatorRecord>
     requires { (room.items ≡ []) × (length works.items ≤ vec_capacity room) }
     ensures { map (λ r. r.jobs) result.items ≡ map records works.items }
 {
     let mut noted = room;
     for work in works {
-        let Work { notes, .. } = work;
+        let SpoolWork { notes, .. } = work;
         let Notes { noted: record, .. } = notes;
         noted.push_reserved(record);
     }

@@ -27,4 +27,4 @@ pub use lost::Lost;
 pub use need::{Blocks, Got, MOST_BLOCKS, Need, Slots, slots_in};
 pub use records::{InitiatorRecord, Noted};
 pub use reporting::lines_recorded;
-pub use work::Work;
+pub use work::SpoolWork;

@@ -21,9 +21,9 @@ use mv_wait::{Station, Task};
 use std::alloc::Global;
 use std::sync::Wait;
 
-/// Where a task stands in its work, with the room that the work needs.
+/// Where a task of the spool stands in its work, with the room that the work needs.
 #[derive(Drop)]
-pub struct Work {
+pub struct SpoolWork {
     /// Where it waits, once it has begun.
     pub(crate) stage: Option<Stage>,
     /// What an initiator keeps.
@@ -32,18 +32,23 @@ pub struct Work {
     pub(crate) ends: Vec<u32>,
 }
 
-impl Work {
+impl SpoolWork {
     /// The work of the task of this number, with all room that it needs.
     ///
     /// # Errors
     ///
     /// `NoMemory` where there is not enough.
-    pub fn new(alloc: Global, deck: &[Job], initiators: u32, number: u32) -> Result<Work, NoMemory>
+    pub fn new(
+        alloc: Global,
+        deck: &[Job],
+        initiators: u32,
+        number: u32,
+    ) -> Result<SpoolWork, NoMemory>
         requires few { initiators ≤ most_initiators }
         ensures { IfOk result (λ work. IsNew (jobs_of deck.now) initiators number work) }
     {
         let initiates = FIRST_INITIATOR <= number && number < writer(initiators);
-        Ok(Work {
+        Ok(SpoolWork {
             stage: None,
             notes: Notes::with_room(alloc, if initiates { deck } else { &[] })?,
             ends: Vec::with_capacity(

@@ -2,7 +2,7 @@ use Rattle.std.proofs.Common.{◌≡◌, ℕ, List, None, refl, subst}
 use Rattle.mv_board.specs.Faces.{BoardFace, CallerFace, IsFresh, IsOf}
 use Rattle.mv_deck.specs.Deck.{JobData}
 use Rattle.mv_wait.proofs.Parts.{still_of}
-use Rattle.mv_work.specs.declared.work.Work.{Work}
+use Rattle.mv_work.specs.declared.work.SpoolWork.{SpoolWork}
 use Rattle.mv_work.specs.Parts.{jobs_of}
 use Rattle.mv_work.specs.Works.{HasCome, IsWorked}
 use Rattle.mv_work.proofs.Meeting.{CanMeet, waits_ready}
@@ -22,7 +22,7 @@ waits g c =
     (subst (λ n. HasCome b deck i c.loop.room c.args.task.now n c.loop.task) c.in-Some-needed.is c.loop.invariant)
 
 -- a task that needs nothing more is back
-back : (b : BoardFace) (deck : List JobData) (i : ℕ) (w : Work) (t u : CallerFace) → IsFresh b t.number t → HasCome b deck i w t None u
+back : (b : BoardFace) (deck : List JobData) (i : ℕ) (w : SpoolWork) (t u : CallerFace) → IsFresh b t.number t → HasCome b deck i w t None u
     → IsOf b u × (u.number ≡ t.number) × IsWorked deck i t.number b w u
 back b deck i w t u fresh come = (
   still_of b b t u come.0 fresh.board refl,

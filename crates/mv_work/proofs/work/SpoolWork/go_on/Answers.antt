@@ -1,10 +1,10 @@
 use Rattle.std.proofs.Common.{◌-◌, Some, ap}
 use Rattle.mv_work.specs.declared.need.Got.TheVariants as got
 use Rattle.mv_work.specs.declared.stage.Stage.TheVariants as stage
-use Rattle.mv_work.specs.declared.work.Work.{Work}
+use Rattle.mv_work.specs.declared.work.SpoolWork.{SpoolWork}
 use Rattle.mv_work.specs.Parts.{jobs_of}
 use Rattle.mv_work.proofs.Going.{scheduler_over, writer_over, initiator_over, initiator_next}
-use Rattle.mv_work.proofs.work.Work.go_on.Goals as goal
+use Rattle.mv_work.proofs.work.SpoolWork.go_on.Goals as goal
 
 pub returns-in_err-stage-in-Scheduler : goal.returns-in_err-stage-in-Scheduler
 returns-in_err-stage-in-Scheduler g c t told =
@@ -22,7 +22,7 @@ returns-in_err-job-in-Writer g c t told =
     let deck = jobs_of c.args.deck.now in
     let i = c.args.initiators in
     let w = c.args.self.now in
-    let new : Work = record { stage = w.stage; notes = w.notes; ends = c.on_end.new.ends } in
+    let new : SpoolWork = record { stage = w.stage; notes = w.notes; ends = c.on_end.new.ends } in
     let code = got.Code c.in-Code.end in
     let job = c.in-Writer.job in
     let at = rw (c.in-Some.is, c.in-Writer.is, c.in-Code.is) at told in
@@ -35,7 +35,7 @@ returns-in_err-stage-in-Initiator g c t told =
     let deck = jobs_of c.args.deck.now in
     let i = c.args.initiators in
     let w = c.args.self.now in
-    let new : Work = record { stage = w.stage; notes = c.go_on-in-Initiator.new.notes; ends = w.ends } in
+    let new : SpoolWork = record { stage = w.stage; notes = c.go_on-in-Initiator.new.notes; ends = w.ends } in
     let at = rw (c.in-Some.is, c.in-Initiator.is) at told in
     rw c.from_residual-in_err-stage-in-Initiator.ensures
     (initiator_over b deck i w new c.go_on-in-Initiator.new.task c.args.got c.in-Initiator.stage at (c.number-index.result - 2)
@@ -48,7 +48,7 @@ returns-in_ok-stage-in-Initiator g c t told =
     let i = c.args.initiators in
     let w = c.args.self.now in
     let next = c.in_ok-stage-in-Initiator.stage in
-    let new : Work = record { stage = Some (stage.Initiator next); notes = c.go_on-in-Initiator.new.notes; ends = w.ends } in
+    let new : SpoolWork = record { stage = Some (stage.Initiator next); notes = c.go_on-in-Initiator.new.notes; ends = w.ends } in
     let at = rw (c.in-Some.is, c.in-Initiator.is) at told in
     initiator_next b deck i w new c.go_on-in-Initiator.new.task c.args.got c.in-Initiator.stage at (c.number-index.result - 2)
     (ap (λ n. n - 2) c.number-index.ensures.number) next c.in_ok-stage-in-Initiator.need c.in_ok-stage-in-Initiator.ensures

@@ -13,9 +13,9 @@ use Rattle.mv_work.proofs.Decks.{initiator_budget, job_count, writer_budget}
 use Rattle.mv_work.proofs.Meeting.{reader_worked, scheduler_worked, writer_worked, initiator_worked}
 use Rattle.mv_work.proofs.Rounds.{left_all}
 use Rattle.mv_work.proofs.Waits.{asks_first, comes_as}
-use Rattle.mv_work.proofs.work.Work.begin.Given as bound
-use Rattle.mv_work.proofs.work.Work.begin.Goals as goal
-use Rattle.mv_work.proofs.work.Work.begin.Goals.{After-write}
+use Rattle.mv_work.proofs.work.SpoolWork.begin.Given as bound
+use Rattle.mv_work.proofs.work.SpoolWork.begin.Goals as goal
+use Rattle.mv_work.proofs.work.SpoolWork.begin.Goals.{After-write}
 
 pub returns-then-number-eq-READER : goal.returns-then-number-eq-READER
 returns-then-number-eq-READER g c = (
