@@ -1,5 +1,5 @@
 -- The one pass over the lines.
-use Rattle.std.proofs.Common.{◌≡◌, ℕ, suc, ◌+◌, ◌≤◌, Bool, true, false, cond, eqb, not, ◌&&◌, ◌||◌, List, [], ◌∷◌, length, Option, Some}
+use Rattle.std.proofs.Common.{◌≡◌, ℕ, suc, ◌+◌, ◌≤◌, Bool, true, false, cond, eqb, not, ◌&&◌, List, [], ◌∷◌, length, Option, Some}
 use Rattle.std.proofs.Common.{None, refl, sym, ap, subst, ◌∙◌, arith}
 use Rattle.std.specs.Borrow.{Bor}
 use Rattle.std.specs.List.{join_with_byte}
@@ -10,7 +10,7 @@ use Rattle.mv_machine.specs.declared.entry.Entry.{Entry}
 use Rattle.mv_machine.specs.Setup.{Setup}
 use Rattle.mv_line.specs.Part.{parts_at, parts_left, left_of}
 use Rattle.mv_entrytext.specs.declared.fault.Kind.{Kind}
-use Rattle.mv_entrytext.specs.declared.fault.Kind.TheVariants.{NoForm, BadNumber, WrongCount, Cut}
+use Rattle.mv_entrytext.specs.declared.fault.Kind.TheVariants.{NoForm, WrongCount, Cut}
 use Rattle.mv_line.specs.declared.fault.LineRefusal.{LineRefusal}
 use Rattle.mv_line.specs.declared.fault.LineRefusal.TheVariants.{Has, NoMemory}
 use Rattle.mv_line.specs.declared.fault.TextFault.{TextFault}
@@ -21,9 +21,10 @@ use Rattle.mv_entrytext.specs.Journal.{Line, JournalOf, Callers, Elements, Volum
 use Rattle.mv_entrytext.specs.Journal.{EntryOf, End}
 use Rattle.mv_entrytext.specs.Lines.{Stage, AtVersion, AtCallers, AtElements, AtVolumes, AtLatches, AtQuota, AtBudgets, AtOwners}
 use Rattle.mv_entrytext.specs.Lines.{AtExits, AtEntries, AtEnd, count_line, next_line, line_read, Draft, draft_with}
-use Rattle.mv_entrytext.specs.Fault.{TellsFirst, kind_number, kind_said, kind_of, is_cut, first_fault, text_fault, draft_of, journal_of}
+use Rattle.mv_entrytext.specs.Fault.{TellsFirst, kind_number, kind_of_form, kind_or, kind_said, kind_of, is_cut, first_fault, text_fault}
+use Rattle.mv_entrytext.specs.Fault.{draft_of, journal_of}
 use Rattle.mv_entrytext.specs.Said.{entry_said}
-use Rattle.mv_entrytext.specs.Draft.{TellsKind, kind_of_form, draft_at, line_behind, IsAt, kind_at_end}
+use Rattle.mv_entrytext.specs.Draft.{TellsKind, draft_at, line_behind, IsAt, kind_at_end}
 use Rattle.mv_entrytext.proofs.Parts.{first_part, joined_again}
 use Rattle.mv_entrytext.proofs.LinesTaken.{MayCome, line_taken}
 use Rattle.mv_entrytext.proofs.TextsTaken.{IsTextOf, is_read_whole}
@@ -101,15 +102,7 @@ at_kind here NoMemory told = tt
 
 -- the form alone is at fault
 form_tells : (d : Draft) (text : List ℕ) (e : LineRefusal Kind) → TellsKind e (kind_of_form d.stage text) → TellsKind e (kind_of d text)
-form_tells d text (Has k) told =
-    go (is_some (line_read true d.stage text)) (is_some (line_read false d.stage text)) (kind_said d (line_read true d.stage text)) told
-  where
-    go : (a b : Bool) (said : Option Kind)
-        → cond {A = Option Kind} (not (a || b)) (Some NoForm) (cond (not a) (Some BadNumber) None) ≡ Some k
-        → cond {A = Option Kind} (not (a || b)) (Some NoForm) (cond (not a) (Some BadNumber) said) ≡ Some k
-    go true b said t = absurd cc
-    go false true said t = t
-    go false false said t = t
+form_tells d text (Has k) told = ap (λ (f : Option Kind). kind_or f (kind_said d (line_read true d.stage text))) told
 form_tells d text NoMemory told = tt
 
 pub at_form : {bytes rest behind text : List ℕ} {number : ℕ} {d : Draft} → IsAtLine bytes rest number d text behind

@@ -23,7 +23,7 @@ use Rattle.mv_entrytext.specs.Journal.{EntryOf, End, line_text, line, entry_line
 use Rattle.mv_entrytext.specs.Lines.{Stage, AtVersion, AtCallers, AtElements, AtVolumes, AtLatches, AtQuota, AtBudgets, AtOwners}
 use Rattle.mv_entrytext.specs.Lines.{AtExits, AtEntries, AtEnd, line_read, Draft, blank, with_call, draft_with}
 use Rattle.mv_line.specs.Fault.{fault_at}
-use Rattle.mv_entrytext.specs.Fault.{kind_number, kind_said, kind_of, is_read, is_cut, is_ended, fault_or, draft_after, first_fault}
+use Rattle.mv_entrytext.specs.Fault.{kind_number, kind_or, kind_said, kind_of, is_read, is_cut, is_ended, fault_or, draft_after, first_fault}
 use Rattle.mv_entrytext.specs.Fault.{text_fault, draft_of, journal_of, HasJournal, AreCallsIn}
 use Rattle.mv_entrytext.proofs.CallNumbers.{IsCallIn, AreEach, calls_from_each, no_numbers, number_more, lines_more}
 use Rattle.mv_entrytext.proofs.Parts.{first_part, joined_again}
@@ -235,7 +235,7 @@ pub record IsSaid (d : Draft) (text : List ℕ) : Type 0 where
   pub fine : kind_said d (Some said) ≡ None
 
 abbrev kind_by : Bool → Bool → Option Kind → Option Kind
-kind_by strict loose said = cond (not (strict || loose)) (Some NoForm) (cond (not strict) (Some BadNumber) said)
+kind_by strict loose said = kind_or (cond (not (strict || loose)) (Some NoForm) (cond (not strict) (Some BadNumber) None)) said
 
 kind_none : (strict loose : Bool) (said : Option Kind) → kind_by strict loose said ≡ None → (strict ≡ true) × (said ≡ None)
 kind_none true loose said e = (refl, e)
@@ -244,7 +244,7 @@ kind_none false false said e = absurd cc
 
 is_said : (d : Draft) (text : List ℕ) → kind_of d text ≡ None → IsSaid d text
 is_said d text e =
-    let k = kind_none (is_read true d text) (is_read false d text) (kind_said d (line_read true d.stage text)) e in
+    let k = kind_none (is_read true d.stage text) (is_read false d.stage text) (kind_said d (line_read true d.stage text)) e in
     go (line_read true d.stage text) refl k.0 k.1 where
       go : (o : Option Line) → line_read true d.stage text ≡ o → is_some o ≡ true → kind_said d o ≡ None → IsSaid d text
       go None r s f = absurd (false≢true s)

@@ -1,5 +1,5 @@
 -- Where the reader of journals is, and what it tells.
-use Rattle.std.specs.Prelude.{◌∷◌, ◌==◌, ◌≡◌, ℕ, ◌+◌, ◌≤◌, true, false, not, ◌||◌, List, [], length, Option, Some, None, is_some}
+use Rattle.std.specs.Prelude.{◌∷◌, ◌==◌, ◌≡◌, ℕ, ◌+◌, ◌≤◌, List, [], length, Option, Some, None, is_some}
 use Rattle.std.specs.Prelude.{if◌then◌else◌}
 use Rattle.mv_machine.specs.Check.{refusal_of}
 use Rattle.mv_machine.specs.Config.{setup_of}
@@ -9,11 +9,11 @@ use Rattle.mv_line.specs.declared.fault.LineRefusal.{LineRefusal}
 use Rattle.mv_line.specs.declared.fault.LineRefusal.TheVariants.{Has, NoMemory}
 use Rattle.mv_line.specs.Part.{parts_at}
 use Rattle.mv_entrytext.specs.declared.fault.Kind.{Kind}
-use Rattle.mv_entrytext.specs.declared.fault.Kind.TheVariants.{NoForm, BadNumber, BadConfig, Cut}
+use Rattle.mv_entrytext.specs.declared.fault.Kind.TheVariants.{NoForm, BadConfig, Cut}
 use Rattle.mv_entrytext.specs.declared.head.HeadDraft.{HeadDraft}
 use Rattle.mv_entrytext.specs.declared.version.Version.{Version}
 use Rattle.mv_entrytext.specs.Lines.{Stage, AtVersion, AtCallers, AtElements, AtVolumes, AtLatches, AtQuota, AtBudgets, AtOwners}
-use Rattle.mv_entrytext.specs.Lines.{AtExits, AtEntries, AtEnd, Draft, line_read}
+use Rattle.mv_entrytext.specs.Lines.{AtExits, AtEntries, AtEnd, Draft}
 use Rattle.mv_entrytext.specs.Fault.{first_fault, text_fault, draft_of, journal_of}
 use Rattle.mv_entrytext.specs.Said.{stage_of}
 
@@ -21,13 +21,6 @@ use Rattle.mv_entrytext.specs.Said.{stage_of}
 abbrev pub TellsKind : LineRefusal Kind → Option Kind → Type 0
 TellsKind (Has k) kind = kind ≡ Some k
 TellsKind NoMemory kind = Unit {0}
-
--- the kind of a line by its form and its numbers alone
-abbrev pub kind_of_form : Stage → List ℕ → Option Kind
-kind_of_form stage text =
-    if not (is_some (line_read true stage text) || is_some (line_read false stage text)) then Some NoForm
-    else if not (is_some (line_read true stage text)) then Some BadNumber
-    else None
 
 -- the kind of the line that ends the head
 abbrev pub kind_of_config : Setup → Option Kind

@@ -29,16 +29,15 @@ kind_number Cut = 5
 
 -- whether a line is read as one that may stand there: strictly with each number spelled well and in its range, and
 -- otherwise whatever digits stand in the places of its numbers
-abbrev pub is_read : Bool → Draft → List ℕ → Bool
-is_read strict d line = is_some (line_read strict d.stage line)
+abbrev pub is_read : Bool → Stage → List ℕ → Bool
+is_read strict stage line = is_some (line_read strict stage line)
 
--- in neither way
-abbrev pub has_no_form : Draft → List ℕ → Bool
-has_no_form d line = not (is_read true d line || is_read false d line)
-
--- a leading zero, or a number beyond its range
-abbrev pub has_bad_number : Draft → List ℕ → Bool
-has_bad_number d line = not (is_read true d line)
+-- the kind of a line by its form and its numbers alone: in neither way; and a leading zero, or a number beyond its range
+abbrev pub kind_of_form : Stage → List ℕ → Option Kind
+kind_of_form stage line =
+    if not (is_read true stage line || is_read false stage line) then Some NoForm
+    else if not (is_read true stage line) then Some BadNumber
+    else None
 
 -- the head ends, and its configuration is refused
 abbrev pub has_bad_config : Draft → Line → Bool
@@ -55,12 +54,14 @@ abbrev pub kind_said : Draft → Option Line → Option Kind
 kind_said d None = None
 kind_said d (Some l) = if has_bad_config d l then Some BadConfig else if has_wrong_count d l then Some WrongCount else None
 
+-- this kind, or else that
+abbrev pub kind_or : Option Kind → Option Kind → Option Kind
+kind_or (Some kind) other = Some kind
+kind_or None other = other
+
 -- the first kind of a line that ends with LF
 abbrev pub kind_of : Draft → List ℕ → Option Kind
-kind_of d line =
-    if has_no_form d line then Some NoForm
-    else if has_bad_number d line then Some BadNumber
-    else kind_said d (line_read true d.stage line)
+kind_of d line = kind_or (kind_of_form d.stage line) (kind_said d (line_read true d.stage line))
 
 -- what stands behind the last LF is cut off, unless it is nothing and the last line was END
 abbrev pub is_ended : Stage → Bool

@@ -5,9 +5,9 @@ ghost use Rattle.mv_machine.specs.Check.{IsValid};
 ghost use Rattle.mv_machine.specs.Config.{setup_of};
 ghost use Rattle.mv_entrytext.specs.Journal.{Events};
 ghost use Rattle.mv_entrytext.specs.Lines.{AtEntries, blank, draft_with, line_read};
-ghost use Rattle.mv_entrytext.specs.Fault.{TellsFirst, text_fault};
+ghost use Rattle.mv_entrytext.specs.Fault.{TellsFirst, kind_of_form, text_fault};
 ghost use Rattle.mv_entrytext.specs.Said.{said, stage_of};
-ghost use Rattle.mv_entrytext.specs.Draft.{TellsKind, kind_of_form, kind_of_config, draft_at, head_seen, IsAt};
+ghost use Rattle.mv_entrytext.specs.Draft.{TellsKind, kind_of_config, draft_at, head_seen, IsAt};
 
 use crate::fault::Kind;
 use crate::line::{Line, Stage, read_line};

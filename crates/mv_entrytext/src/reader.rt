@@ -8,10 +8,10 @@ ghost use Rattle.mv_machine.specs.Setup.{Setup};
 ghost use Rattle.mv_entrytext.specs.declared.version.Version.{Version as AnyVersion};
 ghost use Rattle.mv_entrytext.specs.EntryText.{entry_read};
 ghost use Rattle.mv_entrytext.specs.Lines.{AtEntries, line_read};
-ghost use Rattle.mv_entrytext.specs.Fault.{TellsFirst, text_fault};
+ghost use Rattle.mv_entrytext.specs.Fault.{TellsFirst, kind_of_form, text_fault};
 ghost use Rattle.mv_entrytext.specs.Journal.{first_line};
 ghost use Rattle.mv_entrytext.specs.Said.{entry_said};
-ghost use Rattle.mv_entrytext.specs.Draft.{kind_of_form, kind_at_end};
+ghost use Rattle.mv_entrytext.specs.Draft.{kind_at_end};
 ghost use Rattle.mv_entrytext.specs.Reader.{left_in, IsReadTo, IsNextOf};
 
 use crate::entry::read_entry;

@@ -2,7 +2,7 @@
 use Rattle.std.proofs.Common.{◌≡◌, Some, subst, refl, sym, ◌∙◌}
 use Rattle.mv_line.specs.declared.fault.LineRefusal.TheVariants.{Has}
 use Rattle.mv_entrytext.specs.declared.version.Version.{Version}
-use Rattle.mv_entrytext.specs.Draft.{kind_of_form}
+use Rattle.mv_entrytext.specs.Fault.{kind_of_form}
 use Rattle.mv_entrytext.specs.Lines.{AtEntries}
 use Rattle.mv_entrytext.proofs.Passes.{line_split, at_form, at_cut, at_wrong_count, at_end, at_end_fault, at_over}
 use Rattle.mv_entrytext.proofs.ReadOn.{read_in, entry_next}
