@@ -6,6 +6,7 @@ ghost use Rattle.mv_latch.specs.Request.{posted_ecb};
 ghost use Rattle.mv_calls.specs.Rest.{IsAtRest};
 ghost use Rattle.mv_board.specs.Faces.{AreFresh, AreInOrder, IsOf};
 
+use super::await_post;
 use mv_latch::{LatchForm, Mode};
 use mv_latchset::{LatchToken, ObtainRefusal, Obtained, obtain, purge, release_latch};
 use mv_machine::{Config, replay};
@@ -41,24 +42,6 @@ fn open(alloc: Global, budgets: Vec<u32>) -> Result<(Station, Vec<Task>), Fail>
 
 // ---- the calls, of a task at rest that is asserted to have the events for them
 
-// Waits for the block until it is posted with 0, and clears it.
-#[tactic(auto, using(mv_wait::proofs::Compose::served))]
-fn await_post<R: Abort + Wait>(rt: &R, station: &Station, task: &mut Task)
-    requires task { IsOf station.now task.old }
-    requires rest { IsAtRest task.old.log }
-    requires block { length station.now.config.owners ≡ 1 }
-    ensures task { IsOf station.now task.new }
-    ensures rest { IsAtRest task.new.log }
-    ensures number { task.new.number ≡ task.old.number }
-{
-    assert!(rt; station.config().ecb_owner(0) == task.number());
-    assert!(rt; !task.extended(0));
-    assert!(rt; task.left() >= 3);
-    let code = station.wait_one(rt, task, 0);
-    let cleared = station.clear(rt, task, 0);
-    assert!(rt; code == 0 && cleared == Ok(1_073_741_824));
-}
-
 // Takes a latch alone for this requestor. Where the request is to be posted, its post is waited for.
 #[tactic(auto, using(mv_wait::proofs::Compose::served, mv_latchset::proofs::Obtains::few_events))]
 fn take<R: Abort + Wait>(
@@ -82,7 +65,7 @@ fn take<R: Abort + Wait>(
     match obtain(station, rt, task, latch, requestor, Mode::Exclusive, form) {
         Ok(Obtained::Granted(token)) => token,
         Ok(Obtained::Pending(token)) => {
-            await_post(rt, station, task);
+            await_post(rt, station, task, 0, 0);
             token
         }
         Err(_) => panic!(rt; "refused"),
@@ -153,9 +136,8 @@ fn hold_until_a_purge<R: Abort + Wait>(
     requires task { IsOf station.now task }
     requires rest { IsAtRest task.log }
     requires latch { held.latch < station.now.config.latches }
-    requires block { length station.now.config.owners ≡ 1 }
 {
-    await_post(rt, station, &mut task);
+    await_post(rt, station, &mut task, 0, 0);
     let removed = purge_often(rt, station, &mut task);
     give_back(rt, station, &mut task, held);
     removed

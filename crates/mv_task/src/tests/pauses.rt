@@ -1,5 +1,5 @@
-//! What no clause says: two threads of which one wakes the other; and the hand-offs that `bench/run` times. And rows of an exchange that is
-//! refused by the state, which no script shows. Tables of calls with their answers are scripts, in mv_program.
+//! What no clause says: two threads of which one wakes the other; and the hand-offs that `bench/run` times. Beside these, worked rows of an
+//! exchange that is refused by the state, which no script shows. Tables of calls with their answers are scripts, in mv_program.
 
 ghost use Rattle.std.specs.Prelude.{◌≡◌, ◌<◌, ◌≤◌, IfOk};
 ghost use Rattle.mv_element.specs.Table.{release_limit};
@@ -9,7 +9,7 @@ ghost use Rattle.mv_calls.specs.Rest.{IsAtRest};
 ghost use Rattle.mv_board.specs.Faces.{IsOf};
 ghost use Rattle.mv_pause.specs.Releasing.{HasNoPause};
 
-use super::linger;
+use super::{ROUNDS, linger};
 use mv_element::{ElementOp, Phase, Token};
 use mv_machine::{Config, Object, Op, WordState, unpack};
 use mv_pause::{
@@ -319,11 +319,8 @@ fn hand_back<R: Abort + Wait>(rt: &R, station: &Station, mut task: Task, times: 
     task
 }
 
-// How often, there and back. `bench/run` times it beside its twin.
-const ROUNDS: u32 = 10_000;
-
 #[test]
-fn two_threads_hand_over_and_back(rt: HostRuntime) -> Result<(), Fail> {
+fn two_threads_release_in_turn(rt: HostRuntime) -> Result<(), Fail> {
     let (station, first, second) = open_two(&rt, rt.alloc(), 3 * ROUNDS + 1)?;
     join(
         &rt,

@@ -7,7 +7,7 @@ ghost use Rattle.mv_machine.specs.Config.{exit_of};
 ghost use Rattle.mv_calls.specs.Rest.{IsAtRest};
 ghost use Rattle.mv_board.specs.Faces.{IsFresh, IsOf};
 
-use super::linger;
+use super::{ROUNDS, assert_is_block, await_post, linger};
 use mv_machine::{Config, Exit, Object, ValidConfig};
 use mv_wait::{PostAnswer, Station, Task, WaitSlot};
 use std::alloc::Global;
@@ -80,12 +80,8 @@ fn chain(alloc: Global, exits: u32) -> Result<ValidConfig, Fail>
     setup(alloc, &[4000], &owners, list)
 }
 
-// Stops the test where there is no such block.
-fn assert_is_block(rt: &impl Abort, station: &Station, ecb: u32)
-    ensures { ecb < length station.now.config.owners }
-{
-    assert!(rt; (ecb as usize) < station.config().config().owners.len());
-}
+// The code of each post.
+const CODE: u32 = 5;
 
 // A post of a block that there is.
 #[tactic(auto, using(mv_wait::proofs::Compose::served))]
@@ -98,7 +94,7 @@ fn post<R: Abort + Wait>(rt: &R, station: &Station, task: &mut Task, ecb: u32) -
 {
     assert_is_block(rt, station, ecb);
     assert!(rt; station.config().reach(ecb) <= task.left());
-    station.post(rt, task, ecb, 5)
+    station.post(rt, task, ecb, CODE)
 }
 
 #[test]
@@ -119,24 +115,6 @@ fn a_chain_of_a_thousand_exits_is_posted(rt: HostRuntime) -> Result<(), Fail> {
 
 // ---- two threads
 
-// Waits for the own block, and clears it.
-#[tactic(auto, using(mv_wait::proofs::Compose::served))]
-fn take<R: Abort + Wait>(rt: &R, station: &Station, task: &mut Task, own: u32)
-    requires task { IsOf station.now task.old }
-    requires rest { IsAtRest task.old.log }
-    ensures task { IsOf station.now task.new }
-    ensures rest { IsAtRest task.new.log }
-    ensures number { task.new.number ≡ task.old.number }
-{
-    assert_is_block(rt, station, own);
-    assert!(rt; station.config().ecb_owner(own) == task.number());
-    assert!(rt; !task.extended(own));
-    assert!(rt; task.left() >= 3);
-    let code = station.wait_one(rt, task, own);
-    let cleared = station.clear(rt, task, own);
-    assert!(rt; code == 5 && cleared == Ok(1_073_741_829));
-}
-
 // Posts the other's block and waits for the own one, so many times.
 fn hand_over<R: Abort + Wait>(
     rt: &R,
@@ -154,7 +132,7 @@ fn hand_over<R: Abort + Wait>(
 {
     for _ in 0..times {
         post(rt, station, &mut task, other);
-        take(rt, station, &mut task, own);
+        await_post(rt, station, &mut task, own, CODE);
     }
     task
 }
@@ -174,17 +152,14 @@ fn hand_back<R: Abort + Wait>(
     ensures task { IsOf station.now result }
     ensures number { result.number ≡ task.number }
 {
-    take(rt, station, &mut task, own);
+    await_post(rt, station, &mut task, own, CODE);
     let mut task = hand_over(rt, station, task, own, other, times - 1);
     post(rt, station, &mut task, other);
     task
 }
 
-// How often, there and back. `bench/run` times it beside its twin.
-const ROUNDS: u32 = 10_000;
-
 #[test]
-fn two_threads_hand_over_and_back(rt: HostRuntime) -> Result<(), Fail> {
+fn two_threads_post_in_turn(rt: HostRuntime) -> Result<(), Fail> {
     let alloc = rt.alloc();
     let config = setup(alloc, &[4 * ROUNDS, 4 * ROUNDS], &[0, 1], Vec::new(alloc))?;
     let (station, mut tasks) = Station::open(alloc, config)?;
@@ -235,7 +210,7 @@ fn post_by_exit<R: Abort + Wait>(rt: &R, station: &Station, mut task: Task, time
         post(rt, station, &mut task, 0);
         assert!(rt; task.left() > 0);
         assert!(rt; station.clear(rt, &mut task, 0).is_ok());
-        take(rt, station, &mut task, 2);
+        await_post(rt, station, &mut task, 2, CODE);
     }
 }
 
@@ -306,7 +281,7 @@ fn post_each<R: Abort + Wait>(rt: &R, station: &Station, mut task: Task, blocks:
     for ecb in 0..blocks {
         assert_is_block(rt, station, ecb);
         assert!(rt; task.left() >= station.config().reach(ecb));
-        station.post(rt, &mut task, ecb, 5);
+        station.post(rt, &mut task, ecb, CODE);
     }
 }
 
