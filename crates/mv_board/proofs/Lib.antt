@@ -27,5 +27,5 @@ pub mod Answering
 pub mod Joining
 pub mod Ends
 pub mod Closings
--- the helpers of the tests
+-- what a log says with one entry more, for the crates above
 pub mod Acting

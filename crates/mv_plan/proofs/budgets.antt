@@ -129,11 +129,11 @@ module _ (n initiators : ℕ) where
   -- where blocks are still to be settled
   settling_rest : (a : Awaited) (es : List ℕ) (found : List (Option ℕ))
       → scheduler_rest (settling_from n a es found) ≤ length es + behind_wait a
-  settling_rest a x2 found = grind (arith, common_steps, found_rest)
+  settling_rest a es found = grind (arith, common_steps, found_rest)
 
   -- where blocks are still to be armed
   arming_rest : (a : Awaited) (es : List ℕ) → scheduler_rest (arming_from n initiators a es) ≤ length es + (block_count a + behind_wait a)
-  arming_rest a x2 = grind (arith, common_steps, settling_rest, blocks)
+  arming_rest a es = grind (arith, common_steps, settling_rest, blocks)
 
   -- where a wait begins
   first_rest : (a : Awaited) (es : List ℕ) → scheduler_rest (arming_first a es) ≤ length es + (block_count a + behind_wait a)
@@ -221,7 +221,7 @@ module _ (deck : List JobData) where
 
   -- where a round begins
   rounds_rest : (more : ℕ) (before : List ℕ) (g : ℕ) → initiator_rest (rounds_from more before g) ≤ 4 + rounds_to_come deck before
-  rounds_rest x before g = grind (arith, common_steps)
+  rounds_rest more before g = grind (arith, common_steps)
 
   -- where a job's steps are to be done
   steps_rest : (run : Running) (hand : Hand) (steps : List Step)

@@ -1,6 +1,6 @@
 -- Histories of small decks are runs, by computing them: a check on the definitions. What the law of ends says of a run, by computing it;
--- and the law applied to it. Legal histories that are no runs: another end posted, the closing release left out, a job released twice, and a
--- volume read before its latch was granted. Each is legal by computing it, and its program says another event at the wrong entry.
+-- and the law applied to it. Legal histories that are no runs: another end posted, the closing release left out, a job released twice, and
+-- a volume read before its latch was granted. Each is legal by computing it, and its program says another event at the wrong entry.
 use Rattle.mv_plan.proofs.Words.{◌≡◌, ℕ, zero, suc, ◌+◌, ◌<◌, List, [], ◌∷◌, ◌++◌, length, replicate, ◌∙◌, arith, length-append, Entry, map}
 use Rattle.mv_plan.proofs.Words.{length-replicate, opening, legal_by, JobData, spool_setup, task_program, IsRun, codes, false, refl, Print}
 use Rattle.mv_plan.proofs.Words.{range_with_len, Exclusive, Use, Count, Abend, Return, weight, ends, total, made, at_block, at_element, ◌≤◌}

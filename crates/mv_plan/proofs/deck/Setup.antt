@@ -153,7 +153,7 @@ limits_kept c a e v l q p b o x t = rw (a, e, v, l, q, p, b, o, x, t) refl
 
 -- ---- each of its owners is a caller
 
--- each owner is a caller
+-- where each owner is below m, the search for a bad one finds none
 all_owned : (m : ℕ) (owners : List ℕ) (i : ℕ) → AllByRecursion (λ o. o < m) owners → position_from (λ o. nat_le m o) i owners ≡ None
 all_owned m [] i a = refl
 all_owned m (o ∷ owners) i a = rw (lt-leb m o a.0) (all_owned m owners (i + 1) a.1)

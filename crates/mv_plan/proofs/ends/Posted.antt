@@ -107,7 +107,7 @@ posted_is : (s : System) (k : ℕ) (o : Object) (op : Op) (b d : ℕ) → o ≡ 
 posted_is s k o op b d e f = let c = posted_step d (block s b) in
     (c.0, moved_there s k b o op (EcbOp.Post d) e f ∙ c.1)
 
--- the number of the job that is handed out next is not above that of the done blocks that are extended
+-- at least as many done blocks are extended as jobs were handed out
 pub next_extended : (n : ℕ) (y : SchedulerAt) → next_job n (At y) ≤ extended_at n y
 next_extended n x = grind (arith, common_steps)
 

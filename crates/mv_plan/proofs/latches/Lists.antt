@@ -56,7 +56,7 @@ found t [] e = absurd (false≢true e)
 found {X} t (q ∷ qs) e = go (t q) refl e (found t qs) where
   go : (b : Bool) → t q ≡ b → (b || list_any t qs) ≡ true → (list_any t qs ≡ true → (x : X) × Contains qs x × (t x ≡ true))
       → (x : X) × Contains (q ∷ qs) x × (t x ≡ true)
-  go x1 is f rest = grind (arith, common_steps, first_is_in, qs, rest_is_in)
+  go b is f rest = grind (arith, common_steps, first_is_in, qs, rest_is_in)
 
 -- ---- what a job asks of a latch
 
@@ -218,7 +218,7 @@ Spares k lists op = Unit {0}
 
 either_same : (k : ℕ) (qs : List Request) (b : Bool) (x y : List Request × LatchReply) → mine k x.0 ≡ mine k qs → mine k y.0 ≡ mine k qs
     → mine k (cond b x y).0 ≡ mine k qs
-either_same k qs x3 x y a c = grind (arith, common_steps)
+either_same k qs b x y a c = grind (arith, common_steps)
 
 -- keeps this caller's requests
 pub mine_kept : (k j place : ℕ) (op : LatchOp) (lists : List (List Request)) → (k ≡ j → ⊥) → NamesLatch op lists → Spares k lists op
@@ -255,7 +255,7 @@ mine_kept k j place (LatchOp.Purge requestor) lists n lt sp latch = search (rule
 
 either_all : (P : Request → Type 0) (b : Bool) (x y : List Request × LatchReply) → AllByRecursion P x.0 → AllByRecursion P y.0
     → AllByRecursion P (cond b x y).0
-either_all x1 x2 x y a c = grind (arith, common_steps)
+either_all P b x y a c = grind (arith, common_steps)
 
 abbrev pub AllAsked : (Request → Type 0) → List (List Request) → Type 0
 AllAsked P lists = (latch : ℕ) → AllByRecursion P (list_of lists latch)
@@ -268,4 +268,4 @@ set_all P lists at qs lt a b latch = search (rules, cases_eq, list_replaced, lis
 pub all_asked : (P : Request → Type 0) (k place : ℕ) (op : LatchOp) (lists : List (List Request)) → NamesLatch op lists
     → ((q : Request) → q.caller ≡ k → P q) → AllAsked P lists
     → AllAsked P (latch_step k place op lists).0
-all_asked x1 k place x4 lists lt f a = grind (arith, common_steps, set_all, either_all, all_append, all_filter, purged_list)
+all_asked P k place op lists lt f a = grind (arith, common_steps, set_all, either_all, all_append, all_filter, purged_list)

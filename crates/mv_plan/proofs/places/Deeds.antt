@@ -170,7 +170,7 @@ module _ (deck : List JobData) (o h : Option ℕ) where
 
 run_did : (p q : Point InitiatorAt) (h h' : Option ℕ) (r : Reply) (run : Running) → run_of p ≡ Some run → GoesOn run q
     → IsNotLost q → h' ≡ h → gift_code r ≡ None → Deed p q h h' r
-run_did p q h h' r run e x8 f k g = grind (arith, common_steps, jobs_run, rounds_jobs)
+run_did p q h h' r run e goes f k g = grind (arith, common_steps, jobs_run, rounds_jobs)
 
 module _ (deck : List JobData) (s : System) (q : Point SchedulerAt) (i : ℕ) where
   abbrev n : ℕ

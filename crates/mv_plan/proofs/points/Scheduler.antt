@@ -127,7 +127,7 @@ module _ (deck : List JobData) (initiators : ℕ) (kept : Kept) where
       → SchedulerKept (length deck) (awaited_extended (length deck) a) kept
       → past ++ es ≡ awaited_blocks (length deck) initiators a → length past ≡ length found
       → SchedulerStands deck initiators kept (settling_from (length deck) a es found)
-  settling_stands a past x3 found s k e l = grind (arith, common_steps, kept, found_stands)
+  settling_stands a past es found s k e l = grind (arith, common_steps, kept, found_stands)
 
   arming_stands : (a : Awaited) (past es : List ℕ) → IsAwaited deck initiators a
       → SchedulerKept (length deck) (awaited_extended (length deck) a) kept

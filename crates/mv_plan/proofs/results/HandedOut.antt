@@ -70,7 +70,7 @@ module _ (c : Setup) (deck : List JobData) (initiators : ℕ) (kept : ℕ → Ke
   scheduled : (x : SchedulerAt) (p : ℕ) (r : Reply) (q : Point SchedulerAt) → q ≡ At x → IsSchedulerAt deck initiators (At x)
       → IsNotLost (scheduler_goes n initiators x r)
       → ClosesAt q past → ClosesAt (scheduler_goes n initiators x r) (past ++ entry_of scheduler p (scheduler_asks n x) r ∷ [])
-  scheduled x1 p r q at sound f w = grind (arith, common_steps, closes_quiet, past, same_errand, wait_no_release, releasing)
+  scheduled x p r q at sound f w = grind (arith, common_steps, closes_quiet, past, same_errand, wait_no_release, releasing)
 
   each_closing : Each c deck initiators Closing
   each_closing = grind (arith, common_steps, closes_quiet, past, reader_plain, scheduled, no_release, writer_plain)
@@ -255,7 +255,7 @@ released-step : (j : ℕ) (e : Entry) (es : List Entry)
 released-step j e es = search rules
 
 naming_same : (j : ℕ) (slot : Option ℕ) (code : ℕ) → naming j slot ≡ Some code → slot ≡ Some code
-naming_same j x2 code e = grind (arith, common_steps)
+naming_same j slot code e = grind (arith, common_steps)
 
 release_is : (op : Op) (code : ℕ) → released_code op ≡ Some code → (g : ℕ) × (op ≡ Op.Element (ElementOp.Release g code))
 release_is op code e = grind (arith, common_steps)
@@ -270,7 +270,7 @@ release_marks c deck s (x ∷ es) j skipped l a lt e =
     (release_marks c deck (next s x) es j skipped l.1 a.1 lt) where
       go : (slot : Option ℕ) → naming j (released_code x.op) ≡ slot → with_code slot (released_codes j es) ≡ code_of j skipped ∷ []
           → (released_codes j es ≡ code_of j skipped ∷ [] → skipped ≡ (end_of deck j == not_run)) → skipped ≡ (end_of deck j == not_run)
-      go x1 q f rest = search (rules, release_is, naming_same, on_element)
+      go slot q f rest = search (rules, release_is, naming_same, on_element)
 
 module _ (deck : List JobData) (initiators : ℕ) (some : 1 ≤ initiators) (sound : IsPlanned deck initiators) (es : List Entry)
     (run : IsRun deck initiators es) where

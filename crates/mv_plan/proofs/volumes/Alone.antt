@@ -111,7 +111,8 @@ module _ (c : Setup) (s : System) (deck : List JobData) (i : ℕ) where
   volumes_asked x = (moved s (initiator i) (initiator_asks (length deck) i x).0 (initiator_asks (length deck) i x).1).volume
 
   -- a read keeps the number that it tells
-  value_led : (x : InitiatorAt) (p : ℕ) (r : Reply) → NextAt c s deck i x p r → (q : Point InitiatorAt) → LeadsTo x r q → ValueAt (volumes_asked x) q
+  value_led : (x : InitiatorAt) (p : ℕ) (r : Reply) → NextAt c s deck i x p r
+      → (q : Point InitiatorAt) → LeadsTo x r q → ValueAt (volumes_asked x) q
   value_led x p r h q w = search (rules, read_keeps, value_is)
 
   own_value : (x : InitiatorAt) (p : ℕ) (r : Reply) → NextAt c s deck i x p r → ValueAt (volumes_asked x) (initiator_goes deck x r)

@@ -123,7 +123,7 @@ module _ (v : ℕ) where
 
   due_start : (deck : List JobData) (run : Running) (job : ℕ) (skipped : Bool) → IsNotLost (job_start skipped run (job_at deck job))
       → due v (job_start skipped run (job_at deck job)) ≡ adds_if deck v job skipped
-  due_start deck run job x4 n = grind (arith, common_steps, due_steps)
+  due_start deck run job skipped n = grind (arith, common_steps, due_steps)
 
   due_given : (deck : List JobData) (more : ℕ) (before : List ℕ) (code g : ℕ) → IsNotLost (given_at deck more before code g)
       → due v (given_at deck more before code g) ≡ adds deck v code
@@ -211,7 +211,7 @@ fulls_bound v k (job ∷ jobs) s =
     let one = steps_bound v job.steps [] s.0.steps in omega arith
 
 few_events : (deck : List JobData) (initiators : ℕ) → 1 ≤ initiators → IsPlanned deck initiators → all_events deck ≤ 524287
-few_events deck x2 some sound = grind (arith, common_steps)
+few_events deck initiators some sound = grind (arith, common_steps)
 
 -- each job was named to be run at most once
 abbrev pub OnceEach : List JobData → List ℕ → Type 0

@@ -109,7 +109,7 @@ none_lost_at_end initiators t f = record {
 
 -- ---- events that touch neither elements nor idle blocks
 
--- elements and initiators' blocks are as they were
+-- elements and idle blocks are as they were
 pub record SameTalk (n : ℕ) (s z : System) : Type 0 where
   pub elements : (m : ℕ) → z.element m ≡ s.element m
   pub idles : (i : ℕ) → z.ecb (idle n i) ≡ s.ecb (idle n i)
