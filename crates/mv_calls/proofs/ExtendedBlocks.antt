@@ -16,20 +16,19 @@ use Rattle.mv_machine.specs.declared.entry.Op.TheVariants as op_on
 use Rattle.mv_machine.specs.declared.entry.Reply.{Reply}
 use Rattle.mv_machine.specs.declared.entry.Reply.TheVariants as reply_of
 use Rattle.mv_machine.specs.Parts.{IsPossible}
-use Rattle.mv_machine.specs.Setup.{Setup, SetupExit, owner_of, is_exit_of, starts_from}
+use Rattle.mv_machine.specs.Setup.{Setup, SetupExit, owner_of, is_exit_of, starts_from, exit_has, is_on_exit}
 use Rattle.mv_machine.specs.System.{System, admitted}
 use Rattle.mv_calls.specs.Exits.{StartsExit}
 use Rattle.mv_calls.specs.Keeping.{kept_of, extended_with}
-use Rattle.mv_calls.specs.Table.{is_on_exit, has_exit}
 use Rattle.mv_calls.proofs.Folds.{known}
 
 -- the source of an exit is on it
-pub source_is_on : (c : Setup) (n : ℕ) → StartsExit c n → has_exit c n ≡ true
+pub source_is_on : (c : Setup) (n : ℕ) → StartsExit c n → is_on_exit c n ≡ true
 source_is_on c n starts = found (slice_get c.exits (starts.0 - 1)) refl
     (and_parts (nat_lt 0 starts.0) (starts_from n (slice_get c.exits (starts.0 - 1))) starts.1).1 where
-      found : (y : Option SetupExit) → slice_get c.exits (starts.0 - 1) ≡ y → starts_from n y ≡ true → has_exit c n ≡ true
+      found : (y : Option SetupExit) → slice_get c.exits (starts.0 - 1) ≡ y → starts_from n y ≡ true → is_on_exit c n ≡ true
       found None at is = absurd (false≢true is)
-      found (Some y) at is = any_passes_from_place (λ z. is_on_exit z n) c.exits (starts.0 - 1) y at
+      found (Some y) at is = any_passes_from_place (λ z. exit_has z n) c.exits (starts.0 - 1) y at
           (or_left (y.source == n) (list_any (λ target. target == n) y.targets) is)
 
 -- an exit starts from each block that is held

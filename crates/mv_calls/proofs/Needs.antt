@@ -21,7 +21,7 @@ use Rattle.mv_calls.specs.Exits.{NameOwnExits, HaveFairWakes}
 use Rattle.mv_machine.specs.Legal.{after}
 use Rattle.mv_machine.specs.Parts.{IsPossible}
 use Rattle.mv_machine.specs.Reach.{reach, release_cost, total}
-use Rattle.mv_machine.specs.Setup.{Setup}
+use Rattle.mv_machine.specs.Setup.{Setup, is_on_exit}
 use Rattle.mv_machine.specs.System.{System}
 use Rattle.mv_machine.specs.Told.{told, told_at}
 use Rattle.mv_machine.specs.Waking.{AreFairWakes, blocks_of}
@@ -38,7 +38,7 @@ use Rattle.mv_calls.specs.Program.{on_latch, unless_refused, finished}
 use Rattle.mv_calls.specs.Refusal.{Refusal}
 use Rattle.mv_calls.specs.Services as services
 use Rattle.mv_calls.specs.Services.{Service, program, most_events, transfer_events, obtain_events, mother_events, HasItsTable}
-use Rattle.mv_calls.specs.Table.{IsTableOf, IsSoundTable, has_exit, event_block, slot_block}
+use Rattle.mv_calls.specs.Table.{IsTableOf, IsSoundTable, event_block, slot_block}
 use Rattle.mv_calls.specs.declared.table.Table.{Table}
 use Rattle.mv_calls.specs.Events as events
 use Rattle.mv_calls.specs.Refusal.{Broken, Strange}
@@ -270,7 +270,7 @@ freed_asks c t id answer kept low =
     (release_asks c t.latch id false kept low) (λ a now. none_asks (IsHeard c) 0 (Done answer) tt))
 
 -- a post of a block that is on no exit
-alone_asks : (c : Setup) (block code : ℕ) (kept : Kept) → has_exit c block ≡ false
+alone_asks : (c : Setup) (block code : ℕ) (kept : Kept) → is_on_exit c block ≡ false
     → Asks (IsHeard c) 1 (posts.post c block code kept)
 alone_asks c block code kept none =
     let one = reaches_itself c block none in

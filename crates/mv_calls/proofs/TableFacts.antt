@@ -7,11 +7,11 @@ use Rattle.std.specs.List.{list_any, range_with_len}
 use Rattle.std.specs.Option.{option_or}
 use Rattle.mv_machine.specs.Check.{is_within, or_else}
 use Rattle.mv_machine.specs.Reach.{reach, reach_within, exits_of, greatest, total, cut}
-use Rattle.mv_machine.specs.Setup.{Setup, SetupExit, owner_of}
+use Rattle.mv_machine.specs.Setup.{Setup, SetupExit, owner_of, exit_has, is_on_exit}
 use Rattle.mv_calls.specs.declared.table.Table.{Table}
 use Rattle.mv_calls.specs.declared.table.TableRefusal.{TableRefusal}
 use Rattle.mv_calls.specs.declared.table.TableRefusal.TheVariants.{BadSize, BadRange, NotOwner, BadLatch, BadVolume, HasExit}
-use Rattle.mv_calls.specs.Table.{table_limit, event_block, slot_block, blocks_of_table, passes, meet, is_bad_range, is_on_exit, has_exit}
+use Rattle.mv_calls.specs.Table.{table_limit, event_block, slot_block, blocks_of_table, passes, meet, is_bad_range}
 use Rattle.mv_calls.specs.Table.{first_of_others, first_with_exit, table_refused_if, IsTableOf, IsSoundTable}
 
 -- ---- the list of refusals, one by one
@@ -111,24 +111,24 @@ checked_is_sound c t e =
       );
       latch = below t.latch c.latches (not_refused _ BadLatch four.0);
       volume = below t.volume c.volumes (not_refused _ BadVolume five.0);
-      alone = λ i lt. none_in_table (has_exit c) t i exits lt;
+      alone = λ i lt. none_in_table (is_on_exit c) t i exits lt;
     }
 
 -- ---- a post of a block that is on no exit is one event
 
-none_start : (e : ℕ) (xs : List SetupExit) → list_any (λ x. is_on_exit x e) xs ≡ false → exits_of e xs ≡ []
+none_start : (e : ℕ) (xs : List SetupExit) → list_any (λ x. exit_has x e) xs ≡ false → exits_of e xs ≡ []
 none_start e [] none = refl
 none_start e (x ∷ xs) none =
-    let both = either_fails (is_on_exit x e) (list_any (λ y. is_on_exit y e) xs) none in
+    let both = either_fails (exit_has x e) (list_any (λ y. exit_has y e) xs) none in
     let source = (either_fails (x.source == e) (list_any (λ target. target == e) x.targets) both.0).0 in
     ap (λ b. cond b (x ∷ exits_of e xs) (exits_of e xs)) source ∙ none_start e xs both.1
 
-alone_within : (depth : ℕ) (c : Setup) (e : ℕ) → has_exit c e ≡ false → reach_within depth c e ≤ 1
+alone_within : (depth : ℕ) (c : Setup) (e : ℕ) → is_on_exit c e ≡ false → reach_within depth c e ≤ 1
 alone_within zero c e none = omega arith
 alone_within (suc depth) c e none =
     let one : reach_within (suc depth) c e ≡ 1 =
     ap (λ (xs : List SetupExit). cut (1 + greatest (map (λ x. total (reach_within depth c) x.targets) xs))) (none_start e c.exits none) in
     omega (arith, one)
 
-pub reaches_itself : (c : Setup) (e : ℕ) → has_exit c e ≡ false → reach c e ≤ 1
+pub reaches_itself : (c : Setup) (e : ℕ) → is_on_exit c e ≡ false → reach c e ≤ 1
 reaches_itself c e none = alone_within (length c.owners) c e none

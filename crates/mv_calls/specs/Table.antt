@@ -1,10 +1,10 @@
 -- Tables of events: which tables a configuration can have.
 use Rattle.std.specs.Prelude.{◌≡◌, ℕ, ◌+◌, ◌==◌, ◌<◌, ◌≤◌, nat_lt, not, Bool, false, ◌&&◌, ◌||◌, List, ◌++◌, length, find, Option, Some}
 use Rattle.std.specs.Prelude.{None, option_map, if◌then◌else◌}
-use Rattle.std.specs.List.{list_any, range_with_len}
+use Rattle.std.specs.List.{range_with_len}
 use Rattle.mv_machine.specs.Check.{is_within, or_else}
 use Rattle.mv_machine.specs.Limits.{ecbs_limit}
-use Rattle.mv_machine.specs.Setup.{Setup, SetupExit, owner_of}
+use Rattle.mv_machine.specs.Setup.{Setup, owner_of, is_on_exit}
 use Rattle.mv_calls.specs.declared.table.Table.{Table}
 use Rattle.mv_calls.specs.declared.table.TableRefusal.{TableRefusal}
 use Rattle.mv_calls.specs.declared.table.TableRefusal.TheVariants.{BadSize, BadRange, NotOwner, BadLatch, BadVolume, HasExit}
@@ -39,21 +39,13 @@ meet first second size = nat_lt first (second + size) && nat_lt second (first + 
 abbrev pub is_bad_range : Setup → Table → Bool
 is_bad_range c t = passes c t.events t.size || passes c t.slots t.size || meet t.events t.slots t.size
 
--- whether a block is the source or a target of an exit
-abbrev pub is_on_exit : SetupExit → ℕ → Bool
-is_on_exit x e = (x.source == e) || list_any (λ target. target == e) x.targets
-
--- whether a block is on any exit
-abbrev pub has_exit : Setup → ℕ → Bool
-has_exit c e = list_any (λ x. is_on_exit x e) c.exits
-
 -- the lowest block of a table that is not its owner's
 abbrev pub first_of_others : Setup → Table → Option ℕ
 first_of_others c t = find (λ e. not (owner_of c e == t.owner)) (blocks_of_table t)
 
 -- the lowest block of a table that is on an exit
 abbrev pub first_with_exit : Setup → Table → Option ℕ
-first_with_exit c t = find (has_exit c) (blocks_of_table t)
+first_with_exit c t = find (is_on_exit c) (blocks_of_table t)
 
 -- a refusal where a test holds
 abbrev pub table_refused_if : Bool → TableRefusal → Option TableRefusal
@@ -84,7 +76,7 @@ pub record IsSoundTable (c : Setup) (t : Table) : Type 0 where
   pub owned : (i : ℕ) → i < t.size → (owner_of c (event_block t i) ≡ t.owner) × (owner_of c (slot_block t i) ≡ t.owner)
   pub latch : t.latch < c.latches
   pub volume : t.volume < c.volumes
-  pub alone : (i : ℕ) → i < t.size → (has_exit c (event_block t i) ≡ false) × (has_exit c (slot_block t i) ≡ false)
+  pub alone : (i : ℕ) → i < t.size → (is_on_exit c (event_block t i) ≡ false) × (is_on_exit c (slot_block t i) ≡ false)
 
 -- whatever the configuration was, a checked table has few events, and its blocks are few enough to have numbers
 pub record IsSmallTable (t : Table) : Type 0 where

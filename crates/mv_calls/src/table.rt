@@ -2,14 +2,13 @@
 //! configuration.
 
 ghost use Rattle.std.specs.Prelude.{◌≡◌, ◌+◌, ◌≤◌, ◌==◌, ◌++◌, ◌⊎◌, not, length, find, IfOk, IfErr, OnOk, Some, None};
-ghost use Rattle.std.specs.List.{list_any, range_with_len};
-ghost use Rattle.mv_machine.specs.Config.{exit_of};
+ghost use Rattle.std.specs.List.{range_with_len};
 ghost use Rattle.mv_machine.specs.Limits.{ecbs_limit};
-ghost use Rattle.mv_machine.specs.Setup.{owner_of};
+ghost use Rattle.mv_machine.specs.Setup.{owner_of, is_on_exit};
 ghost use Rattle.mv_calls.specs.Table.{table_refusal, IsTableOf, IsSoundTable, is_bad_range, first_of_others, first_with_exit};
-ghost use Rattle.mv_calls.specs.Table.{blocks_of_table, is_on_exit, has_exit as block_has_exit};
+ghost use Rattle.mv_calls.specs.Table.{blocks_of_table};
 
-use mv_machine::{Exit, ValidConfig};
+use mv_machine::ValidConfig;
 use std::marker::Model;
 use thiserror::Error;
 
@@ -143,10 +142,10 @@ impl Table {
         if let Some(ecb) = self.first_of_others(config) {
             return Some(TableRefusal::NotOwner(ecb));
         }
-        if self.latch >= config.config().latches {
+        if !config.has_latch(self.latch) {
             return Some(TableRefusal::BadLatch);
         }
-        if self.volume >= config.config().volumes {
+        if !config.has_volume(self.volume) {
             return Some(TableRefusal::BadVolume);
         }
         if let Some(ecb) = self.first_with_exit(config) {
@@ -224,28 +223,7 @@ fn other_in(config: &ValidConfig, owner: u32, first: u32, size: u32) -> Option<u
 // The lowest block of a range that is on an exit.
 fn with_exit_in(config: &ValidConfig, first: u32, size: u32) -> Option<u32>
     requires { first + size ≤ ecbs_limit }
-    ensures { result ≡ find (block_has_exit config.now) (range_with_len first size) }
+    ensures { result ≡ find (is_on_exit config.now) (range_with_len first size) }
 {
-    (first..first + size).find(|ecb| has_exit(config, *ecb))
-}
-
-// Whether a block is the source or a target of an exit.
-fn has_exit(config: &ValidConfig, ecb: u32) -> bool
-    ensures { result ≡ block_has_exit config.now ecb }
-{
-    is_on_any(&config.config().exits, ecb)
-}
-
-// Whether a block is the source or a target of one of these exits.
-fn is_on_any(exits: &[Exit], ecb: u32) -> bool
-    ensures { result ≡ list_any (λ x. is_on_exit (exit_of x) ecb) exits.now }
-{
-    exits.iter().any(|exit| exit.source == ecb || has_target(&exit.targets, ecb))
-}
-
-// Whether a block is one of these targets.
-fn has_target(targets: &[u32], ecb: u32) -> bool
-    ensures { result ≡ list_any (λ target. target == ecb) targets.now }
-{
-    targets.iter().any(|target| *target == ecb)
+    (first..first + size).find(|ecb| config.is_on_exit(*ecb))
 }

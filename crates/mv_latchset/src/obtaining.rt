@@ -204,7 +204,7 @@ fn refuses(station: &Station, task: &Task, latch: u32, form: LatchForm) -> Optio
         ≡ obtain_refusal station.now.config latch requestor mode form (kept_of task.now.number task.now.log) }
     ensures kept { result ≡ None → (kept_of task.now.number task.now.log).requests ≡ standing task.now.log }
 {
-    if latch >= station.config().config().latches {
+    if !station.config().has_latch(latch) {
         return Some(ObtainRefusal::BadLatch);
     }
     if posts_others_block(station, task, form) {

@@ -1,10 +1,12 @@
--- The targets of an exit, as they are read.
-use Rattle.std.proofs.Common.{◌≡◌, ℕ, zero, suc, ◌-◌, [], Option, Some, None, option_map, slice_get, refl, sym, ap, ◌∙◌, arith}
+-- The exits as they are read: the targets of one, and the blocks that are on any.
+use Rattle.std.proofs.Common.{◌≡◌, ℕ, zero, suc, ◌-◌, List, [], ◌∷◌, ◌||◌, map, Option, Some, None, option_map, slice_get, refl, sym, ap, ◌∙◌}
+use Rattle.std.proofs.Common.{arith}
 use Rattle.std.proofs.lemmas.Option.{slice_get-map}
+use Rattle.std.specs.List.{list_any}
 use Rattle.mv_machine.specs.declared.config.Config.{Config}
 use Rattle.mv_machine.specs.declared.config.Exit.{Exit}
 use Rattle.mv_machine.specs.Config.{setup_of, exit_of}
-use Rattle.mv_machine.specs.Setup.{Setup, targets_of, targets_at}
+use Rattle.mv_machine.specs.Setup.{Setup, targets_of, targets_at, exit_has, is_on_exit}
 
 -- exits are counted from 1
 counted : (c : Setup) (x : ℕ) → (x ≡ 0 → ⊥) → targets_of c x ≡ targets_at (slice_get c.exits (x - 1))
@@ -26,3 +28,12 @@ targets_found config c x e given n is = ap (λ s. targets_of s x) (sym given) �
 pub targets_missing : (config : Config) (c : Setup) (x : ℕ) → setup_of config ≡ c → (x ≡ 0 → ⊥)
     → slice_get config.exits.items (x - 1) ≡ None → targets_of c x ≡ []
 targets_missing config c x given n is = ap (λ s. targets_of s x) (sym given) ∙ there config x None n is
+
+-- what is so of each exit as it was given
+pub on_given_exit : (given : Config) (c : Setup) (e : ℕ) → setup_of given ≡ c
+    → list_any (λ x. exit_has (exit_of x) e) given.exits.items ≡ is_on_exit c e
+on_given_exit given c e same =
+    any_of_map given.exits.items ∙ ap (λ (d : Setup). is_on_exit d e) same where
+      any_of_map : (xs : List Exit) → list_any (λ x. exit_has (exit_of x) e) xs ≡ list_any (λ x. exit_has x e) (map exit_of xs)
+      any_of_map [] = refl
+      any_of_map (x ∷ xs) = ap (λ b. exit_has (exit_of x) e || b) (any_of_map xs)

@@ -1,7 +1,7 @@
 -- What a configuration says.
-use Rattle.std.specs.Prelude.{ℕ, zero, suc, ◌==◌, ◌-◌, ◌*◌, ◌/◌, ◌<◌, nat_lt, Bool, false, ◌&&◌, List, [], length, Option, Some, None}
+use Rattle.std.specs.Prelude.{ℕ, zero, suc, ◌==◌, ◌-◌, ◌*◌, ◌/◌, ◌<◌, nat_lt, Bool, false, ◌&&◌, ◌||◌, List, [], length, Option, Some, None}
 use Rattle.std.specs.Prelude.{slice_get, slice_index}
-use Rattle.std.specs.List.{range_with_len}
+use Rattle.std.specs.List.{list_any, range_with_len}
 use Rattle.mv_machine.specs.declared.entry.Object.{Object}
 use Rattle.mv_machine.specs.declared.entry.Object.TheVariants.{Ecb, Element, Volume, Latches}
 
@@ -49,6 +49,14 @@ IsObjectOf c Latches = Unit {0}
 abbrev pub starts_from : ℕ → Option SetupExit → Bool
 starts_from ecb None = false
 starts_from ecb (Some x) = x.source == ecb
+
+-- whether a block is the source or a target of an exit
+abbrev pub exit_has : SetupExit → ℕ → Bool
+exit_has x ecb = (x.source == ecb) || list_any (λ target. target == ecb) x.targets
+
+-- whether a block is on any exit
+abbrev pub is_on_exit : Setup → ℕ → Bool
+is_on_exit c ecb = list_any (λ x. exit_has x ecb) c.exits
 
 -- whether this block is the source of the exit of this number, counted from 1
 abbrev pub is_exit_of : Setup → ℕ → ℕ → Bool

@@ -2,12 +2,15 @@
 //! specs/Setup.antt.
 
 ghost use Rattle.std.specs.Prelude.{◌≡◌, ◌<◌, ◌≤◌, ◌+◌, ◌*◌, ◌==◌, ℕ, nat_lt, length, IfOk, IsTrue};
+ghost use Rattle.std.specs.List.{list_any};
 ghost use Rattle.mv_latch.specs.LatchSet.{opened};
+ghost use Rattle.mv_machine.specs.Config.{exit_of};
 ghost use Rattle.mv_machine.specs.Limits.{exits_limit};
 ghost use Rattle.mv_machine.specs.Reach.{reach, release_cost};
-ghost use Rattle.mv_machine.specs.Setup.{Setup, is_exit_of, targets_of, owner_of, element_owner, element_count};
+ghost use Rattle.mv_machine.specs.Setup.{Setup, is_exit_of, targets_of, exit_has, is_on_exit};
+ghost use Rattle.mv_machine.specs.Setup.{owner_of, element_owner, element_count};
 
-use crate::config::Config;
+use crate::config::{Config, Exit};
 use crate::reaching::{reaches_of, release_cost_of};
 use mv_io::NoMemory;
 use mv_latch::LatchSet;
@@ -114,11 +117,18 @@ impl ValidConfig {
         element < self.elements()
     }
 
-    // Whether there is this volume.
-    pub(crate) fn has_volume(&self, volume: u32) -> bool
-        ensures { result ≡ nat_lt volume self.now.volumes }
+    /// Whether there is this volume.
+    pub fn has_volume(&self, volume: u32) -> bool
+        ensures there { result ≡ nat_lt volume self.now.volumes }
     {
         volume < self.config.volumes
+    }
+
+    /// Whether there is this latch.
+    pub fn has_latch(&self, latch: u32) -> bool
+        ensures there { result ≡ nat_lt latch self.now.latches }
+    {
+        latch < self.config.latches
     }
 
     /// The caller that waits on an event control block.
@@ -167,6 +177,13 @@ impl ValidConfig {
         self.element_owner(element) == caller
     }
 
+    /// Whether an event control block is the source or a target of an exit.
+    pub fn is_on_exit(&self, ecb: u32) -> bool
+        ensures on { result ≡ is_on_exit self.now ecb }
+    {
+        is_on_any(&self.config.exits, ecb)
+    }
+
     /// Whether there is an exit of this number, counted from 1, and it starts from this block.
     pub fn is_exit_of(&self, exit: u32, ecb: u32) -> bool
         ensures starts { result ≡ is_exit_of self.now exit ecb }
@@ -212,4 +229,18 @@ impl ValidConfig {
             given.posted_quota,
         )
     }
+}
+
+// Whether a block is the source or a target of one of these exits.
+fn is_on_any(exits: &[Exit], ecb: u32) -> bool
+    ensures { result ≡ list_any (λ x. exit_has (exit_of x) ecb) exits.now }
+{
+    exits.iter().any(|exit| exit.source == ecb || has_target(&exit.targets, ecb))
+}
+
+// Whether a block is one of these targets.
+fn has_target(targets: &[u32], ecb: u32) -> bool
+    ensures { result ≡ list_any (λ target. target == ecb) targets.now }
+{
+    targets.iter().any(|target| *target == ecb)
 }

@@ -1,5 +1,5 @@
-use Rattle.std.proofs.Common.{◌<◌, true, false, refl, sym, ap, ◌∙◌, subst}
-use Rattle.std.proofs.lemmas.Bool.{lt-ltb, not-false, not-true}
+use Rattle.std.proofs.Common.{nat_lt, true, false, refl, sym, ap, ◌∙◌}
+use Rattle.std.proofs.lemmas.Bool.{not-false, not-true}
 use Rattle.mv_latch.specs.declared.operation.LatchOp.TheVariants.{Obtain}
 use Rattle.mv_machine.specs.Kept.{keeps_quotas}
 use Rattle.mv_machine.specs.Setup.{Setup}
@@ -12,10 +12,10 @@ pub returns-then-posts_others_block-clause-refusal : goal.returns-then-posts_oth
 returns-then-posts_others_block-clause-refusal c = λ requestor mode.
     let s = c.args.station.now.config in
     let t = c.args.task.now in
-    let latches = ap (λ (x : Setup). x.latches) (c.config-2.ensures.given ∙ c.config.ensures) in
+    let latches = ap (λ (x : Setup). x.latches) c.config.ensures in
     sym (refusal_by s c.args.latch requestor mode c.args.form t.number t.log true false
     (keeps_quotas s (kept_of t.number t.log).requests c.args.form)
-    (lt-ltb c.args.latch s.latches (subst (λ n. c.args.latch < n) latches c.if-latch-config.false))
+    (sym (ap (nat_lt c.args.latch) latches) ∙ sym c.has_latch.ensures.there ∙ c.if-not-has_latch.false)
     (not-true (posts_own_ecb s t.number (Obtain c.args.latch requestor mode c.args.form))
     (sym (c.posts_others_block.ensures c.args.latch requestor mode) ∙ c.if-posts_others_block.true)) refl)
 
@@ -23,9 +23,9 @@ pub returns-then-is_over_quota-clause-refusal : goal.returns-then-is_over_quota-
 returns-then-is_over_quota-clause-refusal c = λ requestor mode.
     let s = c.args.station.now.config in
     let t = c.args.task.now in
-    let latches = ap (λ (x : Setup). x.latches) (c.config-2.ensures.given ∙ c.config.ensures) in
+    let latches = ap (λ (x : Setup). x.latches) c.config.ensures in
     sym (refusal_by s c.args.latch requestor mode c.args.form t.number t.log true true false
-    (lt-ltb c.args.latch s.latches (subst (λ n. c.args.latch < n) latches c.if-latch-config.false))
+    (sym (ap (nat_lt c.args.latch) latches) ∙ sym c.has_latch.ensures.there ∙ c.if-not-has_latch.false)
     (not-false (posts_own_ecb s t.number (Obtain c.args.latch requestor mode c.args.form))
     (sym (c.posts_others_block.ensures c.args.latch requestor mode) ∙ c.if-posts_others_block.false))
     (not-true (keeps_quotas s (kept_of t.number t.log).requests c.args.form)
@@ -35,9 +35,9 @@ pub returns-clause-refusal : goal.returns-clause-refusal
 returns-clause-refusal c = λ requestor mode.
     let s = c.args.station.now.config in
     let t = c.args.task.now in
-    let latches = ap (λ (x : Setup). x.latches) (c.config-2.ensures.given ∙ c.config.ensures) in
+    let latches = ap (λ (x : Setup). x.latches) c.config.ensures in
     sym (refusal_by s c.args.latch requestor mode c.args.form t.number t.log true true true
-    (lt-ltb c.args.latch s.latches (subst (λ n. c.args.latch < n) latches c.if-latch-config.false))
+    (sym (ap (nat_lt c.args.latch) latches) ∙ sym c.has_latch.ensures.there ∙ c.if-not-has_latch.false)
     (not-false (posts_own_ecb s t.number (Obtain c.args.latch requestor mode c.args.form))
     (sym (c.posts_others_block.ensures c.args.latch requestor mode) ∙ c.if-posts_others_block.false))
     (not-false (keeps_quotas s (kept_of t.number t.log).requests c.args.form)
