@@ -11,8 +11,6 @@ pub mod Pauses
 pub mod Obtains
 -- registering with sources
 pub mod Listening
--- tasks in a queue
-pub mod Queues
 -- the spool that is polled: the call of a need, from its first poll to its answer
 pub mod Calls
 -- a task that is polled, from one state to the next

@@ -6,7 +6,6 @@ pub mod Pausing
 pub mod Obtaining
 pub mod Futures
 pub mod WaitCall
-pub mod Running
 -- the call of what a task waits for
 pub mod Meeting
 -- a task, and all of them

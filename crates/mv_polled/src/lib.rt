@@ -22,10 +22,3 @@ pub use spool::run_polled;
 pub use turn::{Stage, Turn};
 pub use wait_future::WaitFuture;
 pub use waiting::WaitCall;
-
-#[cfg(test)]
-mod ring_tests;
-#[cfg(test)]
-mod spool_tests;
-#[cfg(test)]
-mod tests;

@@ -1,7 +1,7 @@
 use Rattle.std.proofs.Common.{◌≡◌, ◌<◌, ◌≤◌, sym, ap, subst, arith}
 use Rattle.mv_element.specs.declared.element.Token.{Token}
 use Rattle.mv_polled.proofs.Pauses.{pause_may_begin}
-use Rattle.mv_polled.proofs.tests.a_pause.Goals as goal
+use Rattle.mv_program.proofs.tests.polls.a_pause.Goals as goal
 
 pub returns-clause-stage : goal.returns-clause-stage
 returns-clause-stage g c =

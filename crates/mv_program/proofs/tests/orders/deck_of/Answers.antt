@@ -2,7 +2,7 @@ use Rattle.std.proofs.Common.{List, subst, sym}
 use Rattle.mv_deck.specs.Deck.{JobData}
 use Rattle.mv_deck.specs.Sound.{IsSound}
 use Rattle.mv_deck.proofs.Sounds.{sound}
-use Rattle.mv_polled.proofs.spool_tests.deck_of.Goals as goal
+use Rattle.mv_program.proofs.tests.orders.deck_of.Goals as goal
 
 pub returns : goal.returns
 returns c =

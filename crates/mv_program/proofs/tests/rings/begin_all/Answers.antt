@@ -1,7 +1,7 @@
-use Rattle.mv_polled.specs.Running.{MayGoOn}
-use Rattle.mv_polled.specs.declared.ring_tests.Runner.{Runner}
-use Rattle.mv_polled.proofs.Queues.{with_one}
-use Rattle.mv_polled.proofs.ring_tests.begin_all.Goals as goal
+use Rattle.mv_program.specs.Rings.{MayGoOn}
+use Rattle.mv_program.specs.declared.tests.rings.Runner.{Runner}
+use Rattle.mv_program.proofs.Rings.{with_one}
+use Rattle.mv_program.proofs.tests.rings.begin_all.Goals as goal
 
 pub loop-preserved : goal.loop-preserved
 loop-preserved g c = record {

@@ -10,7 +10,6 @@ ghost use Rattle.mv_polled.specs.Obtaining.{IsObtainAt};
 ghost use Rattle.mv_polled.specs.Pausing.{IsPauseAt};
 ghost use Rattle.mv_polled.specs.Waiting.{IsWaitAt};
 
-use super::*;
 use futures::executor::block_on;
 use futures::task::Source;
 use futures::test::MockTask;
@@ -20,6 +19,7 @@ use mv_latch::Mode;
 use mv_latchset::{LatchToken, Obtained, release_latch};
 use mv_machine::{Config, Op};
 use mv_pause::{Given, allocate, release};
+use mv_polled::{ObtainCall, PauseCall, PauseFuture, Turn, WaitCall, WaitFuture, rung};
 use mv_wait::{Station, Task, WaitSlot};
 use std::alloc::{AllocGlobal, Global};
 use std::process::Abort;

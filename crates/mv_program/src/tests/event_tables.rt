@@ -1,5 +1,5 @@
 //! What scripts can't show, since they keep all other calls from a table: what others did to it. What tables hand out, and posts and next
-//! events of tasks that wait for each other, run as scripts, in mv_program.
+//! events of tasks that wait for each other, run as scripts.
 
 ghost use Rattle.std.specs.Prelude.{◌≡◌, ◌<◌, length, IfOk};
 ghost use Rattle.mv_ecb.specs.Table.{code_limit};
@@ -7,7 +7,9 @@ ghost use Rattle.mv_board.specs.Faces.{IsFresh, IsOf};
 ghost use Rattle.mv_calls.specs.Rest.{IsAtRest};
 ghost use Rattle.mv_calls.specs.Table.{IsSoundTable};
 
-use super::*;
+use mv_events::{
+    Event, EventAnswer, NextRefusal, PostEventRefusal, Table, ValidTable, next_event, post_event,
+};
 use mv_machine::Config;
 use mv_wait::{Station, Task};
 use std::alloc::Global;

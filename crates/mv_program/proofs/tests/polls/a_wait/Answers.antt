@@ -1,5 +1,5 @@
 use Rattle.mv_polled.proofs.Waits.{wait_may_begin}
-use Rattle.mv_polled.proofs.tests.a_wait.Goals as goal
+use Rattle.mv_program.proofs.tests.polls.a_wait.Goals as goal
 
 pub returns-clause-stage : goal.returns-clause-stage
 returns-clause-stage c =

@@ -1,6 +1,6 @@
 use Rattle.mv_latch.specs.declared.request.Mode.TheVariants.{Exclusive}
 use Rattle.mv_polled.proofs.Obtains.{obtain_may_begin}
-use Rattle.mv_polled.proofs.tests.an_obtain.Goals as goal
+use Rattle.mv_program.proofs.tests.polls.an_obtain.Goals as goal
 
 pub returns : goal.returns
 returns c =

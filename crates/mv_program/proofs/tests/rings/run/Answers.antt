@@ -1,9 +1,9 @@
 use Rattle.std.proofs.Common.{sym, subst}
-use Rattle.mv_polled.specs.Running.{MayGoOn}
-use Rattle.mv_polled.specs.declared.ring_tests.Runner.{Runner}
-use Rattle.mv_polled.proofs.Queues.{with_one, without_first}
-use Rattle.mv_polled.proofs.ring_tests.run.Goals as goal
-use Rattle.mv_polled.proofs.ring_tests.run.Goals.{then-woken-number, else-woken-number}
+use Rattle.mv_program.specs.Rings.{MayGoOn}
+use Rattle.mv_program.specs.declared.tests.rings.Runner.{Runner}
+use Rattle.mv_program.proofs.Rings.{with_one, without_first}
+use Rattle.mv_program.proofs.tests.rings.run.Goals as goal
+use Rattle.mv_program.proofs.tests.rings.run.Goals.{then-woken-number, else-woken-number}
 
 pub loop-preserved : goal.loop-preserved
 loop-preserved g c =

@@ -1,7 +1,7 @@
 use Rattle.std.proofs.Common.{◌≡◌, ◌<◌, sym, ap, ◌∙◌, subst}
 use Rattle.mv_element.specs.declared.element.Token.{Token}
 use Rattle.mv_polled.proofs.Pauses.{pause_may_begin}
-use Rattle.mv_polled.proofs.ring_tests.pausing.Goals as goal
+use Rattle.mv_program.proofs.tests.rings.pausing.Goals as goal
 
 pub returns : goal.returns
 returns c =

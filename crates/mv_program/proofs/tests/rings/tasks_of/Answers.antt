@@ -1,8 +1,8 @@
 use Rattle.std.proofs.Common.{◌≡◌, length, arith}
-use Rattle.mv_polled.specs.Running.{MayGoOn}
-use Rattle.mv_polled.specs.declared.ring_tests.Runner.{Runner}
-use Rattle.mv_polled.proofs.Queues.{with_next, without_last}
-use Rattle.mv_polled.proofs.ring_tests.tasks_of.Goals as goal
+use Rattle.mv_program.specs.Rings.{MayGoOn}
+use Rattle.mv_program.specs.declared.tests.rings.Runner.{Runner}
+use Rattle.mv_program.proofs.Rings.{with_next, without_last}
+use Rattle.mv_program.proofs.tests.rings.tasks_of.Goals as goal
 
 pub loop-preserved : goal.loop-preserved
 loop-preserved g c =

@@ -1,8 +1,8 @@
 use Rattle.std.specs.List.{AllByRecursion}
 use Rattle.mv_board.specs.Faces.{AreFresh}
-use Rattle.mv_polled.specs.Running.{MayGoOn}
-use Rattle.mv_polled.specs.declared.ring_tests.Runner.{Runner}
-use Rattle.mv_polled.proofs.ring_tests.begin_all.Given as goal
+use Rattle.mv_program.specs.Rings.{MayGoOn}
+use Rattle.mv_program.specs.declared.tests.rings.Runner.{Runner}
+use Rattle.mv_program.proofs.tests.rings.begin_all.Given as goal
 
 abbrev pub invariant-loop : goal.invariant-loop
 invariant-loop g l = record {

@@ -7,13 +7,13 @@ ghost use Rattle.mv_machine.specs.Setup.{element_count};
 ghost use Rattle.mv_calls.specs.Rest.{IsAtRest};
 ghost use Rattle.mv_board.specs.Faces.{CallerFace, IsOf, AreFresh, AreInOrder};
 ghost use Rattle.mv_polled.specs.Pausing.{IsPauseAt};
-ghost use Rattle.mv_polled.specs.Running.{MayGoOn};
+ghost use Rattle.mv_program.specs.Rings.{MayGoOn};
 ghost use Rattle.mv_polled.specs.Waiting.{IsWaitAt};
 
-use super::*;
-use crate::tests::{a_wait, given, is_over, open, post, release_to, token};
+use super::polls::{a_wait, given, is_over, open, post, release_to, token};
 use mv_machine::{OpenLog, replay};
 use mv_pause::allocate;
+use mv_polled::{PauseCall, WaitCall, rung};
 use mv_wait::{Station, Task};
 use std::alloc::Global;
 use std::collections::VecDeque;

@@ -1,5 +1,5 @@
 use Rattle.mv_polled.proofs.Waits.{wait_goes_on}
-use Rattle.mv_polled.proofs.tests.is_over.Goals as goal
+use Rattle.mv_program.proofs.tests.polls.is_over.Goals as goal
 
 pub returns-in-Ready-clause-over : goal.returns-in-Ready-clause-over
 returns-in-Ready-clause-over g c = λ e. let at = c.requires.stage in (c.in-Ready.ensures.turn at.0 at.1).served.made.rest

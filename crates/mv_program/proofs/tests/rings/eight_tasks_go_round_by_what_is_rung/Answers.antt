@@ -2,7 +2,7 @@ use Rattle.std.proofs.Common.{◌≤◌, ◌∙◌, sym, subst}
 use Rattle.std.specs.List.{All}
 use Rattle.mv_machine.specs.declared.entry.Entry.{Entry}
 use Rattle.mv_machine.proofs.Longer.{entries_fit}
-use Rattle.mv_polled.proofs.ring_tests.eight_tasks_go_round_by_what_is_rung.Goals as goal
+use Rattle.mv_program.proofs.tests.rings.eight_tasks_go_round_by_what_is_rung.Goals as goal
 
 pub replay-requires : goal.replay-requires
 replay-requires g c = record {
