@@ -25,7 +25,7 @@ use mv_io::NoMemory;
 use mv_machine::ValidConfig;
 use mv_plan::spool_config;
 use mv_wait::{Station, Task};
-use mv_work::{Brought, Left, SpoolRun, SpoolWork, brought_by, spool_run};
+use mv_work::{Brought, InitiatorRecord, Left, SpoolRun, SpoolWork, brought_by, spool_run};
 use std::alloc::Global;
 use std::sync::Wait;
 
@@ -47,29 +47,46 @@ fn all_polled(
     Ok(polled)
 }
 
-// Room for what leaves the tasks, once they are finished.
+// Room for what leaves the tasks, once they are finished, and for what their works noted.
 #[derive(Drop)]
 struct Room {
     tasks: Vec<Task>,
     works: Vec<SpoolWork>,
+    records: Vec<InitiatorRecord>,
 }
 
-// The tasks and their works, each by itself.
-fn parted(polled: Vec<Polled>, room: Room) -> (Vec<Task>, Vec<SpoolWork>)
+// Room for so many tasks.
+fn room_for(alloc: Global, count: usize) -> Result<Room, NoMemory>
+    ensures tasks { IfOk result (λ room. (room.tasks.items ≡ []) × (count ≤ vec_capacity room.tasks)) }
+    ensures works { IfOk result (λ room. (room.works.items ≡ []) × (count ≤ vec_capacity room.works)) }
+    ensures records { IfOk result (λ room. (room.records.items ≡ []) × (count ≤ vec_capacity room.records)) }
+{
+    Ok(Room {
+        tasks: Vec::with_capacity(alloc, count)?,
+        works: Vec::with_capacity(alloc, count)?,
+        records: Vec::with_capacity(alloc, count)?,
+    })
+}
+
+// The tasks and their works, each by itself, and the room for what these noted.
+fn parted(polled: Vec<Polled>, room: Room) -> (Vec<Task>, Vec<SpoolWork>, Vec<InitiatorRecord>)
     requires tasks { (room.tasks.items ≡ []) × (length polled.items ≤ vec_capacity room.tasks) }
     requires works { (room.works.items ≡ []) × (length polled.items ≤ vec_capacity room.works) }
     ensures tasks { result.0.items ≡ map (λ p. p.task) polled.items }
     ensures works { result.1.items ≡ map (λ p. p.work) polled.items }
+    ensures records { result.2 ≡ room.records }
 {
-    let Room { tasks, works } = room;
-    let mut tasks = tasks;
-    let mut works = works;
+    let Room {
+        mut tasks,
+        mut works,
+        records,
+    } = room;
     for one in polled {
         let Polled { task, work, .. } = one;
         tasks.push_reserved(task);
         works.push_reserved(work);
     }
-    (tasks, works)
+    (tasks, works, records)
 }
 
 // How many tasks are unfinished.
@@ -169,15 +186,10 @@ fn run_tasks<R: Wait, O: Order>(
     ensures left { IfOk result (λ left. IsLeft (jobs_of deck.now) initiators left.closed left.brought) }
 {
     let (station, tasks) = Station::open(alloc, config)?;
-    let count = tasks.len();
-    let room = Room {
-        tasks: Vec::with_capacity(alloc, count)?,
-        works: Vec::with_capacity(alloc, count)?,
-    };
-    let records = Vec::with_capacity(alloc, count)?;
+    let room = room_for(alloc, tasks.len())?;
     let polled = all_polled(alloc, tasks, deck, initiators)?;
     let polled = poll_all(rt, &station, deck, initiators, order, polled);
-    let (tasks, works) = parted(polled, room);
+    let (tasks, works, records) = parted(polled, room);
     let closed = station.close(tasks);
     let brought: Brought = brought_by(works, records);
     Ok(Left { closed, brought })
