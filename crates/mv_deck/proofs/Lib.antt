@@ -1,5 +1,3 @@
--- the forms of lines
-pub mod Forms
 -- held latches
 pub mod Latches
 -- one more statement behind those that were read

@@ -61,18 +61,23 @@ abbrev pub return_of : Version → Option (List ℕ) → Option Statement
 return_of One operand = None
 return_of Two operand = option_map ReturnOf operand
 
+-- an operation that has one operand
+abbrev pub single : Version → List ℕ → Option (List ℕ) → Option Statement
+single v operation operand =
+    if bytes_eq operation (codes "FREE") then option_map FreeOf operand
+    else if bytes_eq operation (codes "SCAN") then option_map ScanOf operand
+    else if bytes_eq operation (codes "ABEND") then option_map AbendOf operand
+    else if bytes_eq operation (codes "RETURN") then return_of v operand
+    else if bytes_eq operation (codes "DECK") then option_map DeckOf operand
+    else None
+
 -- An operation and its operands. The text of PRINT is all that follows the operation and one space.
 abbrev pub operated : Version → List ℕ → List ℕ → List (List ℕ) → Option Statement
 operated v rest operation operands =
     if bytes_eq operation (codes "PRINT") then Some (PrintOf (drop 6 (without_first_spaces rest)))
     else if bytes_eq operation (codes "USE") then use_of (two_of operands)
-    else if bytes_eq operation (codes "FREE") then option_map FreeOf (one_of operands)
     else if bytes_eq operation (codes "COUNT") then option_map (λ (o : List ℕ × List ℕ). CountOf o.0 o.1) (two_of operands)
-    else if bytes_eq operation (codes "SCAN") then option_map ScanOf (one_of operands)
-    else if bytes_eq operation (codes "ABEND") then option_map AbendOf (one_of operands)
-    else if bytes_eq operation (codes "RETURN") then return_of v (one_of operands)
-    else if bytes_eq operation (codes "DECK") then option_map DeckOf (one_of operands)
-    else None
+    else single v operation (one_of operands)
 
 -- the statement of a line without a name, by its first field
 abbrev pub operation_of : Version → List ℕ → List (List ℕ) → Option Statement

@@ -1,18 +1,19 @@
 //! The form of a line, by its words (`specs/Form.antt`, `specs/Statement.antt`).
 
-ghost use Rattle.std.specs.Prelude.{◌≡◌, drop, map, option_map, IfOk};
+ghost use Rattle.std.specs.Prelude.{◌≡◌, Some, drop, map, option_map, IfOk};
 ghost use Rattle.mv_deck.specs.Form.{stated, part_data, listed};
 ghost use Rattle.mv_line.specs.Line.{lines_of, without_first_spaces as from_first_field};
 ghost use Rattle.mv_line.specs.Field.{fields_of, one_of, two_of};
 ghost use Rattle.mv_deck.specs.Statement.{form_of as form_by_words, job_of as named, operation_of as unnamed};
-ghost use Rattle.mv_deck.specs.Statement.{use_of as used, return_of as returns_by, part_of as cut, declared_by};
+ghost use Rattle.mv_deck.specs.Statement.{use_of as used, return_of as returns_by, single as of_one, part_of as cut, declared_by};
 ghost use Rattle.mv_deck.specs.Statement.{version_of as version_by_lines};
 
 use crate::line::{is_comment, split_colon};
 use crate::operand::mode;
 use mv_latch::Mode;
 use mv_line::{
-    one_field, shown, split_field, split_line, split_part, two_fields, without_first_spaces,
+    is_word, one_field, shown, split_field, split_line, split_part, two_fields,
+    without_first_spaces,
 };
 use std::alloc::{AllocError, Global};
 
@@ -64,7 +65,7 @@ fn job_of(rest: &[u8]) -> Option<Form<'_>>
 {
     let (name, behind) = split_field(rest);
     let (operation, behind) = split_field(behind);
-    if name.is_empty() || operation != b"JOB".as_slice() {
+    if name.is_empty() || !is_word(operation, b"JOB") {
         return None;
     }
     let (third, behind) = split_field(behind);
@@ -84,41 +85,48 @@ fn operation_of(version: Version, rest: &[u8]) -> Option<Form<'_>>
     ensures { option_map (stated version) result ≡ unnamed version rest.now (fields_of rest.now) }
 {
     let (operation, operands) = split_field(rest);
-    if operation == b"PRINT".as_slice() {
+    if is_word(operation, b"PRINT") {
         return Some(Form::Print(printed(rest)));
     }
-    if operation == b"USE".as_slice() {
+    if is_word(operation, b"USE") {
         return use_of(operands);
     }
-    if operation == b"FREE".as_slice() {
-        return Some(Form::Free(one_field(operands)?));
-    }
-    if operation == b"COUNT".as_slice() {
+    if is_word(operation, b"COUNT") {
         let (volume, amount) = two_fields(operands)?;
         return Some(Form::Count(volume, amount));
     }
-    if operation == b"SCAN".as_slice() {
-        return Some(Form::Scan(one_field(operands)?));
+    single(version, operation, one_field(operands)?)
+}
+
+// An operation that has one operand.
+fn single<'a>(version: Version, operation: &[u8], operand: &'a [u8]) -> Option<Form<'a>>
+    ensures { option_map (stated version) result ≡ of_one version operation.now (Some operand.now) }
+{
+    if is_word(operation, b"FREE") {
+        return Some(Form::Free(operand));
     }
-    if operation == b"ABEND".as_slice() {
-        return Some(Form::Abend(one_field(operands)?));
+    if is_word(operation, b"SCAN") {
+        return Some(Form::Scan(operand));
     }
-    if operation == b"RETURN".as_slice() {
-        return return_of(version, operands);
+    if is_word(operation, b"ABEND") {
+        return Some(Form::Abend(operand));
     }
-    if operation == b"DECK".as_slice() {
-        return Some(Form::Deck(one_field(operands)?));
+    if is_word(operation, b"RETURN") {
+        return return_of(version, operand);
+    }
+    if is_word(operation, b"DECK") {
+        return Some(Form::Deck(operand));
     }
     None
 }
 
 // A return code; RETURN is a form of version 2 alone.
-fn return_of(version: Version, operands: &[u8]) -> Option<Form<'_>>
-    ensures { (v : Version) → option_map (stated v) result ≡ returns_by version (one_of (fields_of operands.now)) }
+fn return_of(version: Version, operand: &[u8]) -> Option<Form<'_>>
+    ensures { option_map (stated version) result ≡ returns_by version (Some operand.now) }
 {
     match version {
         Version::One => None,
-        Version::Two => Some(Form::Return(one_field(operands)?)),
+        Version::Two => Some(Form::Return(operand)),
     }
 }
 

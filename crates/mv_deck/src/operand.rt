@@ -8,7 +8,7 @@ ghost use Rattle.mv_deck.specs.Operand.{code_of, mode_of, user_code_of, system_c
 
 use crate::end_code::{HIGHEST_CODE, LOWEST_ABEND, USER_CODES};
 use mv_latch::Mode;
-use mv_line::{digit, number_within};
+use mv_line::{digit, is_word, number_within};
 
 /// How many volumes there are, each guarded by the latch of its number.
 pub const VOLUME_COUNT: usize = 8;
@@ -81,10 +81,10 @@ pub(crate) fn code(text: &[u8]) -> Option<u32>
 pub(crate) fn mode(text: &[u8]) -> Option<Mode>
     ensures { result ≡ mode_of text.now }
 {
-    if text == b"S".as_slice() {
+    if is_word(text, b"S") {
         return Some(Mode::Shared);
     }
-    if text == b"X".as_slice() {
+    if is_word(text, b"X") {
         return Some(Mode::Exclusive);
     }
     None

@@ -23,7 +23,7 @@ use crate::operand::{MOST_AFTER, amount, code, end_code, is_name, latch};
 use crate::parts::{has_bad_code, has_bad_name, has_double};
 use crate::weight::{HEAVIEST, step_events};
 use crate::{After, Deck, DeckRefusal, Job, Name, Step, Text};
-use mv_line::{LineReader, LineRefusal, is_foreign, is_too_long, read_lines, shown};
+use mv_line::{LineReader, LineRefusal, is_foreign, is_too_long, is_word, read_lines, shown};
 use std::alloc::{AllocError, Global};
 
 /// Reads a deck for a spool of so many initiators, 1 to 8.
@@ -211,7 +211,7 @@ impl<'a> Reading<'a> {
             (λ _. (kinds_of_statement n earlier (Some (DeckOf word.now)) ≡ []) × IsBehind n v (earlier ++ DeckOf word.now ∷ []) self.new)
             (λ e. TellsLowest kind_number e (kinds_of_statement n earlier (Some (DeckOf word.now)))) }
     {
-        if word != b"2".as_slice() {
+        if !is_word(word, b"2") {
             return Err(LineRefusal::Has(Kind::BadNumber));
         }
         if self.ended {

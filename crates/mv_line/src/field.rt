@@ -2,6 +2,7 @@
 
 ghost use Rattle.std.specs.Prelude.{◌≡◌, List, ℕ, option_map};
 ghost use Rattle.std.specs.Borrow.{Bor};
+ghost use Rattle.std.specs.Str.{bytes_eq};
 ghost use Rattle.mv_line.specs.Field.{fields_of, behind_first_field, starts_fields, one_of, two_of};
 
 use crate::byte::end_at;
@@ -38,4 +39,11 @@ pub fn two_fields(text: &[u8]) -> Option<(&[u8], &[u8])>
         return None;
     }
     Some((first, second))
+}
+
+/// Whether a word is this one.
+pub fn is_word(word: &[u8], other: &[u8]) -> bool
+    ensures { result ≡ bytes_eq word.now other.now }
+{
+    word == other
 }

@@ -12,7 +12,7 @@ mod reading;
 
 pub use byte::{digit, end_at, first_place, has_foreign_byte};
 pub use fault::{FaultKind, LineRefusal, TextFault, TextRefusal};
-pub use field::{one_field, split_field, two_fields};
+pub use field::{is_word, one_field, split_field, two_fields};
 pub use line::{
     LONGEST_LINE, begins_with_space, is_foreign, is_too_long, shown, split_line, without_cr,
     without_first_spaces, without_last_spaces,

@@ -20,10 +20,12 @@ use crate::operand::{
     event_position, latch, mode, place, release_code, requestor, token, token_or_none, volume,
 };
 use crate::statement::ecbs;
-use crate::words::{Misread, both, field_count, no_field, one_word, three_words, two_words, worse};
+use crate::words::{
+    Misread, both, field_count, no_field, one_word, three_words, two_words, with_others,
+};
 use mv_element::Token;
 use mv_latch::LatchForm;
-use mv_line::{LineRefusal, split_field};
+use mv_line::{LineRefusal, is_word, split_field};
 use std::alloc::Global;
 
 /// A WAIT, by the words behind it: a count and up to eight blocks.
@@ -34,12 +36,8 @@ pub(crate) fn wait(alloc: Global, sizes: Sizes, words: &[u8]) -> Result<Call, Li
     if count_word.is_empty() || field_count(rest) > MOST_WAITED {
         return Err(LineRefusal::Has(Kind::NoForm));
     }
-    match (count(count_word), ecbs(alloc, sizes, rest)?) {
-        (Ok(count), Ok(ecbs)) => Ok(Call::Wait { count, ecbs }),
-        (Ok(_), Err(why)) => Err(why)?,
-        (Err(why), Ok(_)) => Err(why)?,
-        (Err(why), Err(other)) => Err(worse(why, other))?,
-    }
+    let (count, ecbs) = with_others(count(count_word), ecbs(alloc, sizes, rest)?)?;
+    Ok(Call::Wait { count, ecbs })
 }
 
 /// A call but WAIT, by its word and those behind it: on blocks and volumes, or another one.
@@ -47,25 +45,25 @@ pub(crate) fn other_call(sizes: Sizes, word: &[u8], words: &[u8]) -> Result<Call
     requires { sizes.tasks ≤ most_tasks }
     ensures { result ≡ other_read sizes word.now (fields_of words.now) }
 {
-    if word == b"POST".as_slice() {
+    if is_word(word, b"POST") {
         return post(sizes, words);
     }
-    if word == b"TRYPOST".as_slice() {
+    if is_word(word, b"TRYPOST") {
         return try_post(sizes, words);
     }
-    if word == b"CLEAR".as_slice() {
+    if is_word(word, b"CLEAR") {
         return Ok(Call::Clear(one_ecb(sizes, words)?));
     }
-    if word == b"EXTEND".as_slice() {
+    if is_word(word, b"EXTEND") {
         return extend(sizes, words);
     }
-    if word == b"TEST".as_slice() {
+    if is_word(word, b"TEST") {
         return Ok(Call::Test(one_ecb(sizes, words)?));
     }
-    if word == b"READ".as_slice() {
+    if is_word(word, b"READ") {
         return read(words);
     }
-    if word == b"WRITE".as_slice() {
+    if is_word(word, b"WRITE") {
         return write(words);
     }
     element_call(sizes, word, words)
@@ -76,26 +74,26 @@ fn element_call(sizes: Sizes, word: &[u8], words: &[u8]) -> Result<Call, Misread
     requires { sizes.tasks ≤ most_tasks }
     ensures { result ≡ element_read sizes word.now (fields_of words.now) }
 {
-    if word == b"ALLOC".as_slice() {
+    if is_word(word, b"ALLOC") {
         no_field(words)?;
         return Ok(Call::Alloc);
     }
-    if word == b"PAUSE".as_slice() {
+    if is_word(word, b"PAUSE") {
         return Ok(Call::Pause(one_token(sizes, words)?));
     }
-    if word == b"RELEASE".as_slice() {
+    if is_word(word, b"RELEASE") {
         return release(sizes, words);
     }
-    if word == b"TRYRELEASE".as_slice() {
+    if is_word(word, b"TRYRELEASE") {
         return try_release(sizes, words);
     }
-    if word == b"TRANSFER".as_slice() {
+    if is_word(word, b"TRANSFER") {
         return transfer(sizes, words);
     }
-    if word == b"DEALLOC".as_slice() {
+    if is_word(word, b"DEALLOC") {
         return Ok(Call::Dealloc(one_token(sizes, words)?));
     }
-    if word == b"TESTP".as_slice() {
+    if is_word(word, b"TESTP") {
         return test_element(sizes, words);
     }
     latch_call(sizes, word, words)
@@ -105,19 +103,19 @@ fn element_call(sizes: Sizes, word: &[u8], words: &[u8]) -> Result<Call, Misread
 fn latch_call(sizes: Sizes, word: &[u8], words: &[u8]) -> Result<Call, Misread>
     ensures { result ≡ latch_read sizes word.now (fields_of words.now) }
 {
-    if word == b"OBTAIN".as_slice() {
+    if is_word(word, b"OBTAIN") {
         return obtain(sizes, words);
     }
-    if word == b"CHECK".as_slice() {
+    if is_word(word, b"CHECK") {
         return check(words);
     }
-    if word == b"FREE".as_slice() {
+    if is_word(word, b"FREE") {
         return free(words);
     }
-    if word == b"PURGE".as_slice() {
+    if is_word(word, b"PURGE") {
         return purge(words);
     }
-    if word == b"EOT".as_slice() {
+    if is_word(word, b"EOT") {
         return end_task(sizes, words);
     }
     table_call(sizes, word, words)
@@ -127,10 +125,10 @@ fn latch_call(sizes: Sizes, word: &[u8], words: &[u8]) -> Result<Call, Misread>
 fn table_call(sizes: Sizes, word: &[u8], words: &[u8]) -> Result<Call, Misread>
     ensures { result ≡ table_read sizes word.now (fields_of words.now) }
 {
-    if word == b"EVPOST".as_slice() {
+    if is_word(word, b"EVPOST") {
         return post_event(sizes, words);
     }
-    if word == b"EVNEXT".as_slice() {
+    if is_word(word, b"EVNEXT") {
         return Ok(Call::NextEvent(event_position(sizes, one_word(words)?)?));
     }
     Err(Misread::NoForm)
@@ -262,14 +260,14 @@ fn form(sizes: Sizes, words: &[u8]) -> Result<LatchForm, Misread>
     ensures { result ≡ form_read sizes (fields_of words.now) }
 {
     let (word, rest) = split_field(words);
-    if word == b"ECB".as_slice() {
+    if is_word(word, b"ECB") {
         return Ok(LatchForm::Posted(one_ecb(sizes, rest)?));
     }
     no_field(rest)?;
-    if word == b"COND".as_slice() {
+    if is_word(word, b"COND") {
         return Ok(LatchForm::Conditional);
     }
-    if word == b"WAIT".as_slice() {
+    if is_word(word, b"WAIT") {
         return Ok(LatchForm::Waiting);
     }
     Err(Misread::NoForm)

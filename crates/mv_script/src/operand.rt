@@ -19,7 +19,7 @@ use mv_calls::Table;
 use mv_ecb::CODE_LIMIT;
 use mv_element::{RELEASE_LIMIT, Token};
 use mv_latch::Mode;
-use mv_line::{first_place, is_digits, wide_number_within};
+use mv_line::{first_place, is_digits, is_word, wide_number_within};
 use mv_machine::{HIGHEST_GENERATION, HIGHEST_PLACE};
 
 /// How many tasks and event control blocks a script has so far, and its table of events, if it has one: what its lines may name.
@@ -194,7 +194,7 @@ pub(crate) fn token_or_none(sizes: Sizes, word: &[u8]) -> Result<Option<Token>, 
     requires { sizes.tasks ≤ most_tasks }
     ensures { result ≡ or_hyphen (reads_token sizes) word.now }
 {
-    if word == b"-".as_slice() {
+    if is_word(word, b"-") {
         return Ok(None);
     }
     Ok(Some(token(sizes, word)?))
@@ -204,7 +204,7 @@ pub(crate) fn token_or_none(sizes: Sizes, word: &[u8]) -> Result<Option<Token>, 
 pub(crate) fn ecb_or_none(sizes: Sizes, word: &[u8]) -> Result<Option<u32>, Misread>
     ensures { result ≡ or_hyphen (reads_ecb sizes) word.now }
 {
-    if word == b"-".as_slice() {
+    if is_word(word, b"-") {
         return Ok(None);
     }
     Ok(Some(ecb(sizes, word)?))
@@ -214,10 +214,10 @@ pub(crate) fn ecb_or_none(sizes: Sizes, word: &[u8]) -> Result<Option<u32>, Misr
 pub(crate) fn mode(word: &[u8]) -> Result<Mode, Misread>
     ensures { result ≡ reads_mode word.now }
 {
-    if word == b"S".as_slice() {
+    if is_word(word, b"S") {
         return Ok(Mode::Shared);
     }
-    if word == b"X".as_slice() {
+    if is_word(word, b"X") {
         return Ok(Mode::Exclusive);
     }
     Err(Misread::NoForm)
@@ -227,10 +227,10 @@ pub(crate) fn mode(word: &[u8]) -> Result<Mode, Misread>
 pub(crate) fn conditional(word: &[u8]) -> Result<bool, Misread>
     ensures { result ≡ reads_conditional word.now }
 {
-    if word == b"C".as_slice() {
+    if is_word(word, b"C") {
         return Ok(true);
     }
-    if word == b"U".as_slice() {
+    if is_word(word, b"U") {
         return Ok(false);
     }
     Err(Misread::NoForm)

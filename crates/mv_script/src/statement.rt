@@ -4,7 +4,7 @@ ghost use Rattle.std.specs.Prelude.{◌≡◌, ◌≤◌, IfOk};
 ghost use Rattle.mv_line.specs.Field.{fields_of};
 ghost use Rattle.mv_script.specs.Limits.{most_tasks};
 ghost use Rattle.mv_script.specs.Misread.{IsReadAs};
-ghost use Rattle.mv_script.specs.Statement.{exit as exit_read, table as table_read, stated, text_states};
+ghost use Rattle.mv_script.specs.Statement.{exit as exit_read, table as table_read, behind_head, stated, text_states};
 ghost use Rattle.mv_script.specs.Words.{each, three};
 ghost use Rattle.mv_script.specs.Operand.{ecb as ecb_read, table_size};
 
@@ -14,9 +14,11 @@ use crate::fault::Kind;
 use crate::limits::MOST_TARGETS;
 use crate::numbers::Numbers;
 use crate::operand::{Sizes, ecb, latch, table_size as read_table_size, task, task_count, volume};
-use crate::words::{Misread, both, field_count, no_field, one_word, three_words, worse, worsened};
+use crate::words::{
+    Misread, both, field_count, no_field, one_word, three_words, with_others, worsened,
+};
 use mv_calls::Table;
-use mv_line::{LineRefusal, begins_with_space, split_field};
+use mv_line::{LineRefusal, begins_with_space, is_word, split_field};
 use std::alloc::{AllocError, Global};
 
 /// What a line states.
@@ -67,27 +69,40 @@ fn line_of(
     requires { sizes.tasks ≤ most_tasks }
     ensures { IsReadAs result (stated sizes word.now (fields_of words.now)) }
 {
-    if word == b"SCRIPT".as_slice() {
+    if is_word(word, b"SCRIPT") {
         return Ok(Statement::Script(task_count(one_word(words)?)?));
     }
-    if word == b"ECB".as_slice() {
+    if is_word(word, b"ECB") {
         return Ok(Statement::Ecb(task(sizes, one_word(words)?)?));
     }
-    if word == b"EXIT".as_slice() {
+    if is_word(word, b"EXIT") {
         return exit(alloc, sizes, words);
     }
-    if word == b"TABLE".as_slice() {
+    if is_word(word, b"TABLE") {
         return Ok(Statement::Table(table(sizes, words)?));
     }
-    if word == b"TASK".as_slice() {
+    line_behind_head(alloc, sizes, word, words)
+}
+
+// What a line behind the head with this first word states: a task, a call or the end.
+fn line_behind_head(
+    alloc: Global,
+    sizes: Sizes,
+    word: &[u8],
+    words: &[u8],
+) -> Result<Statement, LineRefusal<Kind>>
+    requires { sizes.tasks ≤ most_tasks }
+    ensures { IsReadAs result (behind_head sizes word.now (fields_of words.now)) }
+{
+    if is_word(word, b"TASK") {
         no_field(words)?;
         return Ok(Statement::Task);
     }
-    if word == b"END".as_slice() {
+    if is_word(word, b"END") {
         no_field(words)?;
         return Ok(Statement::End);
     }
-    if word == b"WAIT".as_slice() {
+    if is_word(word, b"WAIT") {
         return Ok(Statement::Call(wait(alloc, sizes, words)?));
     }
     Ok(Statement::Call(other_call(sizes, word, words)?))
@@ -102,12 +117,8 @@ fn exit(alloc: Global, sizes: Sizes, words: &[u8]) -> Result<Statement, LineRefu
     if source_word.is_empty() || targets < 1 || targets > MOST_TARGETS {
         return Err(LineRefusal::Has(Kind::NoForm));
     }
-    match (ecb(sizes, source_word), ecbs(alloc, sizes, rest)?) {
-        (Ok(source), Ok(targets)) => Ok(Statement::Exit { source, targets }),
-        (Ok(_), Err(why)) => Err(why)?,
-        (Err(why), Ok(_)) => Err(why)?,
-        (Err(why), Err(other)) => Err(worse(why, other))?,
-    }
+    let (source, targets) = with_others(ecb(sizes, source_word), ecbs(alloc, sizes, rest)?)?;
+    Ok(Statement::Exit { source, targets })
 }
 
 // Its owner, latch and volume; its first event, its first slot, and how many of each it has.
