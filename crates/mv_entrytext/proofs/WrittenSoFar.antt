@@ -132,11 +132,8 @@ cut_so_far first now c past coming whole split cut =
     subst (λ (xs : List ℕ). AppendsFront first now xs) (sym on.1 ∙ ap (λ (es : List Entry). journal_text c es) split)
     (cut_longer first now (text_up_to c past) on.0 cut)
 
--- and with the last line all of it is there
-pub all_written : (old now : Option (List ℕ)) (c : Setup) (past coming whole : List Entry) (n : ℕ) (piece last text : List ℕ)
-    → past ++ coming ≡ whole → coming ≡ [] → n ≡ length past → journal_text c whole ≡ text → last ≡ piece ++ line (End n)
-    → IsWrittenSoFar old now piece (text_up_to c past) → IsWrittenSoFar old now last text
-all_written old now c past coming whole n piece last text split none count is more p =
-    subst (λ (xs : List ℕ). IsWrittenSoFar old now last xs)
-    (ap (λ (k : ℕ). text_up_to c past ++ line (End k)) count ∙ text_over c whole past coming split none ∙ is)
-    (written_more old now piece last (text_up_to c past) (line (End n)) more p)
+-- and with the last line it is the whole
+pub all_there : (c : Setup) (past coming whole : List Entry) (n : ℕ) (text : List ℕ)
+    → past ++ coming ≡ whole → coming ≡ [] → n ≡ length past → journal_text c whole ≡ text → text_up_to c past ++ line (End n) ≡ text
+all_there c past coming whole n text split none count is =
+    ap (λ (k : ℕ). text_up_to c past ++ line (End k)) count ∙ text_over c whole past coming split none ∙ is

@@ -1,16 +1,18 @@
 //! The journal of a run, made and written piece by piece: `specs/HistoryText.antt`.
 
-ghost use Rattle.std.specs.Prelude.{◌≡◌, ◌≤◌, ◌<◌, ◌+◌, ◌^◌, [], ℕ, List, length, All, IfOk, OnOk, OnErr, vec_len, vec_capacity};
+ghost use Rattle.std.specs.Prelude.{◌≡◌, ◌≤◌, ◌<◌, ◌+◌, ◌^◌, ◌++◌, [], ℕ, List, length, All, IfOk, OnOk, OnErr, vec_len, vec_capacity};
 ghost use Rattle.std.specs.declared.option.Option.{Option as AnyOption};
 ghost use Rattle.mv_io.specs.Fault.{Rose};
 ghost use Rattle.mv_io.specs.Sink.{Appends, AppendsFront};
 ghost use Rattle.mv_machine.specs.Legal.{Legal};
 ghost use Rattle.mv_machine.specs.Limits.{events_limit};
+ghost use Rattle.mv_calls.specs.Counters.{HasCounted};
 ghost use Rattle.mv_entrytext.specs.EntryText.{IsTyped};
 ghost use Rattle.mv_entrytext.specs.Fault.{HasJournal};
 ghost use Rattle.mv_entrytext.specs.HistoryText.{piece_size, IsWrittenSoFar};
-ghost use Rattle.mv_entrytext.specs.Journal.{journal_text};
+ghost use Rattle.mv_entrytext.specs.Journal.{End, head_text, journal_text, line};
 ghost use Rattle.mv_entrytext.specs.Widths.{line_width};
+ghost use Rattle.mv_entrytext.specs.declared.version.Version.TheVariants.{Two};
 
 use crate::reserved::LINE_WIDTH;
 use crate::typed::tell_history;
@@ -18,7 +20,7 @@ use crate::version::Version;
 use crate::writing::{push_head, put_end_line, put_entry_line};
 use mv_calls::CallCounters;
 use mv_io::{Failed, NoMemory, Sink, write_all};
-use mv_machine::History;
+use mv_machine::{History, ValidConfig};
 use std::alloc::Global;
 use std::marker::Model;
 
@@ -86,6 +88,35 @@ fn make_room<K: Sink>(journal: &mut K, piece: &mut Vec<u8>) -> Result<(), Failed
     write_piece(journal, piece)
 }
 
+// The last line, and what is left of the text.
+#[inline(always)]
+fn write_end<K: Sink>(journal: &mut K, rest: &mut Vec<u8>, count: u64) -> Result<(), Failed>
+    requires size { piece_size ≤ vec_capacity rest.old }
+    ensures whole { (first : AnyOption (List ℕ)) (text : List ℕ) → IsWrittenSoFar first (K.taken journal.old) rest.old.items text
+        → OnOk result (Appends first (K.taken journal.new) (text ++ line (End count))) }
+    ensures cut { (first : AnyOption (List ℕ)) (text : List ℕ) → IsWrittenSoFar first (K.taken journal.old) rest.old.items text
+        → OnErr result (AppendsFront first (K.taken journal.new) (text ++ line (End count))) }
+    ensures failed { OnErr result (Rose (K.faults journal.old) (K.faults journal.new)) }
+    ensures count { K.faults journal.old ≤ K.faults journal.new }
+{
+    make_room(journal, rest)?;
+    put_end_line(rest, count);
+    write_piece(journal, rest)
+}
+
+// The first piece, which is the head in room for any other, and the counters.
+fn first_piece(alloc: Global, config: &ValidConfig) -> Result<(Vec<u8>, CallCounters), NoMemory>
+    ensures head { IfOk result (λ x. x.0.items ≡ head_text Two config.now) }
+    ensures room { IfOk result (λ x. piece_size ≤ vec_capacity x.0) }
+    ensures counted { IfOk result (λ x. HasCounted config.now [] x.1) }
+{
+    let mut piece = Vec::new(alloc);
+    push_head(&mut piece, Version::Two, config.config())?;
+    piece.reserve(PIECE)?;
+    let counters = CallCounters::open(alloc, config)?;
+    Ok((piece, counters))
+}
+
 impl HistoryText {
     /// All memory is taken here: that of a piece and of the head, and of the counters of calls. It takes time linear in the history's
     /// length: each entry is looked at once, for what its types say.
@@ -105,10 +136,7 @@ impl HistoryText {
         // Where there are no more than a run may have, the text reads back.
         ensures readable { length history.coming ≤ events_limit → OnOk result (HasJournal history.config history.coming) }
     {
-        let mut piece = Vec::new(alloc);
-        push_head(&mut piece, Version::Two, history.config().config())?;
-        piece.reserve(PIECE)?;
-        let counters = CallCounters::open(alloc, history.config())?;
+        let (piece, counters) = first_piece(alloc, history.config())?;
         tell_history(&history);
         Ok(HistoryText {
             history,
@@ -142,8 +170,6 @@ impl HistoryText {
             put_entry_line(&mut piece, Some(call), &entry);
             count += 1;
         }
-        make_room(journal, &mut piece)?;
-        put_end_line(&mut piece, count);
-        write_piece(journal, &mut piece)
+        write_end(journal, &mut piece, count)
     }
 }

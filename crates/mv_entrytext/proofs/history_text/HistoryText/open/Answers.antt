@@ -10,5 +10,5 @@ pub returns-clause-readable : goal.returns-clause-readable
 returns-clause-readable c = λ few.
     let config = c.args.history.config in
     let es = c.args.history.coming in
-    let valid : IsValid config = subst (λ (x : Setup). IsValid x) c.config-3.ensures c.in_ok-counters.ensures.valid in
+    let valid : IsValid config = subst (λ (x : Setup). IsValid x) c.config.ensures c.in_ok-piece.ensures.counted.valid in
     legal_journal config es valid c.requires.legal (entries_fit config es c.requires.legal few) c.tell_history.ensures (omega (arith, few))

@@ -1,7 +1,8 @@
 -- Each entry that is given is numbered, and its line is put behind the others.
 use Rattle.std.proofs.Common.{ℕ, List, [], ◌∷◌, ◌++◌, length, Some, subst, refl, sym, ap, ◌∙◌, arith}
 use Rattle.std.proofs.lemmas.List.{length-append}
-use Rattle.mv_io.specs.Sink.{AppendsFront}
+use Rattle.std.specs.Prelude.{OnOk, OnErr}
+use Rattle.mv_io.specs.Sink.{Appends, AppendsFront}
 use Rattle.mv_machine.specs.declared.entry.Entry.{Entry}
 use Rattle.mv_machine.specs.History.{IsGiven}
 use Rattle.mv_machine.specs.Setup.{Setup}
@@ -9,7 +10,7 @@ use Rattle.mv_calls.specs.Counters.{HasCounted, IsCountable, IsCountedNext}
 use Rattle.mv_entrytext.specs.HistoryText.{IsWrittenSoFar, text_up_to}
 use Rattle.mv_entrytext.specs.Journal.{EntryOf, line}
 use Rattle.mv_entrytext.proofs.OnePass.{given_countable, shorter_so_far, split_there}
-use Rattle.mv_entrytext.proofs.WrittenSoFar.{all_written, cut_so_far, head_waits, if_refused, written_more, written_out, text_line_more}
+use Rattle.mv_entrytext.proofs.WrittenSoFar.{all_there, cut_so_far, head_waits, if_refused, written_more, text_line_more}
 use Rattle.mv_entrytext.proofs.history_text.HistoryText.write.Goals as goal
 
 pub loop-entry-init : goal.loop-entry-init
@@ -96,31 +97,17 @@ loop-entry-preserved g c =
       faults = omega (arith, known.faults, c.in_ok-make_room.ensures.count);
     }
 
-pub returns-in_err-make_room-2-clause-cut : goal.returns-in_err-make_room-2-clause-cut
-returns-in_err-make_room-2-clause-cut g c =
-    let x = c.self.inside in
-    let h = c.loop-entry.history in
-    let known = c.loop-entry.invariant in
-    let old = g.K.Sink.taken c.args.journal.now in
-    let now = g.K.Sink.taken c.make_room-2.new.journal in
-    if_refused c.from_residual-in_err-make_room-2.result
-    (subst (λ (text : List ℕ). AppendsFront old now text) c.self.view_is
-    (cut_so_far old now x.history.config h.past h.coming x.history.coming known.whole
-    (c.in_err-make_room-2.ensures.cut old (text_up_to x.history.config h.past) known.written)))
-
--- the text is whole, in what was taken and the last piece
+-- the text is whole with the end's line
 pub returns-clause-whole : goal.returns-clause-whole
 returns-clause-whole g c =
     let x = c.self.inside in
     let h = c.loop-entry.history in
     let known = c.loop-entry.invariant in
     let old = g.K.Sink.taken c.args.journal.now in
-    let now = g.K.Sink.taken c.make_room-2.new.journal in
-    written_out c.write_piece.result old (g.K.Sink.taken c.write_piece.new.journal) c.write_piece.new.piece.items c.args.self
-    (c.write_piece.ensures.written old c.args.self
-    (all_written old now x.history.config h.past h.coming x.history.coming c.loop-entry.count c.make_room-2.new.piece.items
-    c.put_end_line.new.out.items c.args.self known.whole c.in_default.ensures.0 known.count c.self.view_is c.put_end_line.ensures.text
-    (c.in_ok-make_room-2.ensures.written old (text_up_to x.history.config h.past) known.written))) c.write_piece.ensures.empty
+    let now = g.K.Sink.taken c.write_end.new.journal in
+    subst (λ (text : List ℕ). OnOk c.write_end.result (Appends old now text))
+    (all_there x.history.config h.past h.coming x.history.coming c.loop-entry.count c.args.self known.whole c.in_default.ensures.0 known.count
+    c.self.view_is) (c.write_end.ensures.whole old (text_up_to x.history.config h.past) known.written)
 
 pub returns-clause-cut : goal.returns-clause-cut
 returns-clause-cut g c =
@@ -128,8 +115,7 @@ returns-clause-cut g c =
     let h = c.loop-entry.history in
     let known = c.loop-entry.invariant in
     let old = g.K.Sink.taken c.args.journal.now in
-    let now = g.K.Sink.taken c.make_room-2.new.journal in
-    c.write_piece.ensures.cut old c.args.self
-    (all_written old now x.history.config h.past h.coming x.history.coming c.loop-entry.count c.make_room-2.new.piece.items
-    c.put_end_line.new.out.items c.args.self known.whole c.in_default.ensures.0 known.count c.self.view_is c.put_end_line.ensures.text
-    (c.in_ok-make_room-2.ensures.written old (text_up_to x.history.config h.past) known.written))
+    let now = g.K.Sink.taken c.write_end.new.journal in
+    subst (λ (text : List ℕ). OnErr c.write_end.result (AppendsFront old now text))
+    (all_there x.history.config h.past h.coming x.history.coming c.loop-entry.count c.args.self known.whole c.in_default.ensures.0 known.count
+    c.self.view_is) (c.write_end.ensures.cut old (text_up_to x.history.config h.past) known.written)
