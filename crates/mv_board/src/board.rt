@@ -11,7 +11,7 @@ ghost use Rattle.mv_board.specs.declared.watch.Watch.{Watch as AnyWatch};
 ghost use Rattle.mv_machine.specs.System.{opening};
 ghost use Rattle.mv_board.specs.Rule.{IsLists};
 ghost use Rattle.mv_board.specs.Steps.{MadeAfterLooks, watch_of};
-ghost use Rattle.mv_board.specs.Words.{HasWord, test_of as test_on};
+ghost use Rattle.mv_board.specs.Words.{HasWord, test_of as test_on, word_count};
 ghost use Rattle.mv_board.specs.View.{fresh_view, first_view, own};
 
 use crate::caller::{Caller, Events, Moved};
@@ -70,12 +70,7 @@ impl Board {
         ensures callers { IfOk result (λ r. AreFresh r.0 0 r.1.items) }
         ensures count { IfOk result (λ r. length r.1.items ≡ config.callers) }
     {
-        let given = config.config();
-        let words = vec![in alloc; 0u64; BEFORE_ECBS + given.owners.len()]?;
-        let slots = vec![in alloc; Item::Held(lists_of(alloc, &config)?)]?;
-        let Ok((table, first)) = Table::new(alloc, &words, slots, &config) else {
-            return Err(NoMemory);
-        };
+        let (table, first) = table_of(alloc, &config)?;
         let room = MergeRoom::new(alloc, &config)?;
         let logs = Vec::with_capacity(alloc, config.config().callers as usize)?;
         let board = Board {
@@ -303,6 +298,30 @@ impl Board {
         }
         unreachable!()
     }
+}
+
+// The table of a configuration's objects, which are all at place 0, and its first seat.
+fn table_of(
+    alloc: Global,
+    config: &ValidConfig,
+) -> Result<
+    (
+        Table<Item, View, ValidConfig, OneHistory, Global>,
+        Seat<Item, View>,
+    ),
+    NoMemory,
+>
+    ensures key { IfOk result (λ r. r.0.shared.key ≡ config.now) }
+    ensures words { IfOk result (λ r. r.0.shared.table_id.words ≡ word_count config.now) }
+    ensures slots { IfOk result (λ r. r.0.shared.table_id.slots ≡ 1) }
+    ensures first { IfOk result (λ r. (r.1.table_id ≡ r.0.shared.table_id) × (r.1.me ≡ (first_view config.now, []))) }
+{
+    let words = vec![in alloc; 0u64; BEFORE_ECBS + config.config().owners.len()]?;
+    let slots = vec![in alloc; Item::Held(lists_of(alloc, config)?)]?;
+    let Ok(table) = Table::new(alloc, &words, slots, config) else {
+        return Err(NoMemory);
+    };
+    Ok(table)
 }
 
 // The empty lists of a configuration's latch set.
