@@ -1,7 +1,8 @@
 -- How a board ends: what the joined seats hold is one history, by the callers in their order.
 use Rattle.std.proofs.Common.{◌≡◌, ℕ, zero, suc, ◌+◌, ◌*◌, ◌^◌, ◌<◌, List, [], ◌∷◌, ◌++◌, length, get_or, map, refl, sym, ap, ◌∙◌}
-use Rattle.std.proofs.Common.{subst, arith}
+use Rattle.std.proofs.Common.{subst, arith, append-nil}
 use Rattle.std.specs.List.{AllByRecursion}
+use Rattle.std.proofs.lemmas.List.{nil_from_length}
 use mathlib.Core.Option.{some}
 use lib.ListN.{get_elem?}
 use Rattle.atomic_table.specs.Table.{Final, Seen}
@@ -115,6 +116,12 @@ pub next_left : (b : BoardFace) (callers before left rest : List CallerFace) (x 
     → before ++ left ≡ callers → left ≡ x ∷ rest → IsOf b x × (x.number ≡ length (map part_of before) + 0)
 next_left b callers before left rest x order whole first =
     next_in_order b 0 before x rest (subst (AreInOrder b 0) (sym whole ∙ ap (λ xs. before ++ xs) first) order)
+
+-- behind the last of them the parts of all have come back
+pub all_back : (before rest all : List CallerFace) (ps : List Part) → before ++ rest ≡ all → length rest ≡ 0 → ps ≡ map part_of before
+    → ps ≡ map part_of all
+all_back before rest all ps e none back =
+    back ∙ ap (map part_of) (sym (append-nil before) ∙ (ap (λ xs. before ++ xs) (sym (nil_from_length rest none)) ∙ e))
 
 -- what is said of their parts, as they came back to the board, is said of them
 pub each_in : {b d : BoardFace} {ps : List Part} (h : List Entry) (xs : List CallerFace) → b ≡ d → ps ≡ map part_of xs

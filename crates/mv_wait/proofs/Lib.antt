@@ -13,7 +13,6 @@ pub mod Keeping
 pub mod Slots
 pub mod Entries
 pub mod Recording
-pub mod Fresh
 -- looks for what a task waits for, and the callers of a new board
 pub mod Peeks
 -- waits

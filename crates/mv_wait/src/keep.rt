@@ -1,10 +1,11 @@
 //! What a task keeps of its own entries, in tables. Clauses cite `specs/Keep.antt` and the calls' `Keeping.antt`.
 
-ghost use Rattle.std.specs.Prelude.{◌≡◌, ◌+◌, ◌<◌, ◌≤◌, ◌++◌, ◌∷◌, [], ℕ, Bool, not, List, length, count_by, is_some, IfSome, ◌==◌};
+ghost use Rattle.std.specs.Prelude.{◌≡◌, ◌*◌, ◌+◌, ◌<◌, ◌≤◌, ◌==◌, ◌++◌, ◌∷◌, [], ℕ, Bool, not, List, length, count_by, is_some};
+ghost use Rattle.std.specs.Prelude.{IfOk, IfSome};
 ghost use Rattle.std.specs.List.{list_any};
 ghost use Rattle.slab.specs.Slab.{HasRoomFor, slab_len, entries};
 ghost use Rattle.mv_element.specs.declared.operation.ElementReply.TheVariants.{Closed};
-ghost use Rattle.mv_calls.specs.Keeping.{Kept, kept_after, generation_after};
+ghost use Rattle.mv_calls.specs.Keeping.{Kept, nothing_kept, kept_after, generation_after};
 ghost use Rattle.mv_machine.specs.Kept.{StandingRequest, is_posting, less, is_named, is_for};
 ghost use Rattle.mv_machine.specs.Limits.{events_limit};
 ghost use Rattle.mv_machine.specs.declared.entry.Op.TheVariants as op_on;
@@ -13,9 +14,11 @@ ghost use Rattle.mv_wait.specs.Keep.{Keeps, Reaches, meets, IsOfKind, ClosesBelo
 
 use mv_ecb::{EcbOp, EcbReply};
 use mv_element::{ElementOp, ElementReply};
+use mv_io::NoMemory;
 use mv_latch::{LatchForm, LatchOp, LatchReply, Mode, Request};
-use mv_machine::{Object, Op, Reply};
+use mv_machine::{Object, Op, Reply, ValidConfig};
 use slab::Slab;
+use std::alloc::Global;
 
 /// One of a task's own elements.
 #[derive(Clone, Copy, Debug, PartialEq, Eq)]
@@ -42,6 +45,34 @@ pub(crate) struct Keep {
 }
 
 impl Keep {
+    /// What a task keeps before its first entry: nothing, with room for as many requests as it has events left.
+    pub(crate) fn empty(
+        alloc: Global,
+        config: &ValidConfig,
+        caller: u32,
+        left: usize,
+    ) -> Result<Keep, NoMemory>
+        requires exists { caller < config.now.callers }
+        ensures kept { IfOk result (λ k. Keeps (nothing_kept caller) k) }
+        ensures caller { IfOk result (λ k. (k.caller ≡ caller) × (k.first ≡ caller * config.now.elements_per_caller)) }
+        ensures blocks { IfOk result (λ k. length k.extended.items ≡ length config.now.owners) }
+        ensures elements { IfOk result (λ k. length k.elements.items ≡ config.now.elements_per_caller) }
+        ensures room { IfOk result (λ k. (slab_len k.requests ≡ 0) × (left ≤ k.requests.capacity)) }
+    {
+        let given = config.config();
+        let none = OwnElement {
+            in_use: false,
+            generation: 0,
+        };
+        Ok(Keep {
+            caller,
+            first: config.own_elements(caller).start,
+            extended: vec![in alloc; false; given.owners.len()]?,
+            elements: vec![in alloc; none; given.elements_per_caller as usize]?,
+            requests: Slab::with_capacity(alloc, left)?,
+        })
+    }
+
     /// One more event of the task.
     pub(crate) fn follow(&mut self, object: Object, op: Op, reply: Reply)
         requires block { Reaches object self.old }

@@ -11,10 +11,10 @@ ghost use Rattle.mv_board.specs.Words.{HasWord, test_of};
 ghost use Rattle.mv_machine.specs.Replies.{NamesUpTo};
 ghost use Rattle.mv_wait.specs.Run.{Went};
 
-use crate::keep::{Keep, OwnElement};
+use crate::keep::Keep;
 use crate::pausing::Pauses;
 use crate::task::Task;
-use crossbeam_utils::sync::{Parker, Unparker};
+use crossbeam_utils::sync::Unparker;
 use mv_board::{Board, Caller, Closed, Moved, Watch};
 use mv_io::NoMemory;
 use mv_machine::{Object, Op, Reply, ValidConfig};
@@ -243,9 +243,9 @@ fn tasks_of(
     let mut tasks = Vec::with_capacity(alloc, callers.len())?;
     let mut unparkers = Vec::with_capacity(alloc, callers.len())?;
     for caller in callers {
-        let parker = Parker::new(alloc)?;
-        unparkers.push_reserved(parker.unparker().clone()?);
-        tasks.push_reserved(task_of(alloc, board.config(), caller, parker)?);
+        let (pauses, unparker) = Pauses::open(alloc)?;
+        unparkers.push_reserved(unparker);
+        tasks.push_reserved(task_of(alloc, board.config(), caller, pauses)?);
     }
     Ok((tasks, unparkers))
 }
@@ -255,32 +255,20 @@ fn task_of(
     alloc: Global,
     config: &ValidConfig,
     caller: Caller,
-    parker: Parker,
+    pauses: Pauses,
 ) -> Result<Task, NoMemory>
     requires about { caller.about ≡ config.now ∷ [] }
     requires new { caller.log ≡ [] }
     ensures { IfOk result (λ t. t ≡ caller) }
 {
-    let given = config.config();
-    let own = config.own_elements(caller.number());
     let left = caller.left() as usize;
-    let none = OwnElement {
-        in_use: false,
-        generation: 0,
-    };
-    let keep = Keep {
-        caller: caller.number(),
-        first: own.start,
-        extended: vec![in alloc; false; given.owners.len()]?,
-        elements: vec![in alloc; none; given.elements_per_caller as usize]?,
-        requests: Slab::with_capacity(alloc, left)?,
-    };
+    let keep = Keep::empty(alloc, config, caller.number(), left)?;
     let pending = Vec::with_capacity(alloc, left)?;
-    let places = vec![in alloc; 0; given.owners.len()]?;
+    let places = vec![in alloc; 0; config.config().owners.len()]?;
     Ok(Task {
         caller,
         keep,
-        pauses: Pauses::new(parker),
+        pauses,
         pending,
         places,
     })

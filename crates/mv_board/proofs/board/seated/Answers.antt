@@ -24,18 +24,18 @@ one_each s f = grind arith
 counted : (s : Setup) → IsValid s → length s.budgets ≡ s.callers
 counted s v = eqb-true (length s.budgets) s.callers (one_each s (no_bad_limit s v))
 
--- it has one
+-- this caller has one
 within : (c : goal.In_ok-with_capacity) → c.args.number < length c.args.config.now.budgets
 within c = subst (λ n. c.args.number < n) (sym (counted c.args.config.now c.config.ensures.valid)) c.requires.number
 
--- that is left to it
+-- which is what it has left
 budget : (c : goal.In_ok-with_capacity) → c.index-left.result.now ≡ slice_index c.args.config.now.budgets c.args.number
 budget c =
     c.index-left.ensures ∙ (get_or_default c.config.result.now.budgets.items c.args.number c.index-left.result.now 0
     (subst (λ (s : Setup). c.args.number < length s.budgets) (sym c.config.ensures.given) (within c))
     ∙ ap (λ (s : Setup). slice_index s.budgets c.args.number) c.config.ensures.given)
 
--- it is no more than all have together
+-- and no more than all callers may have together
 few : (c : goal.In_ok-with_capacity) → c.index-left.result.now ≤ events_limit
 few c =
     let one = get_or-le-sum_by (λ n. n) c.args.config.now.budgets c.args.number 0 (within c) in

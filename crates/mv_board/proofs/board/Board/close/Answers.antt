@@ -1,11 +1,10 @@
-use Rattle.std.proofs.Common.{◌≡◌, ◌+◌, [], ◌++◌, length, map, sym, ap, ◌∙◌, subst, arith, append-nil, length-append}
-use Rattle.std.proofs.lemmas.List.{length-map, nil_from_length}
-use Rattle.std.specs.Vec.Iter.{into_iter_items}
+use Rattle.std.proofs.Common.{◌≡◌, ◌+◌, length, map, sym, ap, ◌∙◌, subst, arith}
+use Rattle.std.proofs.lemmas.List.{length-map}
 use Rattle.mv_machine.specs.Legal.{Legal, after}
 use Rattle.mv_machine.specs.Merge.{merged}
 use Rattle.mv_machine.specs.Parts.{KeepsBudgets}
-use Rattle.mv_board.specs.Faces.{BoardFace, CallerFace, IsOf, AreHeld, part_of}
-use Rattle.mv_board.proofs.Ends.{next_left, each_in, logs_of_parts}
+use Rattle.mv_board.specs.Faces.{BoardFace, IsOf, AreHeld, part_of}
+use Rattle.mv_board.proofs.Ends.{next_left, all_back, each_in, logs_of_parts}
 use Rattle.mv_board.proofs.board.Board.close.Goals as goal
 
 pub take_back-requires-clause-board : goal.take_back-requires-clause-board
@@ -22,24 +21,19 @@ take_back-requires-clause-next c =
     let back = ap length i.back in
     omega arith
 
+-- behind the last caller the parts of all have come back
 pub done-requires : goal.done-requires
 done-requires c =
     let i = c.loop-caller.invariant in
-    let gone = c.in-None.ensures.steps in
-    let count = i.count in
-    let all = c.requires.all in
-    let yielded = ap length i.yielded in
-    let back = ap length i.back ∙ length-map _ part_of in
-    let callers = ap (λ (b : BoardFace). b.config.callers) i.board in record { all = omega (arith, length-append {A = CallerFace}) }
+    let back = all_back c.loop-caller.yielded _ c.args.callers.items _ i.yielded (sym i.count ∙ c.in-None.ensures.steps.0) i.back in record {
+      all = ap length back
+          ∙ (length-map c.args.callers.items part_of ∙ (c.requires.all ∙ sym (ap (λ (b : BoardFace). b.config.callers) i.board)));
+    }
 
--- behind the last caller the parts of all have come back
-all_back : (c : goal.After-done) → c.loop-caller.closing.back ≡ map part_of c.args.callers.items
-all_back c =
+all_are_back : (c : goal.After-done) → c.loop-caller.closing.back ≡ map part_of c.args.callers.items
+all_are_back c =
     let i = c.loop-caller.invariant in
-    let none : into_iter_items c.loop-caller.caller-iterator ≡ [] =
-    (let gone = c.in-None.ensures.steps in let count = i.count in nil_from_length _ (omega arith)) in
-    i.back
-    ∙ ap (map part_of) (sym (append-nil c.loop-caller.yielded) ∙ (ap (λ xs. c.loop-caller.yielded ++ xs) (sym none) ∙ i.yielded))
+    all_back c.loop-caller.yielded _ c.args.callers.items _ i.yielded (sym i.count ∙ c.in-None.ensures.steps.0) i.back
 
 pub returns-clause-config : goal.returns-clause-config
 returns-clause-config c = c.done.ensures.config ∙ ap (λ (b : BoardFace). b.config) c.loop-caller.invariant.board
@@ -60,11 +54,11 @@ returns-clause-budgets c =
 
 pub returns-clause-merged : goal.returns-clause-merged
 returns-clause-merged c =
-    c.done.ensures.merged ∙ (ap (λ ps. merged (map (λ p. p.log) ps)) (all_back c) ∙ ap merged (logs_of_parts c.args.callers.items))
+    c.done.ensures.merged ∙ (ap (λ ps. merged (map (λ p. p.log) ps)) (all_are_back c) ∙ ap merged (logs_of_parts c.args.callers.items))
 
 pub returns-clause-callers : goal.returns-clause-callers
 returns-clause-callers c =
-    each_in c.done.result.history.coming c.args.callers.items c.loop-caller.invariant.board (all_back c) c.done.ensures.callers
+    each_in c.done.result.history.coming c.args.callers.items c.loop-caller.invariant.board (all_are_back c) c.done.ensures.callers
 
 pub returns-clause-volumes : goal.returns-clause-volumes
 returns-clause-volumes c =

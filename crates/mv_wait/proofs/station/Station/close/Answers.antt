@@ -1,11 +1,10 @@
-use Rattle.std.proofs.Common.{◌≡◌, [], ◌++◌, length, map, sym, ap, ◌∙◌, subst, arith, append-nil}
-use Rattle.std.proofs.lemmas.List.{nil_from_length}
-use Rattle.std.specs.Vec.Iter.{into_iter_items}
-use Rattle.mv_machine.specs.Legal.{after}
+use Rattle.std.proofs.Common.{◌≡◌, ◌++◌, length, map, sym, ap, ◌∙◌, subst, arith}
+use Rattle.std.proofs.lemmas.List.{length-map}
+use Rattle.mv_machine.specs.Legal.{Legal, after}
 use Rattle.mv_machine.specs.Merge.{merged}
 use Rattle.mv_machine.specs.Parts.{KeepsBudgets}
 use Rattle.mv_board.specs.Faces.{BoardFace, CallerFace, AreInOrder, IsOf, AreHeld, part_of}
-use Rattle.mv_board.proofs.Ends.{next_in_order, each_in, logs_of_parts}
+use Rattle.mv_board.proofs.Ends.{next_in_order, all_back, each_in, logs_of_parts}
 use Rattle.mv_wait.proofs.station.Station.close.Goals as goal
 
 pub take_back-requires : goal.take_back-requires
@@ -22,13 +21,31 @@ take_back-requires c =
     }
 
 -- behind the last task the parts of all have come back
-all_back : (c : goal.After-drop-self-inside) → c.loop-task.closing.back ≡ map part_of c.args.tasks.items
-all_back c =
+pub done-requires : goal.done-requires
+done-requires c =
     let i = c.loop-task.invariant in
-    let none : into_iter_items c.loop-task.task-iterator ≡ [] =
-    (let gone = c.in-None.ensures.steps in let count = i.count in nil_from_length _ (omega arith)) in
-    i.back
-    ∙ ap (map part_of) (sym (append-nil c.loop-task.yielded) ∙ (ap (λ xs. c.loop-task.yielded ++ xs) (sym none) ∙ i.yielded))
+    let back = all_back c.loop-task.yielded _ c.args.tasks.items _ i.yielded (sym i.count ∙ c.in-None.ensures.steps.0) i.back in record {
+      all = ap length back
+          ∙ (length-map c.args.tasks.items part_of ∙ (c.requires.all ∙ sym (ap (λ (b : BoardFace). b.config.callers) i.board)));
+    }
+
+all_are_back : (c : goal.After-drop-self-inside) → c.loop-task.closing.back ≡ map part_of c.args.tasks.items
+all_are_back c =
+    let i = c.loop-task.invariant in
+    all_back c.loop-task.yielded _ c.args.tasks.items _ i.yielded (sym i.count ∙ c.in-None.ensures.steps.0) i.back
+
+pub returns-clause-config : goal.returns-clause-config
+returns-clause-config c = c.done.ensures.config ∙ ap (λ (b : BoardFace). b.config) c.loop-task.invariant.board
+
+pub returns-clause-whole : goal.returns-clause-whole
+returns-clause-whole c = c.done.ensures.whole
+
+pub returns-clause-legal : goal.returns-clause-legal
+returns-clause-legal c = subst (λ (b : BoardFace). Legal b.config c.done.result.history.coming) c.loop-task.invariant.board
+    c.done.ensures.legal
+
+pub returns-clause-few : goal.returns-clause-few
+returns-clause-few c = c.done.ensures.few
 
 pub returns-clause-budgets : goal.returns-clause-budgets
 returns-clause-budgets c = subst (λ (b : BoardFace). KeepsBudgets b.config c.done.result.history.coming) c.loop-task.invariant.board
@@ -36,11 +53,11 @@ returns-clause-budgets c = subst (λ (b : BoardFace). KeepsBudgets b.config c.do
 
 pub returns-clause-merged : goal.returns-clause-merged
 returns-clause-merged c =
-    c.done.ensures.merged ∙ (ap (λ ps. merged (map (λ p. p.log) ps)) (all_back c) ∙ ap merged (logs_of_parts c.args.tasks.items))
+    c.done.ensures.merged ∙ (ap (λ ps. merged (map (λ p. p.log) ps)) (all_are_back c) ∙ ap merged (logs_of_parts c.args.tasks.items))
 
 pub returns-clause-callers : goal.returns-clause-callers
 returns-clause-callers c =
-    each_in c.done.result.history.coming c.args.tasks.items c.loop-task.invariant.board (all_back c) c.done.ensures.callers
+    each_in c.done.result.history.coming c.args.tasks.items c.loop-task.invariant.board (all_are_back c) c.done.ensures.callers
 
 pub returns-clause-volumes : goal.returns-clause-volumes
 returns-clause-volumes c =
