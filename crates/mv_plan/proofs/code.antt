@@ -5,6 +5,7 @@ use Rattle.mv_plan.proofs.Words.{Step, step_events, drop, sum_by, common_steps, 
 use Rattle.mv_plan.proofs.Words.{range_with_len, length-append, length-replicate, exit_of, end_owners, block_owners, end_exit, scheduler}
 use Rattle.mv_plan.proofs.Words.{writer, end_for_scheduler, end_for_writer, take, done}
 use Rattle.mv_deck.specs.Weight.{all_events, after_parts}
+use Rattle.mv_plan.specs.SpoolSetup.{task_budgets}
 use Rattle.mv_deck.specs.declared.deck.Job.{Job}
 use Rattle.std.proofs.lemmas.List.{take_all, map-append}
 use Rattle.std.proofs.lemmas.List.FromFn.{map-range_with_len_more}
@@ -68,6 +69,32 @@ pub owners_all : (n initiators k size m : ℕ) (old new : List ℕ) → new ≡ 
     → m ≡ length old → size ≡ 4 * n + initiators → k ≡ n → old ≡ front_owners n (writer initiators) k
     → new ≡ block_owners n initiators
 owners_all n initiators k size m old new e f g h o = grind (arith, common_steps, length_front, writer, scheduler, take_all)
+
+-- the budgets, one behind the other
+pub budgets_all : (jobs : List JobData) (n initiators parts events size m : ℕ) (none one two most all : List ℕ)
+    → none ≡ [] → one ≡ none ++ n ∷ [] → two ≡ one ++ (5 * n + 2 * n * initiators + 2 * parts + 4 * initiators) ∷ []
+    → most ≡ take size two ++ replicate (size - m) (5 + 7 * n + events) → all ≡ most ++ (2 * n) ∷ []
+    → m ≡ length two → size ≡ initiators + 2 → n ≡ length jobs → parts ≡ after_parts jobs → events ≡ all_events jobs
+    → all ≡ task_budgets jobs initiators
+budgets_all jobs n initiators parts events size m none one two most all a b c d e f g h p v =
+    e ∙ ap (λ l. l ++ (2 * n) ∷ []) resized
+    ∙ (λ i. h i ∷ (5 * h i + 2 * h i * initiators + 2 * p i + 4 * initiators)
+    ∷ (replicate initiators (5 + 7 * h i + v i) ++ (2 * h i) ∷ [])) where
+      scheduled : ℕ
+      scheduled = 5 * n + 2 * n * initiators + 2 * parts + 4 * initiators
+
+      first : two ≡ n ∷ scheduled ∷ []
+      first = c ∙ ap (λ l. l ++ scheduled ∷ []) (b ∙ ap (λ l. l ++ n ∷ []) a)
+
+      taken : take size two ≡ two
+      taken = let two_first = ap length first in take_all size two (omega arith)
+
+      left : size - m ≡ initiators
+      left = let two_first = ap length first in omega arith
+
+      resized : most ≡ n ∷ scheduled ∷ replicate initiators (5 + 7 * n + events)
+      resized = d ∙ ap (λ k. take size two ++ replicate k (5 + 7 * n + events)) left
+          ∙ ap (λ l. l ++ replicate initiators (5 + 7 * n + events)) (taken ∙ first)
 
 -- one more job's exit
 pub exits_more : (n j : ℕ) (old new : List Exit) (x : Exit) → new ≡ old ++ x ∷ []
