@@ -1,9 +1,9 @@
-use Rattle.std.proofs.Common.{◌≡◌, [], ◌∷◌, sym, ap, ◌∙◌, subst, arith}
+use Rattle.std.proofs.Common.{◌≡◌, List, [], ◌∷◌, sym, ap, ◌∙◌, subst, arith}
 use Rattle.atomic_table.specs.Table.{Me}
 use Rattle.mv_machine.specs.Setup.{Setup}
 use Rattle.mv_board.specs.declared.item.Item.{Item}
 use Rattle.mv_board.specs.declared.view.View.{View}
-use Rattle.mv_board.specs.Faces.{BoardFace, IsFresh, AreFresh}
+use Rattle.mv_board.specs.Faces.{BoardFace, CallerFace, IsFresh, AreFresh}
 use Rattle.mv_board.specs.View.{cut_left}
 use Rattle.mv_board.proofs.Fresh.{fresh_snoc}
 use Rattle.mv_board.proofs.Keeps.{splits}
@@ -42,3 +42,14 @@ loop-number-preserved c =
       counted = (let more = c.push_reserved.ensures.len in let same = c.push_reserved.ensures.items in omega arith);
       room = c.push_reserved.ensures.capacity ∙ since.room;
     }
+
+pub returns-clause-callers : goal.returns-clause-callers
+returns-clause-callers c =
+    let since = c.loop-number.invariant in
+    let here : BoardFace = record { table = c.loop-number.first.table_id; config = c.self.inside.config } in
+    let board : here ≡ c.args.self.now = (λ i. record {
+      table = (since.table ∙ c.requires.board) i;
+      config = (c.self.view_is i).config;
+    }) in
+    subst (AreFresh c.args.self.now 0) (sym {A = List CallerFace} c.in_ok-insert.ensures.items)
+    (subst (λ b. IsFresh b 0 c.in_ok-seated-2.field-0) board c.in_ok-seated-2.ensures, since.others)
