@@ -10,7 +10,8 @@ pub budgets_of-requires : goal.budgets_of-requires
 budgets_of-requires c = record { light = c.requires.sound.light; initiators = (c.requires.some, c.requires.few) }
 
 -- the weight allows so many jobs
-few_jobs : (jobs initiators n : ℕ) (deck : List JobData) → weight deck initiators ≤ heaviest → length deck ≡ jobs → n ≡ jobs → n ≤ jobs_limit
+few_jobs : (jobs initiators n : ℕ) (deck : List JobData) → weight deck initiators ≤ heaviest → length deck ≡ jobs → n ≡ jobs
+    → n ≤ jobs_limit
 few_jobs jobs initiators n deck light count same = omega arith
 
 pub owners_of-requires : goal.owners_of-requires

@@ -1,4 +1,6 @@
-use Rattle.std.proofs.Common.{◌∷◌, [], ◌++◌, sym, ap, ◌∙◌, subst}
+use Rattle.std.proofs.Common.{◌≡◌, [], ◌∷◌, ◌++◌, length, append-nil, sym, ap, ◌∙◌, subst}
+use Rattle.std.specs.Vec.Iter.{into_iter_items}
+use Rattle.std.proofs.lemmas.List.{nil_from_length}
 use Rattle.mv_board.specs.Faces.{AreFresh}
 use Rattle.mv_wait.proofs.Peeks.{fresh_at}
 use Rattle.mv_wait.proofs.station.tasks_of.Goals as goal
@@ -11,3 +13,16 @@ task_of-requires c =
       about = one.1.board.1 ∙ ap (λ s. s ∷ []) (sym c.config.ensures);
       new = one.1.log;
     }
+
+-- behind the last caller all have been seen
+all_yielded : (c : goal.After-drop-caller-iterator-2) → c.loop-caller.yielded ≡ c.args.callers.items
+all_yielded c =
+    let i = c.loop-caller.invariant in
+    let none = nil_from_length (into_iter_items c.loop-caller.caller-iterator) (sym i.count ∙ c.in-None.ensures.steps.0) in
+    sym (append-nil c.loop-caller.yielded) ∙ (ap (λ xs. c.loop-caller.yielded ++ xs) (sym none) ∙ i.yielded)
+
+pub returns-clause-tasks : goal.returns-clause-tasks
+returns-clause-tasks c = c.loop-caller.invariant.tasks ∙ all_yielded c
+
+pub returns-clause-wakers : goal.returns-clause-wakers
+returns-clause-wakers c = c.loop-caller.invariant.wakers ∙ ap length (all_yielded c)

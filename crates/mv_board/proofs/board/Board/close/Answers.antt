@@ -25,7 +25,8 @@ take_back-requires-clause-next c =
 pub done-requires : goal.done-requires
 done-requires c =
     let i = c.loop-caller.invariant in
-    let back = all_back c.loop-caller.yielded _ c.args.callers.items _ i.yielded (sym i.count ∙ c.in-None.ensures.steps.0) i.back in record {
+    let none = sym i.count ∙ c.in-None.ensures.steps.0 in
+    let back = all_back c.loop-caller.yielded _ c.args.callers.items _ i.yielded none i.back in record {
       all = ap length back
           ∙ (length-map c.args.callers.items part_of ∙ (c.requires.all ∙ sym (ap (λ (b : BoardFace). b.config.callers) i.board)));
     }
