@@ -203,9 +203,9 @@ pub fn share<R: Threads + Wait + Sync>(
     ensures legal { IfOk result (λ shared. Legal shared.history.config shared.history.coming) }
     ensures places { IfOk result (λ shared. All (λ e. e.place ≤ highest_place) shared.history.coming) }
 {
+    let rooms = rooms_for(alloc, reads)?;
     let config = configuration(alloc, pairs.len() as u32, reads)?;
     let (station, tasks) = Station::open(alloc, config)?;
-    let rooms = rooms_for(alloc, reads)?;
     let work = Sharing { pairs, reads };
     let (tasks, read) = run_tasks(rt, alloc, &station, &work, tasks, rooms)?;
     let closed = station.close(tasks);

@@ -63,10 +63,10 @@ pub fn complete<R: Threads + Wait + Sync>(
     ensures config { IfOk result (λ completed. completed.history.config ≡ completion_setup) }
     ensures legal { IfOk result (λ completed. Legal completed.history.config completed.history.coming) }
 {
+    let rooms = vec![in alloc; 0, 0]?;
     // A wait is two events, and a post is one. The block is the waiter's.
     let config = config_of_blocks(alloc, &[2, 1], &[WAITER])?;
     let (station, tasks) = Station::open(alloc, config)?;
-    let rooms = vec![in alloc; 0, 0]?;
     let (tasks, told) = run_tasks(rt, alloc, &station, &Completing(code), tasks, rooms)?;
     let closed = station.close(tasks);
     Ok(Completed {

@@ -156,9 +156,9 @@ pub fn hand_over<R: Threads + Wait + Sync>(
     ensures places { IfOk result (λ handed. All (λ e. e.place ≤ highest_place) handed.history.coming) }
 {
     let count = items.len();
+    let rooms = rooms_for(alloc, count)?;
     let config = configuration(alloc, count as u32)?;
     let (station, tasks) = Station::open(alloc, config)?;
-    let rooms = rooms_for(alloc, count)?;
     let work = Handing { items };
     let (tasks, mut rooms) = run_tasks(rt, alloc, &station, &work, tasks, rooms)?;
     let Some(taken) = rooms.pop() else {

@@ -9,7 +9,7 @@ ghost use Rattle.mv_server.specs.Pool.{requests_limit, weeks_limit, days_in};
 
 use crate::server::{Served, serve_all};
 use mv_io::NoMemory;
-use mv_machine::{Entry, ReplayRefusal, ValidConfig, replay};
+use mv_machine::{History, ReplayRefusal, replay};
 use std::alloc::Global;
 use std::sync::Wait;
 use std::thread::Threads;
@@ -56,18 +56,18 @@ fn serve_round<R: Threads + Wait + Sync>(
         answers: more,
         history,
     } = serve_all(rt, alloc, requests)?;
-    let listed = history.listed(alloc)?;
-    judge(alloc, &listed.config, &listed.journal)?;
+    judge(alloc, history)?;
     answers.extend_from_slice(&more)?;
     Ok(())
 }
 
 // Judges the history of a round. It is proved to be legal, so nothing but memory can be wanting.
-fn judge(alloc: Global, config: &ValidConfig, journal: &[Entry]) -> Result<(), NoMemory>
-    requires legal { Legal config.now journal.now }
-    requires places { All (λ e. e.place ≤ highest_place) journal.now }
+fn judge(alloc: Global, history: History) -> Result<(), NoMemory>
+    requires legal { Legal history.config history.coming }
+    requires places { All (λ e. e.place ≤ highest_place) history.coming }
 {
-    match replay(alloc, config, journal) {
+    let listed = history.listed(alloc)?;
+    match replay(alloc, &listed.config, &listed.journal) {
         Ok(_) => Ok(()),
         Err(ReplayRefusal::NoMemory) => Err(NoMemory),
         Err(_) => unreachable!(),

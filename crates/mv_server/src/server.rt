@@ -223,9 +223,9 @@ pub fn serve_all<R: Threads + Wait + Sync>(
     ensures legal { IfOk result (λ served. Legal served.history.config served.history.coming) }
     ensures places { IfOk result (λ served. All (λ e. e.place ≤ highest_place) served.history.coming) }
 {
+    let rooms = rooms_for(alloc, requests.len())?;
     let config = pool_config(alloc, requests.len() as u32)?;
     let (station, tasks) = Station::open(alloc, config)?;
-    let rooms = rooms_for(alloc, requests.len())?;
     let pool = Pool { requests };
     let (tasks, mut rooms) = run_tasks(rt, alloc, &station, &pool, tasks, rooms)?;
     // The server is the last.
