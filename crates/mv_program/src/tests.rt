@@ -52,6 +52,11 @@ JOBS 3 ENDED 1 ABENDED 1 NOT RUN 1
 VOLUMES 0 0 0 0 0 0 0 0
 ";
 
+const NO_JOB_REPORT: &str = "\
+JOBS 0 ENDED 0 ABENDED 0 NOT RUN 0
+VOLUMES 0 0 0 0 0 0 0 0
+";
+
 // Jobs that wait for one another, that print, count and scan, abend and end with return codes; and no job at all.
 const DECKS: &str = "\
 spool 8
@@ -345,9 +350,23 @@ fn assert_run<X: Abort + AllocGlobal + Threads + Wait + Sync>(
     let reads = exit != 2 && !words.starts_with("load ");
     let mut on = streams_over(rt.alloc(), input.as_bytes())?;
     assert_ends(rt, words, &mut on, exit, report, note)?;
-    let left = read_limited(rt.alloc(), &mut on.input, 1000)?;
-    assert_eq!(rt; left.as_slice(), if reads { b"" } else { input.as_bytes() });
+    assert_left(
+        rt,
+        &mut on.input,
+        if reads { b"" } else { input.as_bytes() },
+    )?;
     assert_journal(rt, on.journal.bytes(), piece)
+}
+
+// What is left of an input, which is short.
+fn assert_left<X: Abort + AllocGlobal>(
+    rt: &X,
+    input: &mut MemSource,
+    expected: &[u8],
+) -> Result<(), Fail> {
+    let left = read_limited(rt.alloc(), input, 1000)?;
+    assert_eq!(rt; left.as_slice(), expected);
+    Ok(())
 }
 
 // Each row of a table.
@@ -403,14 +422,36 @@ fn assert_fault<X: Abort + AllocGlobal + Threads + Wait + Sync>(
     let (kind, text) = told.split_once(' ').ok_or("no kind")?;
     let kind = kind.parse::<u8>()?;
     let text = format!(in rt.alloc(); "{front}{text}{behind}")?;
-    let mut on = streams_over(rt.alloc(), text.as_bytes())?;
-    let status = run(rt, format.words, &mut on)?;
     if kind == 0 {
-        assert_eq!(rt; status, Status::Done, "{row}");
-        return Ok(());
+        return assert_no_fault(rt, format, &text, row);
     }
     let name = format.name;
     let note = format!(in rt.alloc(); "{name} LINE {line} KIND {kind}\n")?;
+    assert_told(rt, format, &text, &note, row)
+}
+
+// A text without fault, which this row made.
+fn assert_no_fault<X: Abort + AllocGlobal + Threads + Wait + Sync>(
+    rt: &X,
+    format: &Format,
+    text: &str,
+    row: &str,
+) -> Result<(), Fail> {
+    let mut on = streams_over(rt.alloc(), text.as_bytes())?;
+    assert_eq!(rt; run(rt, format.words, &mut on)?, Status::Done, "{row}");
+    Ok(())
+}
+
+// A text of which this is noted, and nothing else is told. This row made it.
+fn assert_told<X: Abort + AllocGlobal + Threads + Wait + Sync>(
+    rt: &X,
+    format: &Format,
+    text: &str,
+    note: &str,
+    row: &str,
+) -> Result<(), Fail> {
+    let mut on = streams_over(rt.alloc(), text.as_bytes())?;
+    let status = run(rt, format.words, &mut on)?;
     assert_eq!(rt; status.exit(), format.exit, "{row}");
     assert_eq!(rt; on.notes.bytes(), note.as_bytes(), "{row}");
     assert!(rt;
@@ -474,10 +515,18 @@ fn words_that_are_no_command(rt: HostRuntime) -> Result<(), Fail> {
 // Bytes that no UTF-8 text has.
 #[test]
 fn texts_that_are_no_utf_8(rt: HostRuntime) -> Result<(), Fail> {
-    let mut on = streams_over(rt.alloc(), b"\x80")?;
-    assert_ends(&rt, "script", &mut on, 9, "", "SCRIPT LINE 1 KIND 1\n")?;
-    let mut on = streams_over(rt.alloc(), b"JOURNAL 1\n\xff\n")?;
-    assert_ends(&rt, "replay", &mut on, 11, "", "JOURNAL LINE 2 KIND 1\n")?;
+    for (words, text, exit, note) in [
+        ("script", b"\x80".as_slice(), 9, "SCRIPT LINE 1 KIND 1\n"),
+        (
+            "replay",
+            b"JOURNAL 1\n\xff\n",
+            11,
+            "JOURNAL LINE 2 KIND 1\n",
+        ),
+    ] {
+        let mut on = streams_over(rt.alloc(), text)?;
+        assert_ends(&rt, words, &mut on, exit, "", note)?;
+    }
     Ok(())
 }
 
@@ -487,10 +536,7 @@ fn a_deck_at_the_limit_and_one_byte_more(rt: HostRuntime) -> Result<(), Fail> {
     let mut deck = "//*\n".repeat(rt.alloc(), 262_142)?;
     deck.push_str("//**\n//\n")?;
     assert_eq!(rt; deck.len(), 1_048_576);
-    let mut on = streams_over(rt.alloc(), deck.as_bytes())?;
-    assert_eq!(rt; run(&rt, "spool 1", &mut on)?, Status::Done);
+    assert_run(&rt, "spool 1", &deck, 0, NO_JOB_REPORT, "EVENTS")?;
     deck.push_str("\n")?;
-    let mut on = streams_over(rt.alloc(), deck.as_bytes())?;
-    assert_ends(&rt, "spool 1", &mut on, 4, "", "INPUT TOO LONG\n")?;
-    assert_journal(&rt, on.journal.bytes(), "")
+    assert_run(&rt, "spool 1", &deck, 4, "INPUT TOO LONG\n", "")
 }

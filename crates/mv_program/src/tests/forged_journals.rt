@@ -148,9 +148,10 @@ pub(crate) fn assert_forged<X: Abort + AllocGlobal + Threads + Wait + Sync>(
         let (refused, said) = row.split_once('|').ok_or("no event")?;
         let (event, other) = said.split_once('|').ok_or("no other")?;
         let (exit, note) = refused.split_once(' ').ok_or("no note")?;
+        let exit = exit.parse::<u8>()?;
         let forged = journal.replace(rt.alloc(), event, other)?;
         let note = format!(in rt.alloc(); "{note}\n")?;
-        assert_refused(rt, &forged, exit.parse::<u8>()?, &note)?;
+        assert_refused(rt, &forged, exit, &note)?;
     }
     Ok(())
 }

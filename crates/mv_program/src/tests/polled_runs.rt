@@ -3,11 +3,6 @@
 use super::*;
 use mv_deck::load_deck;
 
-const NO_JOB_REPORT: &str = "\
-JOBS 0 ENDED 0 ABENDED 0 NOT RUN 0
-VOLUMES 0 0 0 0 0 0 0 0
-";
-
 // One initiator and no job: in each round the scheduler is polled before the initiator. The reader and the writer have no event.
 const NO_JOB_JOURNAL: &str = "\
 JOURNAL 2
@@ -65,16 +60,26 @@ fn the_empty_deck_is_polled_in_one_order(rt: HostRuntime) -> Result<(), Fail> {
     Ok(())
 }
 
+// One more run of this deck writes the same report and the same journal.
+fn assert_again<X: Abort + AllocGlobal + Threads + Wait + Sync>(
+    rt: &X,
+    deck: &[u8],
+    first: &Streams,
+) -> Result<(), Fail> {
+    let mut again = streams_over(rt.alloc(), deck)?;
+    assert_eq!(rt; run(rt, "polled 4 7", &mut again)?, Status::Done);
+    assert_eq!(rt; again.report.bytes(), first.report.bytes());
+    assert_eq!(rt; again.journal.bytes(), first.journal.bytes());
+    Ok(())
+}
+
 #[test]
 fn each_run_from_a_seed_is_the_same(rt: HostRuntime) -> Result<(), Fail> {
     let deck = load_deck(rt.alloc(), 40)?;
     let mut first = streams_over(rt.alloc(), &deck)?;
     assert_eq!(rt; run(&rt, "polled 4 7", &mut first)?, Status::Done);
     for _ in 0..9 {
-        let mut again = streams_over(rt.alloc(), &deck)?;
-        assert_eq!(rt; run(&rt, "polled 4 7", &mut again)?, Status::Done);
-        assert_eq!(rt; again.report.bytes(), first.report.bytes());
-        assert_eq!(rt; again.journal.bytes(), first.journal.bytes());
+        assert_again(&rt, &deck, &first)?;
     }
     assert_journal(&rt, first.journal.bytes(), "\nEVENTS\n")
 }
