@@ -11,7 +11,7 @@ ghost use Rattle.mv_board.specs.Faces.{IsOf, IsFresh, AreFresh};
 use mv_board::{Board, Caller, Moved, Watch};
 use mv_ecb::{EcbOp, EcbReply};
 use mv_latch::{LatchForm, LatchOp, LatchReply, Mode, Wake};
-use mv_machine::{Config, Entry, Listed, Object, Op, Reply, ValidConfig, replay};
+use mv_machine::{Config, Entry, Listed, Object, Op, Reply, replay};
 use std::alloc::Global;
 use std::process::Abort;
 use std::sync::Wait;
@@ -20,10 +20,10 @@ use std::thread::{Threads, join};
 
 // ---- boards of two and of three callers
 
-// Callers with these budgets, each with one element and four requests, and one event control block, of caller 0.
-fn setup(alloc: Global, budgets: Vec<u32>) -> Result<ValidConfig, Fail>
+// A new board, and its callers with these budgets, each with one element and four requests, and one event control block, of caller 0.
+fn open(alloc: Global, budgets: Vec<u32>) -> Result<(Board, Vec<Caller>), Fail>
     requires { length budgets.items ≤ 16 }
-    ensures { IfOk result (λ c. c ≡ record {
+    ensures config { IfOk result (λ r. r.0.config ≡ record {
       callers = length budgets.items;
       elements_per_caller = 1;
       volumes = 1;
@@ -34,6 +34,8 @@ fn setup(alloc: Global, budgets: Vec<u32>) -> Result<ValidConfig, Fail>
       owners = 0 ∷ [];
       exits = [];
     }) }
+    ensures callers { IfOk result (λ r. AreFresh r.0 0 r.1.items) }
+    ensures count { IfOk result (λ r. length r.1.items ≡ length budgets.items) }
 {
     let config = Config {
         callers: budgets.len() as u32,
@@ -46,16 +48,16 @@ fn setup(alloc: Global, budgets: Vec<u32>) -> Result<ValidConfig, Fail>
         owners: vec![in alloc; 0]?,
         exits: Vec::new(alloc),
     };
-    Ok(config.check(alloc)?)
+    Ok(Board::open(alloc, config.check(alloc)?)?)
 }
 
-// The last of some new callers.
-fn last(board: &Board, callers: &mut Vec<Caller>) -> Caller
-    requires some { 0 < length callers.old.items }
+// The last of some new callers, which has this number.
+fn last(board: &Board, callers: &mut Vec<Caller>, number: u32) -> Caller
+    requires count { length callers.old.items ≡ number + 1 }
     requires fresh { AreFresh board.now 0 callers.old.items }
-    ensures caller { IsFresh board.now (length callers.new.items) result }
+    ensures caller { IsFresh board.now number result }
     ensures others { AreFresh board.now 0 callers.new.items }
-    ensures count { length callers.new.items + 1 ≡ length callers.old.items }
+    ensures fewer { length callers.new.items ≡ number }
 {
     let Some(caller) = callers.pop() else {
         unreachable!()
@@ -63,16 +65,17 @@ fn last(board: &Board, callers: &mut Vec<Caller>) -> Caller
     caller
 }
 
-// A new board, with its two callers.
-fn open_two(alloc: Global, config: ValidConfig) -> Result<(Board, Caller, Caller), Fail>
-    requires { config.callers ≡ 2 }
-    ensures config { IfOk result (λ r. r.0.config ≡ config) }
-    ensures first { IfOk result (λ r. IsFresh r.0 0 r.1) }
-    ensures second { IfOk result (λ r. IsFresh r.0 1 r.2) }
+// A new board, with its two callers, which have these budgets.
+fn open_two(alloc: Global, first: u32, second: u32) -> Result<(Board, Caller, Caller), Fail>
+    ensures callers { IfOk result (λ r. r.0.config.callers ≡ 2) }
+    ensures block { IfOk result (λ r. r.0.config.owners ≡ 0 ∷ []) }
+    ensures latch { IfOk result (λ r. (r.0.config.latches ≡ 1) × (r.0.config.quota ≡ 4)) }
+    ensures first { IfOk result (λ r. IsFresh r.0 0 r.1 × (r.1.left ≡ first)) }
+    ensures second { IfOk result (λ r. IsFresh r.0 1 r.2 × (r.2.left ≡ second)) }
 {
-    let (board, mut callers) = Board::open(alloc, config)?;
-    let second = last(&board, &mut callers);
-    let first = last(&board, &mut callers);
+    let (board, mut callers) = open(alloc, vec![in alloc; first, second]?)?;
+    let second = last(&board, &mut callers, 1);
+    let first = last(&board, &mut callers, 0);
     Ok((board, first, second))
 }
 
@@ -88,18 +91,18 @@ fn close_two(alloc: Global, board: Board, first: Caller, second: Caller) -> Resu
     Ok(closed.history.listed(alloc)?)
 }
 
-// A new board, with its three callers.
-fn open_three(alloc: Global, config: ValidConfig) -> Result<(Board, Caller, Caller, Caller), Fail>
-    requires { config.callers ≡ 3 }
-    ensures config { IfOk result (λ r. r.0.config ≡ config) }
-    ensures first { IfOk result (λ r. IsFresh r.0 0 r.1) }
-    ensures second { IfOk result (λ r. IsFresh r.0 1 r.2) }
-    ensures third { IfOk result (λ r. IsFresh r.0 2 r.3) }
+// A new board, with its three callers, each with this budget.
+fn open_three(alloc: Global, budget: u32) -> Result<(Board, Caller, Caller, Caller), Fail>
+    ensures callers { IfOk result (λ r. r.0.config.callers ≡ 3) }
+    ensures block { IfOk result (λ r. r.0.config.owners ≡ 0 ∷ []) }
+    ensures first { IfOk result (λ r. IsFresh r.0 0 r.1 × (r.1.left ≡ budget)) }
+    ensures second { IfOk result (λ r. IsFresh r.0 1 r.2 × (r.2.left ≡ budget)) }
+    ensures third { IfOk result (λ r. IsFresh r.0 2 r.3 × (r.3.left ≡ budget)) }
 {
-    let (board, mut callers) = Board::open(alloc, config)?;
-    let third = last(&board, &mut callers);
-    let second = last(&board, &mut callers);
-    let first = last(&board, &mut callers);
+    let (board, mut callers) = open(alloc, vec![in alloc; budget, budget, budget]?)?;
+    let third = last(&board, &mut callers, 2);
+    let second = last(&board, &mut callers, 1);
+    let first = last(&board, &mut callers, 0);
     Ok((board, first, second, third))
 }
 
@@ -170,17 +173,27 @@ fn look_at_block(board: &Board, caller: &mut Caller) -> u64
     board.look(caller, BLOCK)
 }
 
-#[test]
-fn a_post_its_looks_and_its_journal(rt: HostRuntime) -> Result<(), Fail> {
-    let budgets = vec![in rt.alloc(); 3, 3]?;
-    let (board, mut owner, mut poster) = open_two(rt.alloc(), setup(rt.alloc(), budgets)?)?;
-    let zero = look_at_block(&board, &mut poster);
-    let posted = try_on_block(&board, &mut poster, EcbOp::Post(5), zero);
-    let moved = try_on_block(&board, &mut poster, EcbOp::Post(6), zero);
+// A post of a look's word, a second one of the same word, and an arm behind it: the second is not made, and the arm finds the post.
+fn post_and_arm<R: Abort + Wait>(rt: &R, board: &Board, owner: &mut Caller, poster: &mut Caller)
+    requires callers { board.now.config.callers ≡ 2 }
+    requires block { board.now.config.owners ≡ 0 ∷ [] }
+    requires owner { IsOf board.now owner.old × (owner.old.number ≡ 0) × (0 < owner.old.left) }
+    requires poster { IsOf board.now poster.old × (poster.old.number ≡ 1) × (2 ≤ poster.old.left) }
+    ensures owner { IsOf board.now owner.new × (owner.new.number ≡ 0) }
+    ensures poster { IsOf board.now poster.new × (poster.new.number ≡ 1) }
+{
+    let zero = look_at_block(board, poster);
+    let posted = try_on_block(board, poster, EcbOp::Post(5), zero);
+    assert_eq!(rt; posted, Ok(Reply::Ecb(EcbReply::Posted)));
+    let moved = try_on_block(board, poster, EcbOp::Post(6), zero);
     assert_eq!(rt; moved, Err(Moved(35_185_445_830_661)));
-    let armed = on_block(&rt, &board, &mut owner, EcbOp::Arm);
-    assert!(rt; board.peek(&rt, &mut owner, Watch::Ecb(0)));
-    let closed = close_two(rt.alloc(), board, owner, poster)?;
+    let armed = on_block(rt, board, owner, EcbOp::Arm);
+    assert_eq!(rt; armed, Reply::Ecb(EcbReply::Complete(5)));
+    assert!(rt; board.peek(rt, owner, Watch::Ecb(0)));
+}
+
+// Stops the test where these are not the entries of the post and of the arm.
+fn assert_is_posted_and_armed(rt: &impl Abort, journal: &[Entry]) {
     let expected = [
         Entry {
             caller: 1,
@@ -197,9 +210,15 @@ fn a_post_its_looks_and_its_journal(rt: HostRuntime) -> Result<(), Fail> {
             reply: Reply::Ecb(EcbReply::Complete(5)),
         },
     ];
-    assert_eq!(rt; closed.journal.as_slice(), expected.as_slice());
-    assert_eq!(rt; posted, Ok(expected[0].reply));
-    assert_eq!(rt; armed, expected[1].reply);
+    assert_eq!(rt; journal, expected.as_slice());
+}
+
+#[test]
+fn a_post_its_looks_and_its_journal(rt: HostRuntime) -> Result<(), Fail> {
+    let (board, mut owner, mut poster) = open_two(rt.alloc(), 3, 3)?;
+    post_and_arm(&rt, &board, &mut owner, &mut poster);
+    let closed = close_two(rt.alloc(), board, owner, poster)?;
+    assert_is_posted_and_armed(&rt, &closed.journal);
     Ok(())
 }
 
@@ -252,26 +271,33 @@ fn is_unwaited(reply: Reply) -> bool {
     }
 }
 
+// So many tests of the block, each of which is in the caller's log.
+fn log_tests<R: Abort + Wait>(rt: &R, board: &Board, caller: Caller, events: u32)
+    requires board { IsOf board.now caller }
+    requires number { caller.number < board.now.config.callers }
+    requires block { 0 < length board.now.config.owners }
+    requires left { events ≤ caller.left }
+{
+    let caller = repeat(rt, board, caller, EcbOp::Test, events);
+    assert_eq!(rt; caller.log().len(), events as usize);
+}
+
 // The two that bench/run times.
 #[test]
 fn events_of_one_thread(rt: HostRuntime) -> Result<(), Fail> {
-    let budgets = vec![in rt.alloc(); 250_000, 0]?;
-    let (board, first, _) = open_two(rt.alloc(), setup(rt.alloc(), budgets)?)?;
-    let first = repeat(&rt, &board, first, EcbOp::Test, 250_000);
-    assert_eq!(rt; first.log().len(), 250_000);
+    let (board, first, _) = open_two(rt.alloc(), 250_000, 0)?;
+    log_tests(&rt, &board, first, 250_000);
     Ok(())
 }
 
 #[test]
 fn events_of_two_threads_on_one_word(rt: HostRuntime) -> Result<(), Fail> {
-    let budgets = vec![in rt.alloc(); 125_000, 125_000]?;
-    let (board, first, second) = open_two(rt.alloc(), setup(rt.alloc(), budgets)?)?;
-    let (first, second) = join(
+    let (board, first, second) = open_two(rt.alloc(), 125_000, 125_000)?;
+    join(
         &rt,
-        || repeat(&rt, &board, first, EcbOp::Test, 125_000),
-        || repeat(&rt, &board, second, EcbOp::Test, 125_000),
+        || log_tests(&rt, &board, first, 125_000),
+        || log_tests(&rt, &board, second, 125_000),
     );
-    assert_eq!(rt; [first.log().len(), second.log().len()], [125_000, 125_000]);
     Ok(())
 }
 
@@ -309,8 +335,7 @@ fn is_replayed<R: Abort>(rt: &R, alloc: Global, closed: &Listed) -> bool
 
 #[test]
 fn one_clears_one_posts_and_one_tests(rt: HostRuntime) -> Result<(), Fail> {
-    let budgets = vec![in rt.alloc(); 10_000, 10_000, 10_000]?;
-    let (board, owner, poster, tester) = open_three(rt.alloc(), setup(rt.alloc(), budgets)?)?;
+    let (board, owner, poster, tester) = open_three(rt.alloc(), 10_000)?;
     let (owner, (poster, tester)) = join(
         &rt,
         || repeat(&rt, &board, owner, EcbOp::Clear, 10_000),
@@ -438,8 +463,7 @@ fn contend<R: Abort + Wait>(
 
 #[test]
 fn two_threads_contend_for_one_latch(rt: HostRuntime) -> Result<(), Fail> {
-    let budgets = vec![in rt.alloc(); 2000, 2000]?;
-    let (board, first, second) = open_two(rt.alloc(), setup(rt.alloc(), budgets)?)?;
+    let (board, first, second) = open_two(rt.alloc(), 2000, 2000)?;
     let ((first, one), (second, other)) = join(
         &rt,
         || contend(&rt, &board, first, 1000),
@@ -456,27 +480,34 @@ fn two_threads_contend_for_one_latch(rt: HostRuntime) -> Result<(), Fail> {
     Ok(())
 }
 
-#[test]
-fn a_release_wakes_three_in_order(rt: HostRuntime) -> Result<(), Fail> {
-    let budgets = vec![in rt.alloc(); 3, 2]?;
-    let (board, mut first, mut second) = open_two(rt.alloc(), setup(rt.alloc(), budgets)?)?;
-    let holds = obtain(
-        &rt,
-        &board,
-        &mut second,
-        7,
-        Mode::Exclusive,
-        LatchForm::Waiting,
-    );
-    assert_eq!(rt; holds, LatchReply::Granted(0));
+// Three requests of one caller for a latch that another holds: they wait in order.
+fn queue_three<R: Abort + Wait>(rt: &R, board: &Board, caller: &mut Caller)
+    requires board { IsOf board.now caller.old }
+    requires number { caller.old.number < board.now.config.callers }
+    requires latch { (board.now.config.latches ≡ 1) × (board.now.config.quota ≡ 4) }
+    requires left { 3 ≤ caller.old.left }
+    requires none { standing caller.old.log ≡ [] }
+{
     let waits = [
-        obtain(&rt, &board, &mut first, 9, Mode::Shared, LatchForm::Waiting),
-        obtain(&rt, &board, &mut first, 9, Mode::Shared, LatchForm::Waiting),
-        obtain(&rt, &board, &mut first, 9, Mode::Shared, LatchForm::Waiting),
+        obtain(rt, board, caller, 9, Mode::Shared, LatchForm::Waiting),
+        obtain(rt, board, caller, 9, Mode::Shared, LatchForm::Waiting),
+        obtain(rt, board, caller, 9, Mode::Shared, LatchForm::Waiting),
     ];
     let queued = |id: u32| LatchReply::Queued(id);
     assert_eq!(rt; waits, [queued(1), queued(2), queued(3)]);
-    let released = release(&rt, &board, &mut second, 0);
+}
+
+// One caller holds the latch, three requests of another wait for it, and its release wakes them in order.
+fn wake_three<R: Abort + Wait>(rt: &R, board: &Board, waiter: &mut Caller, holder: &mut Caller)
+    requires callers { board.now.config.callers ≡ 2 }
+    requires latch { (board.now.config.latches ≡ 1) × (board.now.config.quota ≡ 4) }
+    requires waiter { IsOf board.now waiter.old × (waiter.old.number ≡ 0) × (3 ≤ waiter.old.left) × (waiter.old.log ≡ []) }
+    requires holder { IsOf board.now holder.old × (holder.old.number ≡ 1) × (2 ≤ holder.old.left) × (holder.old.log ≡ []) }
+{
+    let holds = obtain(rt, board, holder, 7, Mode::Exclusive, LatchForm::Waiting);
+    assert_eq!(rt; holds, LatchReply::Granted(0));
+    queue_three(rt, board, waiter);
+    let released = release(rt, board, holder, 0);
     assert_eq!(rt; released, LatchReply::Released { granted: 3 });
     let wake = |id: u32| Wake {
         caller: 0,
@@ -484,6 +515,12 @@ fn a_release_wakes_three_in_order(rt: HostRuntime) -> Result<(), Fail> {
         ecb: None,
         code: 0,
     };
-    assert_eq!(rt; second.wakes(), [wake(1), wake(2), wake(3)].as_slice());
+    assert_eq!(rt; holder.wakes(), [wake(1), wake(2), wake(3)].as_slice());
+}
+
+#[test]
+fn a_release_wakes_three_in_order(rt: HostRuntime) -> Result<(), Fail> {
+    let (board, mut first, mut second) = open_two(rt.alloc(), 3, 2)?;
+    wake_three(&rt, &board, &mut first, &mut second);
     Ok(())
 }

@@ -40,6 +40,31 @@ fn open(alloc: Global, budgets: Vec<u32>) -> Result<(Station, Vec<Task>), Fail>
     Ok(Station::open(alloc, config.check(alloc)?)?)
 }
 
+// The same of one task with this budget, and the task.
+fn open_one(alloc: Global, budget: u32) -> Result<(Station, Task), Fail>
+    ensures task { IfOk result (λ r. IsOf r.0 r.1 × IsAtRest r.1.log) }
+    ensures latches { IfOk result (λ r. r.0.config.latches ≡ 8) }
+    ensures block { IfOk result (λ r. length r.0.config.owners ≡ 1) }
+{
+    let (station, mut tasks) = open(alloc, vec![in alloc; budget]?)?;
+    let task = station.take_last(&mut tasks);
+    Ok((station, task))
+}
+
+// The same of two tasks with these budgets, and the tasks.
+fn open_two(alloc: Global, first: u32, second: u32) -> Result<(Station, Task, Task), Fail>
+    ensures first { IfOk result (λ r. IsOf r.0 r.1 × (r.1.number ≡ 0) × IsAtRest r.1.log) }
+    ensures second { IfOk result (λ r. IsOf r.0 r.2 × (r.2.number ≡ 1) × IsAtRest r.2.log) }
+    ensures callers { IfOk result (λ r. r.0.config.callers ≡ 2) }
+    ensures latches { IfOk result (λ r. r.0.config.latches ≡ 8) }
+    ensures block { IfOk result (λ r. length r.0.config.owners ≡ 1) }
+{
+    let (station, mut tasks) = open(alloc, vec![in alloc; first, second]?)?;
+    let second = station.take_last(&mut tasks);
+    let first = station.take_last(&mut tasks);
+    Ok((station, first, second))
+}
+
 // ---- the calls, of a task at rest that is asserted to have the events for them
 
 // Takes a latch alone for this requestor. Where the request is to be posted, its post is waited for.
@@ -88,21 +113,29 @@ fn give_back<R: Abort + Wait>(rt: &R, station: &Station, task: &mut Task, token:
 
 // ---- one task
 
-#[test]
-#[tactic(auto, using(mv_wait::proofs::Compose::served))]
-fn a_token_has_the_key_of_its_record(rt: HostRuntime) -> Result<(), Fail> {
-    let (station, mut tasks) = open(rt.alloc(), vec![in rt.alloc(); 100]?)?;
-    let mut task = station.take_last(&mut tasks);
-    let first = take(&rt, &station, &mut task, 0, 1, LatchForm::Conditional);
-    let second = take(&rt, &station, &mut task, 1, 1, LatchForm::Conditional);
+// Takes two latches, gives one of them back and takes a third: each token has the key of its request's record.
+fn take_three<R: Abort + Wait>(rt: &R, station: &Station, task: &mut Task)
+    requires task { IsOf station.now task.old }
+    requires rest { IsAtRest task.old.log }
+    requires latches { station.now.config.latches ≡ 8 }
+    requires block { length station.now.config.owners ≡ 1 }
+{
+    let first = take(rt, station, task, 0, 1, LatchForm::Conditional);
+    let second = take(rt, station, task, 1, 1, LatchForm::Conditional);
     assert_eq!(rt; (first.key, second.key), (0, 1));
-    give_back(&rt, &station, &mut task, first);
+    give_back(rt, station, task, first);
     // The record that was given back is used again, under the number of another request.
-    let third = take(&rt, &station, &mut task, 2, 1, LatchForm::Conditional);
+    let third = take(rt, station, task, 2, 1, LatchForm::Conditional);
     assert_eq!(rt; (third.id, third.key), (3, 0));
     assert_eq!(rt; task.key(first.id), None);
     assert_eq!(rt; task.key(second.id), Some(1));
     assert_eq!(rt; task.key(third.id), Some(0));
+}
+
+#[test]
+fn a_token_has_the_key_of_its_record(rt: HostRuntime) -> Result<(), Fail> {
+    let (station, mut task) = open_one(rt.alloc(), 100)?;
+    take_three(&rt, &station, &mut task);
     Ok(())
 }
 
@@ -170,9 +203,7 @@ fn obtain_behind_a_post<R: Abort + Wait>(
 
 #[test]
 fn a_request_is_purged_while_its_task_waits(rt: HostRuntime) -> Result<(), Fail> {
-    let (station, mut tasks) = open(rt.alloc(), vec![in rt.alloc(); 100, 200_100]?)?;
-    let mut holder = station.take_last(&mut tasks);
-    let waiter = station.take_last(&mut tasks);
+    let (station, waiter, mut holder) = open_two(rt.alloc(), 100, 200_100)?;
     let held = take(&rt, &station, &mut holder, 0, 1, LatchForm::Conditional);
     let (purged, obtained) = join(
         &rt,
@@ -220,9 +251,7 @@ fn contend<R: Abort + Wait + Threads + Sync>(
     ensures tasks { IfOk result (λ r. AreInOrder r.0 0 r.1.items × (length r.1.items ≡ r.0.config.callers)) }
 {
     let budget = 5 * times + 100;
-    let (station, mut tasks) = open(alloc, vec![in alloc; budget, budget]?)?;
-    let second = station.take_last(&mut tasks);
-    let first = station.take_last(&mut tasks);
+    let (station, first, second) = open_two(alloc, budget, budget)?;
     let (first, second) = join(
         rt,
         || take_often(rt, &station, first, 1, LatchForm::Waiting, times),
@@ -244,8 +273,7 @@ fn one_task_takes_a_latch_beside_one_that_is_posted_for_it(rt: HostRuntime) -> R
 
 #[test]
 fn a_free_latch_is_taken_and_given_back(rt: HostRuntime) -> Result<(), Fail> {
-    let (station, mut tasks) = open(rt.alloc(), vec![in rt.alloc(); 50_010]?)?;
-    let task = station.take_last(&mut tasks);
+    let (station, task) = open_one(rt.alloc(), 50_010)?;
     let task = take_often(&rt, &station, task, 1, LatchForm::Waiting, 25_000);
     assert_eq!(rt; task.log().len(), 50_000);
     Ok(())

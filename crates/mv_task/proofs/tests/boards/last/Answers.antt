@@ -1,4 +1,4 @@
-use Rattle.std.proofs.Common.{◌≡◌, ◌+◌, length, subst, arith}
+use Rattle.std.proofs.Common.{◌≡◌, ◌+◌, [], ◌∷◌, length, ap, ◌∙◌, length-append, subst, arith}
 use Rattle.mv_board.specs.Faces.{IsFresh, AreFresh}
 use Rattle.mv_board.proofs.Fresh.{fresh_last, fresh_front}
 use Rattle.mv_task.proofs.tests.boards.last.Goals as goal
@@ -7,7 +7,9 @@ pub returns-clause-caller : goal.returns-clause-caller
 returns-clause-caller c =
     let b = c.args.board.now in
     let others = c.pop.new.self.items in
-    let place : length others + 0 ≡ length others = omega arith in
+    let before = c.requires.count in
+    let taken = ap length c.in-Some.ensures.items ∙ length-append others (c.in-Some.caller ∷ []) in
+    let place : length others + 0 ≡ c.args.number = omega arith in
     subst (λ k. IsFresh b k c.in-Some.caller) place
     (fresh_last b 0 others c.in-Some.caller (subst (AreFresh b 0) c.in-Some.ensures.items c.requires.fresh))
 
