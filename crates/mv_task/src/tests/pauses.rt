@@ -152,29 +152,24 @@ const RESET: u64 = 16_777_216;
 
 const PRERELEASED: u64 = 33_554_437;
 
+// A release of element 0, and two that are refused by the state that they expect.
+fn exchange_thrice(rt: &impl Abort, station: &Station, task: &mut Task)
+    requires task { IsOf station.now task.old }
+    requires rest { IsAtRest task.old.log }
+    requires elements { element_count station.now.config ≡ 4 }
+{
+    let first = exchange(rt, station, task, token(0, 0), PLACE + RESET, 5);
+    assert_eq!(rt; first, Ok(ReleaseAnswer::Early));
+    let second = exchange(rt, station, task, token(0, 0), 2 * PLACE + PRERELEASED, 6);
+    assert_eq!(rt; second, Err(TryReleaseRefusal::Already));
+    let spent = exchange(rt, station, task, token(0, 1), 3 * PLACE + PRERELEASED, 6);
+    assert_eq!(rt; spent, Err(TryReleaseRefusal::Spent(0)));
+}
+
 #[test]
 fn an_exchange_is_refused_by_the_state_that_is_expected(rt: HostRuntime) -> Result<(), Fail> {
     let (station, mut task, _other) = open_two(&rt, rt.alloc(), 20)?;
-    let first = exchange(&rt, &station, &mut task, token(0, 0), PLACE + RESET, 5);
-    assert_eq!(rt; first, Ok(ReleaseAnswer::Early));
-    let second = exchange(
-        &rt,
-        &station,
-        &mut task,
-        token(0, 0),
-        2 * PLACE + PRERELEASED,
-        6,
-    );
-    assert_eq!(rt; second, Err(TryReleaseRefusal::Already));
-    let spent = exchange(
-        &rt,
-        &station,
-        &mut task,
-        token(0, 1),
-        3 * PLACE + PRERELEASED,
-        6,
-    );
-    assert_eq!(rt; spent, Err(TryReleaseRefusal::Spent(0)));
+    exchange_thrice(&rt, &station, &mut task);
     Ok(())
 }
 
@@ -292,7 +287,7 @@ fn a_call_made_of_events_wakes_whom_it_releases(rt: HostRuntime) -> Result<(), F
 }
 
 // Releases the other's pause and pauses, once with each generation.
-fn hand_over<R: Abort + Wait>(rt: &R, station: &Station, mut task: Task, times: u32) -> Task
+fn hand_over<R: Abort + Wait>(rt: &R, station: &Station, mut task: Task, times: u32)
     requires task { IsOf station.now task }
     requires rest { IsAtRest task.log }
     requires elements { element_count station.now.config ≡ 4 }
@@ -302,11 +297,10 @@ fn hand_over<R: Abort + Wait>(rt: &R, station: &Station, mut task: Task, times: 
         assert!(rt; hand(rt, station, &mut task, 2, generation).is_ok());
         take(rt, station, &mut task, 0, generation);
     }
-    task
 }
 
 // Pauses first, and is the last to release.
-fn hand_back<R: Abort + Wait>(rt: &R, station: &Station, mut task: Task, times: u32) -> Task
+fn hand_back<R: Abort + Wait>(rt: &R, station: &Station, mut task: Task, times: u32)
     requires task { IsOf station.now task }
     requires rest { IsAtRest task.log }
     requires elements { element_count station.now.config ≡ 4 }
@@ -316,7 +310,6 @@ fn hand_back<R: Abort + Wait>(rt: &R, station: &Station, mut task: Task, times: 
         take(rt, station, &mut task, 2, generation);
         assert!(rt; hand(rt, station, &mut task, 0, generation).is_ok());
     }
-    task
 }
 
 #[test]

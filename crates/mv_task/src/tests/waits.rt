@@ -1,11 +1,11 @@
 //! What no clause says: how long a chain of exits may be, two threads that hand over to each other, and whom a post wakes; and what
 //! `bench/run` times. Tables of calls with their answers are scripts, in mv_program.
 
-ghost use Rattle.std.specs.Prelude.{◌≡◌, ◌<◌, ◌≤◌, ◌^◌, length, map, IfOk};
+ghost use Rattle.std.specs.Prelude.{◌≡◌, ◌<◌, ◌≤◌, ◌^◌, List, [], ◌∷◌, length, map, IfOk};
 ghost use Rattle.std.specs.List.{AllByRecursion};
 ghost use Rattle.mv_machine.specs.Config.{exit_of};
 ghost use Rattle.mv_calls.specs.Rest.{IsAtRest};
-ghost use Rattle.mv_board.specs.Faces.{IsFresh, IsOf};
+ghost use Rattle.mv_board.specs.Faces.{IsFresh, IsOf, AreInOrder};
 
 use super::{ROUNDS, assert_is_block, await_post, linger};
 use mv_machine::{Config, Exit, Object, ValidConfig};
@@ -50,34 +50,63 @@ fn setup(
     Ok(config.check(alloc)?)
 }
 
-// A new station of this configuration, with its one task.
-fn open_one(alloc: Global, config: ValidConfig) -> Result<(Station, Task), Fail>
-    requires { config.callers ≡ 1 }
-    ensures config { IfOk result (λ r. r.0.config ≡ config) }
-    ensures task { IfOk result (λ r. IsFresh r.0 0 r.1) }
+// A new station of one task, with this budget, these blocks and these exits.
+fn open_one(
+    alloc: Global,
+    budget: u32,
+    owners: &[u32],
+    exits: Vec<Exit>,
+) -> Result<(Station, Task), Fail>
+    ensures { IfOk result (λ r. IsFresh r.0 0 r.1) }
 {
+    let config = setup(alloc, &[budget], owners, exits)?;
     let (station, mut tasks) = Station::open(alloc, config)?;
     let task = station.take_last(&mut tasks);
     Ok((station, task))
 }
 
+// A new station of two tasks, with these budgets, these blocks and these exits.
+fn open_two(
+    alloc: Global,
+    first: u32,
+    second: u32,
+    owners: &[u32],
+    exits: Vec<Exit>,
+) -> Result<(Station, Task, Task), Fail>
+    ensures callers { IfOk result (λ r. r.0.config.callers ≡ 2) }
+    ensures first { IfOk result (λ r. IsFresh r.0 0 r.1) }
+    ensures second { IfOk result (λ r. IsFresh r.0 1 r.2) }
+{
+    let config = setup(alloc, &[first, second], owners, exits)?;
+    let (station, mut tasks) = Station::open(alloc, config)?;
+    let second = station.take_last(&mut tasks);
+    let first = station.take_last(&mut tasks);
+    Ok((station, first, second))
+}
+
 // ---- one task
 
-// A chain of blocks, the exit of each of which posts the next.
-fn chain(alloc: Global, exits: u32) -> Result<ValidConfig, Fail>
+// The exits of a chain of blocks, each of which posts the next.
+fn chain(alloc: Global, exits: u32) -> Result<Vec<Exit>, Fail>
     requires { exits ≤ 1000 }
-    ensures { IfOk result (λ c. c.callers ≡ 1) }
 {
-    let mut owners = vec![in alloc; 0]?;
     let mut list = Vec::new(alloc);
     for i in 0..exits {
-        owners.push(0)?;
         list.push(Exit {
             source: i,
             targets: vec![in alloc; i + 1]?,
         })?;
     }
-    setup(alloc, &[4000], &owners, list)
+    Ok(list)
+}
+
+// A new station of such a chain, with its one task.
+fn open_chain(alloc: Global, exits: u32) -> Result<(Station, Task), Fail>
+    requires { exits ≤ 1000 }
+    ensures { IfOk result (λ r. IsFresh r.0 0 r.1) }
+{
+    let owners = vec![in alloc; 0u32; exits as usize + 1]?;
+    open_one(alloc, 4000, &owners, chain(alloc, exits)?)
 }
 
 // The code of each post.
@@ -97,19 +126,38 @@ fn post<R: Abort + Wait>(rt: &R, station: &Station, task: &mut Task, ecb: u32) -
     station.post(rt, task, ecb, CODE)
 }
 
-#[test]
+// Extends each block of a chain with its exit.
 #[tactic(auto, using(mv_wait::proofs::Compose::served))]
-fn a_chain_of_a_thousand_exits_is_posted(rt: HostRuntime) -> Result<(), Fail> {
-    let (station, mut task) = open_one(rt.alloc(), chain(rt.alloc(), 1000)?)?;
-    for i in 0..1000u32 {
-        assert_is_block(&rt, &station, i);
+fn extend_each<R: Abort + Wait>(rt: &R, station: &Station, task: &mut Task, exits: u32)
+    requires task { IsOf station.now task.old }
+    requires rest { IsAtRest task.old.log }
+    requires exits { exits ≤ 1000 }
+    ensures task { IsOf station.now task.new }
+    ensures rest { IsAtRest task.new.log }
+{
+    for i in 0..exits {
+        assert_is_block(rt, station, i);
         assert!(rt; task.left() > 0);
-        assert!(rt; station.extend(&rt, &mut task, i, i + 1).is_ok());
+        assert!(rt; station.extend(rt, task, i, i + 1).is_ok());
         assert!(rt; task.extended(i));
     }
-    assert_eq!(rt; post(&rt, &station, &mut task, 0), PostAnswer::Woke);
+}
+
+// Posts a chain of a thousand exits, by its first block.
+fn post_chain<R: Abort + Wait>(rt: &R, station: &Station, task: &mut Task)
+    requires task { IsOf station.now task.old }
+    requires rest { IsAtRest task.old.log }
+{
+    extend_each(rt, station, task, 1000);
+    assert_eq!(rt; post(rt, station, task, 0), PostAnswer::Woke);
     // An extend of each, and the posts of all of them and of the last block.
     assert_eq!(rt; task.log().len(), 2001);
+}
+
+#[test]
+fn a_chain_of_a_thousand_exits_is_posted(rt: HostRuntime) -> Result<(), Fail> {
+    let (station, mut task) = open_chain(rt.alloc(), 1000)?;
+    post_chain(&rt, &station, &mut task);
     Ok(())
 }
 
@@ -158,21 +206,33 @@ fn hand_back<R: Abort + Wait>(
     task
 }
 
+// How many events the history of a station has, whose two tasks are back.
+fn count_events(alloc: Global, station: Station, first: Task, second: Task) -> Result<usize, Fail>
+    requires order { AreInOrder station 0 (first ∷ second ∷ []) }
+    requires all { station.config.callers ≡ 2 }
+{
+    let closed = station.close(vec![in alloc; first, second]?);
+    let listed = closed.history.listed(alloc)?;
+    Ok(listed.journal.len())
+}
+
 #[test]
 fn two_threads_post_in_turn(rt: HostRuntime) -> Result<(), Fail> {
     let alloc = rt.alloc();
-    let config = setup(alloc, &[4 * ROUNDS, 4 * ROUNDS], &[0, 1], Vec::new(alloc))?;
-    let (station, mut tasks) = Station::open(alloc, config)?;
-    let second = station.take_last(&mut tasks);
-    let first = station.take_last(&mut tasks);
+    let (station, first, second) = open_two(
+        alloc,
+        4 * ROUNDS,
+        4 * ROUNDS,
+        &[0, 1],
+        Vec::new(alloc),
+    )?;
     let (first, second) = join(
         &rt,
         || hand_over(&rt, &station, first, 0, 1, ROUNDS),
         || hand_back(&rt, &station, second, 1, 0, ROUNDS),
     );
-    let closed = station.close(vec![in alloc; first, second]?);
-    let listed = closed.history.listed(alloc)?;
-    assert_eq!(rt; listed.journal.len(), 8 * ROUNDS as usize);
+    let events = count_events(alloc, station, first, second)?;
+    assert_eq!(rt; events, 8 * ROUNDS as usize);
     Ok(())
 }
 
@@ -195,36 +255,62 @@ fn await_arm<R: Abort + Wait>(rt: &R, station: &Station, task: &mut Task)
     }
 }
 
-// Posts the own block 0, whose exit posts block 1, where the other task has parked for that, and waits for block 2.
+// Extends the own block 0 with the one exit.
 #[tactic(auto, using(mv_wait::proofs::Compose::served))]
+fn extend_own<R: Abort + Wait>(rt: &R, station: &Station, task: &mut Task)
+    requires task { IsOf station.now task.old }
+    requires rest { IsAtRest task.old.log }
+    ensures task { IsOf station.now task.new }
+    ensures rest { IsAtRest task.new.log }
+{
+    assert_is_block(rt, station, 0);
+    assert!(rt; task.left() > 0);
+    assert!(rt; station.extend(rt, task, 0, 1).is_ok());
+}
+
+// Clears the own block 0.
+#[tactic(auto, using(mv_wait::proofs::Compose::served))]
+fn clear_own<R: Abort + Wait>(rt: &R, station: &Station, task: &mut Task)
+    requires task { IsOf station.now task.old }
+    requires rest { IsAtRest task.old.log }
+    ensures task { IsOf station.now task.new }
+    ensures rest { IsAtRest task.new.log }
+{
+    assert_is_block(rt, station, 0);
+    assert!(rt; task.left() > 0);
+    assert!(rt; station.clear(rt, task, 0).is_ok());
+}
+
+// Posts the own block 0, whose exit posts block 1, where the other task has parked for that, and waits for block 2.
 fn post_by_exit<R: Abort + Wait>(rt: &R, station: &Station, mut task: Task, times: u32)
     requires task { IsOf station.now task }
     requires rest { IsAtRest task.log }
 {
     for _ in 0..times {
-        assert_is_block(rt, station, 0);
-        assert!(rt; task.left() >= 2);
-        assert!(rt; station.extend(rt, &mut task, 0, 1).is_ok());
+        extend_own(rt, station, &mut task);
         await_arm(rt, station, &mut task);
         linger();
         post(rt, station, &mut task, 0);
-        assert!(rt; task.left() > 0);
-        assert!(rt; station.clear(rt, &mut task, 0).is_ok());
+        clear_own(rt, station, &mut task);
         await_post(rt, station, &mut task, 2, CODE);
     }
 }
 
-#[test]
-fn a_post_wakes_whom_its_exit_posts(rt: HostRuntime) -> Result<(), Fail> {
+// A new station of two tasks and three blocks, of which the first has an exit that posts the second.
+fn open_exit(alloc: Global) -> Result<(Station, Task, Task), Fail>
+    ensures first { IfOk result (λ r. IsFresh r.0 0 r.1) }
+    ensures second { IfOk result (λ r. IsFresh r.0 1 r.2) }
+{
     let exit = Exit {
         source: 0,
-        targets: vec![in rt.alloc(); 1]?,
+        targets: vec![in alloc; 1]?,
     };
-    let exits = vec![in rt.alloc(); exit]?;
-    let config = setup(rt.alloc(), &[700, 400], &[0, 1, 0], exits)?;
-    let (station, mut tasks) = Station::open(rt.alloc(), config)?;
-    let second = station.take_last(&mut tasks);
-    let first = station.take_last(&mut tasks);
+    open_two(alloc, 700, 400, &[0, 1, 0], vec![in alloc; exit]?)
+}
+
+#[test]
+fn a_post_wakes_whom_its_exit_posts(rt: HostRuntime) -> Result<(), Fail> {
+    let (station, first, second) = open_exit(rt.alloc())?;
     join(
         &rt,
         || post_by_exit(&rt, &station, first, 100),
@@ -252,6 +338,25 @@ fn first_blocks(
     Ok(ecbs)
 }
 
+// Waits until all of these blocks are complete.
+fn wait_for<R: Abort + Wait>(
+    rt: &R,
+    station: &Station,
+    task: &mut Task,
+    blocks: u32,
+    ecbs: &[u32],
+    out: &mut [WaitSlot],
+)
+    requires task { IsOf station.now task.old }
+    requires rest { IsAtRest task.old.log }
+    requires blocks { AllByRecursion (λ e. e < length station.now.config.owners) ecbs.now }
+{
+    assert!(rt; out.len() == ecbs.len());
+    assert!(rt; task.left() as usize >= 2 * ecbs.len());
+    let waited = station.wait(rt, task, blocks, ecbs, out);
+    assert!(rt; waited.is_ok());
+}
+
 // Waits until all of the first blocks are complete.
 fn wait_for_all<R: Abort + Wait>(
     rt: &R,
@@ -265,10 +370,7 @@ fn wait_for_all<R: Abort + Wait>(
 {
     let ecbs = first_blocks(rt, alloc, station, blocks)?;
     let mut out = vec![in alloc; WaitSlot::Open; ecbs.len()]?;
-    assert!(rt; out.len() == ecbs.len());
-    assert!(rt; task.left() as usize >= 2 * ecbs.len());
-    let waited = station.wait(rt, &mut task, blocks, &ecbs, &mut out);
-    assert!(rt; waited.is_ok());
+    wait_for(rt, station, &mut task, blocks, &ecbs, &mut out);
     Ok(())
 }
 
@@ -294,10 +396,7 @@ fn wait_for_many<R: Abort + Wait + Threads + Sync>(
     requires { blocks < 2 ^ 16 }
 {
     let owners = vec![in alloc; 0u32; blocks as usize]?;
-    let config = setup(alloc, &[2 * blocks, blocks], &owners, Vec::new(alloc))?;
-    let (station, mut tasks) = Station::open(alloc, config)?;
-    let second = station.take_last(&mut tasks);
-    let first = station.take_last(&mut tasks);
+    let (station, first, second) = open_two(alloc, 2 * blocks, blocks, &owners, Vec::new(alloc))?;
     let (waited, ()) = join(
         rt,
         || wait_for_all(rt, alloc, &station, first, blocks),
@@ -319,12 +418,19 @@ fn a_wait_for_ten_thousand_blocks(rt: HostRuntime) -> Result<(), Fail> {
 
 // ---- many events
 
+// Posts the one block and waits for it, until there are 500,000 events.
+fn post_and_wait<R: Abort + Wait>(rt: &R, station: &Station, task: Task)
+    requires task { IsOf station.now task }
+    requires rest { IsAtRest task.log }
+{
+    let task = hand_over(rt, station, task, 0, 0, 125_000);
+    assert_eq!(rt; task.log().len(), 500_000);
+}
+
 // `bench/run` times it: 500,000 events that nobody disputes.
 #[test]
 fn posts_and_waits_of_one_thread(rt: HostRuntime) -> Result<(), Fail> {
-    let config = setup(rt.alloc(), &[500_000], &[0], Vec::new(rt.alloc()))?;
-    let (station, task) = open_one(rt.alloc(), config)?;
-    let task = hand_over(&rt, &station, task, 0, 0, 125_000);
-    assert_eq!(rt; task.log().len(), 500_000);
+    let (station, task) = open_one(rt.alloc(), 500_000, &[0], Vec::new(rt.alloc()))?;
+    post_and_wait(&rt, &station, task);
     Ok(())
 }
