@@ -109,6 +109,17 @@ fn hand<R: Abort + Wait>(
     release(station, rt, task, token(other, generation), CODE)
 }
 
+// A release that is not refused.
+fn hand_on<R: Abort + Wait>(rt: &R, station: &Station, task: &mut Task, other: u32, generation: u32)
+    requires task { IsOf station.now task.old }
+    requires rest { IsAtRest task.old.log }
+    requires element { other < element_count station.now.config }
+    ensures task { IsOf station.now task.new }
+    ensures rest { IsAtRest task.new.log }
+{
+    assert!(rt; hand(rt, station, task, other, generation).is_ok());
+}
+
 // ---- exchanges
 
 // Stops the test where this is no word of the element, or a task pauses in it.
@@ -152,23 +163,68 @@ const RESET: u64 = 16_777_216;
 
 const PRERELEASED: u64 = 33_554_437;
 
+// A release by one exchange, which is answered so.
+fn assert_exchange(
+    rt: &impl Abort,
+    station: &Station,
+    task: &mut Task,
+    token: Token,
+    expected: u64,
+    code: u32,
+    answer: Result<ReleaseAnswer, TryReleaseRefusal>,
+)
+    requires task { IsOf station.now task.old }
+    requires rest { IsAtRest task.old.log }
+    requires element { token.element < element_count station.now.config }
+    requires code { code < release_limit }
+    ensures task { IsOf station.now task.new }
+    ensures rest { IsAtRest task.new.log }
+{
+    let found = exchange(rt, station, task, token, expected, code);
+    assert_eq!(rt; found, answer);
+}
+
 // A release of element 0, and two that are refused by the state that they expect.
 fn exchange_thrice(rt: &impl Abort, station: &Station, task: &mut Task)
     requires task { IsOf station.now task.old }
     requires rest { IsAtRest task.old.log }
     requires elements { element_count station.now.config ≡ 4 }
 {
-    let first = exchange(rt, station, task, token(0, 0), PLACE + RESET, 5);
-    assert_eq!(rt; first, Ok(ReleaseAnswer::Early));
-    let second = exchange(rt, station, task, token(0, 0), 2 * PLACE + PRERELEASED, 6);
-    assert_eq!(rt; second, Err(TryReleaseRefusal::Already));
-    let spent = exchange(rt, station, task, token(0, 1), 3 * PLACE + PRERELEASED, 6);
-    assert_eq!(rt; spent, Err(TryReleaseRefusal::Spent(0)));
+    let (early, already) = (Ok(ReleaseAnswer::Early), Err(TryReleaseRefusal::Already));
+    let spent = Err(TryReleaseRefusal::Spent(0));
+    assert_exchange(rt, station, task, token(0, 0), PLACE + RESET, 5, early);
+    assert_exchange(
+        rt,
+        station,
+        task,
+        token(0, 0),
+        2 * PLACE + PRERELEASED,
+        6,
+        already,
+    );
+    assert_exchange(
+        rt,
+        station,
+        task,
+        token(0, 1),
+        3 * PLACE + PRERELEASED,
+        6,
+        spent,
+    );
+}
+
+// A new station with the first of its two tasks.
+fn open_first<R: Abort + Wait>(rt: &R, alloc: Global) -> Result<(Station, Task), Fail>
+    ensures elements { IfOk result (λ r. element_count r.0.config ≡ 4) }
+    ensures task { IfOk result (λ r. IsOf r.0 r.1 × IsAtRest r.1.log) }
+{
+    let (station, first, _) = open_two(rt, alloc, 20)?;
+    Ok((station, first))
 }
 
 #[test]
 fn an_exchange_is_refused_by_the_state_that_is_expected(rt: HostRuntime) -> Result<(), Fail> {
-    let (station, mut task, _other) = open_two(&rt, rt.alloc(), 20)?;
+    let (station, mut task) = open_first(&rt, rt.alloc())?;
     exchange_thrice(&rt, &station, &mut task);
     Ok(())
 }
@@ -294,7 +350,7 @@ fn hand_over<R: Abort + Wait>(rt: &R, station: &Station, mut task: Task, times: 
     requires times { times ≤ highest_generation }
 {
     for generation in 0..times {
-        assert!(rt; hand(rt, station, &mut task, 2, generation).is_ok());
+        hand_on(rt, station, &mut task, 2, generation);
         take(rt, station, &mut task, 0, generation);
     }
 }
@@ -308,7 +364,7 @@ fn hand_back<R: Abort + Wait>(rt: &R, station: &Station, mut task: Task, times: 
 {
     for generation in 0..times {
         take(rt, station, &mut task, 2, generation);
-        assert!(rt; hand(rt, station, &mut task, 0, generation).is_ok());
+        hand_on(rt, station, &mut task, 0, generation);
     }
 }
 
@@ -381,7 +437,7 @@ fn transfer_over<R: Abort + Wait>(rt: &R, station: &Station, mut task: Task)
     requires elements { element_count station.now.config ≡ 4 }
 {
     transfer_often(rt, station, &mut task, 0, 0, 2);
-    assert!(rt; hand(rt, station, &mut task, 2, TRANSFERS).is_ok());
+    hand_on(rt, station, &mut task, 2, TRANSFERS);
 }
 
 // Pauses first.

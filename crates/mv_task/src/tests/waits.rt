@@ -1,7 +1,7 @@
 //! What no clause says: how long a chain of exits may be, two threads that hand over to each other, and whom a post wakes; and what
 //! `bench/run` times. Tables of calls with their answers are scripts, in mv_program.
 
-ghost use Rattle.std.specs.Prelude.{◌≡◌, ◌<◌, ◌≤◌, ◌^◌, List, [], ◌∷◌, length, map, IfOk};
+ghost use Rattle.std.specs.Prelude.{◌≡◌, ◌<◌, ◌≤◌, ◌^◌, [], ◌∷◌, length, map, IfOk};
 ghost use Rattle.std.specs.List.{AllByRecursion};
 ghost use Rattle.mv_machine.specs.Config.{exit_of};
 ghost use Rattle.mv_calls.specs.Rest.{IsAtRest};
