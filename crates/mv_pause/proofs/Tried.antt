@@ -57,7 +57,7 @@ tried_runs t u token expected code r x =
       went = went_word t o x.place op reply u tt x.happened;
       few = omega arith;
       says = (refl, tt);
-      rest = rw meets (release_says_so r);
+      leaves = rw meets (release_says_so r);
     }
 
 -- what is answered says what came of the exchange

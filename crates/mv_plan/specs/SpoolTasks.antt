@@ -78,7 +78,7 @@ dispatch c n initiators j job =
     accepted (extend c (done n j) (j + 1)) (λ linked.
     first_of c (map (idle n) (range_with_len 0 initiators)) (hand_over c n (code_of j skipped)))))
 
--- the jobs from j on, and then the rest
+-- the jobs from j on, and then what follows
 abbrev pub dispatch_all : {A : Type 0} → Setup → ℕ → ℕ → ℕ → List JobData → Call A → Call A
 dispatch_all c n initiators j [] last = last
 dispatch_all c n initiators j (job ∷ jobs) last =
@@ -100,12 +100,12 @@ abbrev pub granted_as : {A : Type 0} → (ℕ → Call A) → Requested → Call
 granted_as f (GrantedAs id) = f id
 granted_as f (PendingAs id) = wrong
 
--- the request of this number is released, and then the rest. A latch without one is not to be freed
+-- the request of this number is released, and then what follows. A latch without one is not to be freed
 abbrev pub freed : {A : Type 0} → Setup → ℕ → Option ℕ → Call A → Call A
 freed c latch None last = wrong
 freed c latch (Some id) last = accepted (release_latch c latch id false) (λ granted. last)
 
--- the amount is added to the number that was read, and then the rest. A sum of more than 32 bits is not foreseen
+-- the amount is added to the number that was read, and then what follows. A sum of more than 32 bits is not foreseen
 abbrev pub counted : {A : Type 0} → ℕ → ℕ → Call A → ℕ → Call A
 counted v amount last n = if nat_lt (n + amount) (2 ^ 32) then followed (write_volume v (n + amount)) (λ stored. last) else wrong
 

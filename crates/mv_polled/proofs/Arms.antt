@@ -33,15 +33,15 @@ arms_said [] [] x s d = refl
 arms_said [] (h ∷ hs) x s d = absurd (cc s.0)
 arms_said (e ∷ es) [] x s d = absurd (cc d)
 arms_said (e ∷ es) (h ∷ hs) x s d = go (behind h.entry.reply (arm_all es (Done x))) s.1 d (arms_said es hs x) where
-  rest : Program Waited
-  rest = arm_all es (Done x)
+  later : Program Waited
+  later = arm_all es (Done x)
 
   here : deed h.entry ≡ arm_of e
   here = let q = some_pair_parts (Ecb e) h.entry.object (op_on.Ecb Arm) h.entry.op s.0 in (λ i. (sym q.0 i, sym q.1 i))
 
-  go : (on_ecb h.entry.reply (armed rest) ≡ rest) ⊎ (on_ecb h.entry.reply (armed rest) ≡ Wrong)
-      → Says (on_ecb h.entry.reply (armed rest)) hs → left (on_ecb h.entry.reply (armed rest)) hs ≡ Done x
-      → (Says rest hs → left rest hs ≡ Done x → map deed (entries hs) ≡ map arm_of es)
+  go : (on_ecb h.entry.reply (armed later) ≡ later) ⊎ (on_ecb h.entry.reply (armed later) ≡ Wrong)
+      → Says (on_ecb h.entry.reply (armed later)) hs → left (on_ecb h.entry.reply (armed later)) hs ≡ Done x
+      → (Says later hs → left later hs ≡ Done x → map deed (entries hs) ≡ map arm_of es)
       → map deed (entries (h ∷ hs)) ≡ map arm_of (e ∷ es)
   go (inl q) says done more = λ i. here i ∷ more (subst (λ p. Says p hs) q says) (subst (λ p. left p hs ≡ Done x) q done) i
   go (inr q) says done more = absurd (wrong_stays hs x (subst (λ p. left p hs ≡ Done x) q done))
@@ -51,4 +51,4 @@ pub arms_listed : (es : List ℕ) (t u : CallerFace) → ArmsAll es t u → AreA
 arms_listed es t u arms =
     let x : Waited = Err refusal.TooMany in
     let run = arms (Done x) in
-    record { entries = entries run.events; logged = run.went.logged; arms = arms_said es run.events x run.says run.rest }
+    record { entries = entries run.events; logged = run.went.logged; arms = arms_said es run.events x run.says run.leaves }

@@ -87,7 +87,7 @@ module _ (script : ScriptData) (moves : Moves) (es : List Entry) (k : ℕ) (answ
       (subst (λ kept. IsDoneOn (made_all script.setup (named_table script.table) (moves k) no_past (calls_at script k) kept) runs.events
       (past_with answers tokens))
       begun
-      (record { says = runs.says; done = runs.rest ∙ ap (λ p. Done p) s.is }))
+      (record { says = runs.says; done = runs.leaves ∙ ap (λ p. Done p) s.is }))
 
   -- and each word that an answer shows was met
   pub task_met : (i w : ℕ) → moves k i ≡ Some w → IsMet script moves es k i w
@@ -114,7 +114,7 @@ module _ (script : ScriptData) (moves : Moves) (es : List Entry) (k : ℕ) (answ
       (sym begun)
       ∙ taken_is (made_all script.setup (named_table script.table) (moves k) no_past (take i (calls_at script k))
       (kept_of t.number t.log)) first.events
-      (own.0 ++ r.later) s.answer first.says first.rest in
+      (own.0 ++ r.later) s.answer first.says first.leaves in
       let after : length r.before.log ≡ length first.events =
       ap (λ (es : List Entry). length es) (first.went.logged ∙ ap (λ es. es ++ entries first.events) log)
       ∙ length-map first.events (λ (h : Heard). h.entry) in

@@ -21,8 +21,8 @@ runs_and_then m n p f a q t u v x y = record {
   events = x.events ++ y.events;
   went = went_then x.events y.events t u v x.went y.went;
   few = (let i = x.few in let j = y.few in let e = length-append x.events y.events in omega arith);
-  says = and_then_says p f x.events y.events a x.says x.rest y.says;
-  rest = and_then_left p f x.events y.events a x.says x.rest ∙ y.rest;
+  says = and_then_says p f x.events y.events a x.says x.leaves y.says;
+  leaves = and_then_left p f x.events y.events a x.says x.leaves ∙ y.leaves;
 }
 
 -- a call that was run to its end, and what was run of the one that follows it
@@ -33,10 +33,10 @@ runs_followed i j call f a q t u v x y = record {
   events = x.events ++ y.events;
   went = went_then x.events y.events t u v x.went y.went;
   few = (let m = x.few in let n = y.few in let e = length-append x.events y.events in omega arith);
-  says = going_on_says (kept_of t.number t.log) (call (kept_of t.number t.log)) f x.events y.events a x.says x.rest
+  says = going_on_says (kept_of t.number t.log) (call (kept_of t.number t.log)) f x.events y.events a x.says x.leaves
       (subst (λ k. Says (f a k) y.events) then y.says);
-  rest = going_on_left (kept_of t.number t.log) (call (kept_of t.number t.log)) f x.events y.events a x.says x.rest
-      ∙ sym (ap (λ k. left (f a k) y.events) then) ∙ y.rest;
+  leaves = going_on_left (kept_of t.number t.log) (call (kept_of t.number t.log)) f x.events y.events a x.says x.leaves
+      ∙ sym (ap (λ k. left (f a k) y.events) then) ∙ y.leaves;
 } where
   then : kept_of u.number u.log ≡ kept_from (kept_of t.number t.log) (entries x.events)
   then = ap (λ k. kept_of k u.log) x.went.same.number ∙ ap (λ es. kept_of t.number es) x.went.logged

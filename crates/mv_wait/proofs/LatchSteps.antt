@@ -39,7 +39,7 @@ runs_latch p q t op reply u h a next = record {
   went = went_latch t h.0 op reply u h.1;
   few = omega arith;
   says = (a, tt);
-  rest = next (heard_with t h.0 op reply u.wakes) refl refl;
+  leaves = next (heard_with t h.0 op reply u.wakes) refl refl;
 }
 
 -- and what is left of the program by both

@@ -110,21 +110,21 @@ went_word t o place op reply u w h = record {
 
 -- nothing of the program was run
 pub runs_none : {A : Type 0} (p : Program A) (t : CallerFace) → Runs 0 p p t t
-runs_none p t = record { events = []; went = went_none t; few = omega arith; says = tt; rest = refl }
+runs_none p t = record { events = []; went = went_none t; few = omega arith; says = tt; leaves = refl }
 
 pub runs_then : {A : Type 0} (m n : ℕ) (p q r : Program A) (t u v : CallerFace) → Runs m p q t u → Runs n q r u v → Runs (m + n) p r t v
 runs_then m n p q r t u v x y = record {
   events = x.events ++ y.events;
   went = went_then x.events y.events t u v x.went y.went;
   few = (let a = x.few in let b = y.few in let e = length-append x.events y.events in omega arith);
-  says = Says-append p x.events y.events x.says (subst (λ s. Says s y.events) (sym x.rest) y.says);
-  rest = left-append p x.events y.events ∙ (ap (λ s. left s y.events) x.rest ∙ y.rest);
+  says = Says-append p x.events y.events x.says (subst (λ s. Says s y.events) (sym x.leaves) y.says);
+  leaves = left-append p x.events y.events ∙ (ap (λ s. left s y.events) x.leaves ∙ y.leaves);
 }
 
 -- more may have been made
 pub runs_within : {A : Type 0} (m n : ℕ) (p q : Program A) (t u : CallerFace) → m ≤ n → Runs m p q t u → Runs n p q t u
 runs_within m n p q t u le x =
-    record { events = x.events; went = x.went; few = (let a = x.few in omega arith); says = x.says; rest = x.rest }
+    record { events = x.events; went = x.went; few = (let a = x.few in omega arith); says = x.says; leaves = x.leaves }
 
 -- what was met or seen ready makes no difference
 pub runs_look : {A : Type 0} (n : ℕ) (p q : Program A) (t u v : CallerFace) → Runs n p q t u → Went [] u v → Runs n p q t v
@@ -133,7 +133,7 @@ runs_look n p q t u v x w = record {
   went = subst (λ hs. Went hs t v) (append-nil x.events) (went_then x.events [] t u v x.went w);
   few = x.few;
   says = x.says;
-  rest = x.rest;
+  leaves = x.leaves;
 }
 
 -- one event on a word that the program says
@@ -145,7 +145,7 @@ runs_word p q t o op reply u w h a next = record {
   went = went_word t o h.0 op reply u w h.1;
   few = omega arith;
   says = (a, tt);
-  rest = next (heard_of t o h.0 op reply) refl;
+  leaves = next (heard_of t o h.0 op reply) refl;
 }
 
 -- without an event the log is the same
@@ -165,7 +165,7 @@ serves most call Is t u a began is runs rest = record {
     events = runs.events;
     longer = record { wakes = runs.went.wakes; logged = runs.went.logged; told = runs.went.told };
     few = runs.few;
-    done = record { says = runs.says; done = runs.rest };
+    done = record { says = runs.says; done = runs.leaves };
     rest = rest;
   };
   same = runs.went.same;
@@ -193,5 +193,5 @@ served_runs most call Is t u s = record {
   went = went_of most call Is t u s;
   few = s.made.few;
   says = s.made.done.says;
-  rest = s.made.done.done;
+  leaves = s.made.done.done;
 }

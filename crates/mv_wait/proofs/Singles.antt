@@ -124,7 +124,7 @@ try_post_served c e expected code p t u x rest =
       went = went_word t o x.place op reply u tt x.happened;
       few = omega arith;
       says = (refl, tt);
-      rest = ap (λ b. cond b (on_ecb reply (posting (λ q. Done q))) Wrong) same ∙ answered p;
+      leaves = ap (λ b. cond b (on_ecb reply (posting (λ q. Done q))) Wrong) same ∙ answered p;
     })
     (still_at_rest t u o op reply (x.place, x.happened) (λ w. refl) rest)
 

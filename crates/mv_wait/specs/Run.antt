@@ -26,7 +26,7 @@ pub record Runs {A : Type 0} (most : ℕ) (p q : Program A) (t u : CallerFace) :
   pub went : Went events t u
   pub few : length events ≤ most
   pub says : Says p events
-  pub rest : left p events ≡ q
+  pub leaves : left p events ≡ q
 
 -- The call was made of the task's log, with an answer that is so; its events were taken off what was left, and what the task met
 -- before stays.

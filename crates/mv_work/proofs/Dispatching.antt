@@ -58,13 +58,13 @@ exit_first c deck i j skipped = accepted-assoc (extend c (done (length deck) j) 
 -- ---- what was found
 
 -- the call of what was found was made, or went astray
-module _ {A B : Type 0} (slots : List (Option ℕ)) (f : ℕ → ℕ → Call A) (rest : A → Call B) {u v : CallerFace} (r : ℕ × ℕ)
+module _ {A B : Type 0} (slots : List (Option ℕ)) (f : ℕ → ℕ → Call A) (later : A → Call B) {u v : CallerFace} (r : ℕ × ℕ)
     (is : lowest_complete 0 slots ≡ finished r) where
-  pub found_done : {a : A} → Ran (f r.0 r.1) (Done a) u v → Leads (followed (lowest f 0 slots) rest) (rest a) u v
-  found_done x = leads_on rest (leads_as u (found_is slots f rest is)) x
+  pub found_done : {a : A} → Ran (f r.0 r.1) (Done a) u v → Leads (followed (lowest f 0 slots) later) (later a) u v
+  found_done x = leads_on later (leads_as u (found_is slots f later is)) x
 
-  pub found_astray : Ran (f r.0 r.1) Wrong u v → Ran (followed (lowest f 0 slots) rest) Wrong u v
-  found_astray x = leads_astray rest (leads_as u (found_is slots f rest is)) x
+  pub found_astray : Ran (f r.0 r.1) Wrong u v → Ran (followed (lowest f 0 slots) later) Wrong u v
+  found_astray x = leads_astray later (leads_as u (found_is slots f later is)) x
 
 -- there is no job to wait for
 pub is_none : {A : Type 0} (xs : List A) → true ≡ (length xs == 0) → xs ≡ []

@@ -17,7 +17,7 @@ pub served_ran : {A : Type 0} {most : ℕ} {call : Call A} {Is : A → Type 0} {
     → Ran call (Done s.answer) t u
 served_ran {A} {most} {call} {Is} {t} {u} s =
     let runs = served_runs most call Is t u s in
-    record { events = runs.events; went = runs.went; says = runs.says; leaves = runs.rest; quiet = s.made.rest }
+    record { events = runs.events; went = runs.went; says = runs.says; leaves = runs.leaves; quiet = s.made.rest }
 
 -- with an answer that is known
 pub served_as : {A : Type 0} {most : ℕ} {call : Call A} {a : A} {t u : CallerFace} → IsServed most call (λ b. b ≡ a) t u
@@ -47,27 +47,27 @@ pub ran_nothing : {A : Type 0} (call : Call A) {q : Program A} {t : CallerFace} 
 ran_nothing call {q} {t} is quiet = record { events = []; went = went_none t; says = tt; leaves = is; quiet = quiet }
 
 -- what is left of a program is left of it with whatever was to follow
-rest_on : {A B : Type 0} (kept : Kept) (p : Program A) (f : A → Call B) (xs : List Heard) (r : Program A) → Says p xs → left p xs ≡ r
+left_on : {A B : Type 0} (kept : Kept) (p : Program A) (f : A → Call B) (xs : List Heard) (r : Program A) → Says p xs → left p xs ≡ r
     → Says (going_on kept p f) xs × (left (going_on kept p f) xs ≡ going_on (kept_from kept (entries xs)) r f)
-rest_on kept p f [] r s d = (tt, ap (λ q. going_on kept q f) d)
-rest_on kept (Do o op next) f (x ∷ xs) r s d =
-    let rest = rest_on (kept_after kept x.entry.object x.entry.op x.entry.reply) (next x) f xs r s.1 d in
+left_on kept p f [] r s d = (tt, ap (λ q. going_on kept q f) d)
+left_on kept (Do o op next) f (x ∷ xs) r s d =
+    let later = left_on (kept_after kept x.entry.object x.entry.op x.entry.reply) (next x) f xs r s.1 d in
     let one = one_on kept o op next f x s.0 in (
       (
         s.0,
         same_says (heard (going_on kept (Do o op next) f) x)
-            (going_on (kept_after kept x.entry.object x.entry.op x.entry.reply) (next x) f) xs one rest.0,
+            (going_on (kept_after kept x.entry.object x.entry.op x.entry.reply) (next x) f) xs one later.0,
       ),
-      ap (λ q. left q xs) one ∙ rest.1,
+      ap (λ q. left q xs) one ∙ later.1,
     )
-rest_on kept p f (x ∷ xs) r s d = absurd (cc s.0)
+left_on kept p f (x ∷ xs) r s d = absurd (cc s.0)
 
 -- a call was run up to this program, and then what is to follow that
 ran_on : {A B : Type 0} {call : Call A} {p : Program A} {q : Program B} {t u v : CallerFace} → Ran call p t u → (f : A → Call B)
-    → (rest : Call B) → going_on (kept_of u.number u.log) p f ≡ rest (kept_of u.number u.log) → Ran rest q u v
+    → (later : Call B) → going_on (kept_of u.number u.log) p f ≡ later (kept_of u.number u.log) → Ran later q u v
     → Ran (followed call f) q t v
-ran_on {call = call} {p = p} {t = t} x f rest so y =
-    let on = rest_on (kept_of t.number t.log) (call (kept_of t.number t.log)) f x.events p x.says x.leaves in
+ran_on {call = call} {p = p} {t = t} x f later so y =
+    let on = left_on (kept_of t.number t.log) (call (kept_of t.number t.log)) f x.events p x.says x.leaves in
     let is = on.1 ∙ sym (ap (λ kept. going_on kept p f) (kept_then x)) ∙ so in record {
       events = x.events ++ y.events;
       went = went_then x.events y.events t _ _ x.went y.went;
@@ -97,10 +97,10 @@ pub leads_all : {A : Type 0} (whole : Call A) (t : CallerFace) → Leads whole w
 leads_all whole t q v r = r
 
 -- the task is the same
-pub leads_same : {A : Type 0} {whole rest : Call A} {t u : CallerFace} → Leads whole rest t u → IsAtRest u.log → IsSame t u
-leads_same {rest = rest} {u = u} k quiet = (k (rest (kept_of u.number u.log)) u (ran_nothing rest refl quiet)).went.same
+pub leads_same : {A : Type 0} {whole later : Call A} {t u : CallerFace} → Leads whole later t u → IsAtRest u.log → IsSame t u
+leads_same {later = later} {u = u} k quiet = (k (later (kept_of u.number u.log)) u (ran_nothing later refl quiet)).went.same
 
--- the next call of the rest was done
+-- the next call of the later part was done
 pub leads_on : {A B : Type 0} {whole : Call B} {call : Call A} {a : A} {t u v : CallerFace} (f : A → Call B)
     → Leads whole (followed call f) t u → Ran call (Done a) u v → Leads whole (f a) t v
 leads_on f k x q w r = k q w (ran_followed x f r)
@@ -115,16 +115,16 @@ pub leads_done : {A : Type 0} {whole : Call A} {a : A} {t u : CallerFace} → Le
     → Ran whole (Done a) t u
 leads_done {A} {whole} {a} {t} {u} k quiet = k (Done a) u (ran_nothing (finished a) refl quiet)
 
--- the rest of the rest
-pub leads_then : {A : Type 0} {whole rest last : Call A} {t u v : CallerFace} → Leads whole rest t u → Leads rest last u v
+-- the later part of the later part
+pub leads_then : {A : Type 0} {whole later last : Call A} {t u v : CallerFace} → Leads whole later t u → Leads later last u v
     → Leads whole last t v
 leads_then k l q w r = k q w (l q w r)
 
--- a call was run up to this rest of it: so it was with whatever is to follow
-pub leads_under : {A B : Type 0} {call rest : Call A} {t u : CallerFace} (f : A → Call B) → Leads call rest t u → IsAtRest u.log
-    → Leads (followed call f) (followed rest f) t u
-leads_under {rest = rest} {u = u} f k quiet q v y =
-    ran_on (k (rest (kept_of u.number u.log)) u (ran_nothing rest refl quiet)) f (followed rest f) refl y
+-- a call was run up to this later part of it: so it was with whatever is to follow
+pub leads_under : {A B : Type 0} {call later : Call A} {t u : CallerFace} (f : A → Call B) → Leads call later t u → IsAtRest u.log
+    → Leads (followed call f) (followed later f) t u
+leads_under {later = later} {u = u} f k quiet q v y =
+    ran_on (k (later (kept_of u.number u.log)) u (ran_nothing later refl quiet)) f (followed later f) refl y
 
 -- ---- all events were made
 
@@ -135,11 +135,11 @@ pub out_wrong : {A : Type 0} {call : Call A} (a : A) {t u : CallerFace} → Ran 
 out_wrong a r = record { last = Wrong; over = tt; ran = r }
 
 -- what is left to do was run out: so was the whole
-pub leads_out : {A : Type 0} {whole rest : Call A} {a : A} {t u v : CallerFace} → Leads whole rest t u → RanOut rest a u v
+pub leads_out : {A : Type 0} {whole later : Call A} {a : A} {t u v : CallerFace} → Leads whole later t u → RanOut later a u v
     → RanOut whole a t v
-leads_out {A} {whole} {rest} {a} {t} {u} {v} k r = record { last = r.last; over = r.over; ran = k r.last v r.ran }
+leads_out {A} {whole} {later} {a} {t} {u} {v} k r = record { last = r.last; over = r.over; ran = k r.last v r.ran }
 
 -- what is left to do is foreseen nowhere
-pub astray : {A : Type 0} {whole rest : Call A} {t u : CallerFace} → Leads whole rest t u → rest ≡ wrong → IsAtRest u.log
+pub astray : {A : Type 0} {whole later : Call A} {t u : CallerFace} → Leads whole later t u → later ≡ wrong → IsAtRest u.log
     → Ran whole Wrong t u
-astray {rest = rest} {u = u} k is quiet = k Wrong u (ran_nothing rest (ap (λ call. call (kept_of u.number u.log)) is) quiet)
+astray {later = later} {u = u} k is quiet = k Wrong u (ran_nothing later (ap (λ call. call (kept_of u.number u.log)) is) quiet)

@@ -34,43 +34,43 @@ pub rests_then : {A : Type 0} {n : ℕ} {call : Call A} {Is : A → Type 0} {b :
 rests_then {n = n} s r le = rests_ran n (served_ran s) (served_few s) r le
 
 -- what is left to do, by another name
-pub leads_as : {A : Type 0} {whole rest : Call A} (u : CallerFace) → whole ≡ rest → Leads whole rest u u
-leads_as {A} {whole} {rest} u is = subst (λ call. Leads whole call u u) is (leads_all whole u)
+pub leads_as : {A : Type 0} {whole later : Call A} (u : CallerFace) → whole ≡ later → Leads whole later u u
+leads_as {A} {whole} {later} u is = subst (λ call. Leads whole call u u) is (leads_all whole u)
 
 module _ {S A : Type 0} {b : BoardFace} {stages : Stages S A} {Fits : S → Need → Type 0} {a : A} where
   -- what is left to do, asked for, is what the task comes to
-  pub asks_come : {rest whole : Call A} {t u : CallerFace} {most : ℕ} {next : Option (S × Need)}
-      → Asks b.config stages Fits a rest most next → Leads whole rest t u → IsResting b most u
+  pub asks_come : {later whole : Call A} {t u : CallerFace} {most : ℕ} {next : Option (S × Need)}
+      → Asks b.config stages Fits a later most next → Leads whole later t u → IsResting b most u
       → Comes b stages Fits a whole t next u
-  asks_come {rest} {whole} {t} {u} {most} {next} asks leads rests = record { come = go next asks.asks } where
-    go : (next : Option (S × Need)) → AsksFor b.config stages Fits a rest most next → ComesTo b stages Fits a whole t next u
+  asks_come {later} {whole} {t} {u} {most} {next} asks leads rests = record { come = go next asks.asks } where
+    go : (next : Option (S × Need)) → AsksFor b.config stages Fits a later most next → ComesTo b stages Fits a whole t next u
     go (Some next) asks = record {
       same = leads_same leads rests.quiet;
       rests = rests_less rests asks.2;
       fits = asks.1;
       leads = subst (λ r. Leads whole r t u) asks.0 leads;
     }
-    go None asks = out_done (leads (Done a) u (ran_nothing rest (asks (kept_of u.number u.log)) rests.quiet))
+    go None asks = out_done (leads (Done a) u (ran_nothing later (asks (kept_of u.number u.log)) rests.quiet))
 
   -- with nothing done before
-  pub asks_first : {rest : Call A} {u : CallerFace} {most : ℕ} {next : Option (S × Need)} → Asks b.config stages Fits a rest most next
-      → IsResting b most u → Comes b stages Fits a rest u next u
-  asks_first {rest} {u} asks rests = asks_come asks (leads_all rest u) rests
+  pub asks_first : {later : Call A} {u : CallerFace} {most : ℕ} {next : Option (S × Need)} → Asks b.config stages Fits a later most next
+      → IsResting b most u → Comes b stages Fits a later u next u
+  asks_first {later} {u} asks rests = asks_come asks (leads_all later u) rests
 
   -- what was left to do has come to its next wait: so has the whole
-  pub comes_on : {rest whole : Call A} {t u v : CallerFace} {next : Option (S × Need)} → Leads whole rest t u
-      → Comes b stages Fits a rest u next v → Comes b stages Fits a whole t next v
-  comes_on {rest} {whole} {t} {u} {v} {next} leads w = record { come = go next w.come } where
-    go : (next : Option (S × Need)) → ComesTo b stages Fits a rest u next v → ComesTo b stages Fits a whole t next v
+  pub comes_on : {later whole : Call A} {t u v : CallerFace} {next : Option (S × Need)} → Leads whole later t u
+      → Comes b stages Fits a later u next v → Comes b stages Fits a whole t next v
+  comes_on {later} {whole} {t} {u} {v} {next} leads w = record { come = go next w.come } where
+    go : (next : Option (S × Need)) → ComesTo b stages Fits a later u next v → ComesTo b stages Fits a whole t next v
     go (Some next) w =
         let all : Leads whole (followed (need_call b.config next.1) (stages.then next.0)) t v = leads_then leads w.leads in
         record { same = leads_same all w.rests.quiet; rests = w.rests; fits = w.fits; leads = all }
     go None w = leads_out leads w
 
   -- what is left to do, by another name
-  pub comes_as : {rest whole : Call A} {u v : CallerFace} {next : Option (S × Need)} → whole ≡ rest
-      → Comes b stages Fits a rest u next v → Comes b stages Fits a whole u next v
-  comes_as {rest} {whole} {u} is w = comes_on (leads_as u is) w
+  pub comes_as : {later whole : Call A} {u v : CallerFace} {next : Option (S × Need)} → whole ≡ later
+      → Comes b stages Fits a later u next v → Comes b stages Fits a whole u next v
+  comes_as {later} {whole} {u} is w = comes_on (leads_as u is) w
 
   -- a call of it went astray
   pub comes_astray : {whole : Call A} {u v : CallerFace} → Ran whole Wrong u v → Comes b stages Fits a whole u None v
@@ -81,10 +81,10 @@ module _ {S A : Type 0} {b : BoardFace} {stages : Stages S A} {Fits : S → Need
   comes_nowhere {whole} u is quiet = comes_astray (astray (leads_all whole u) is quiet)
 
 -- what is asked for, by another name, and by no more events
-pub asks_as : {S A : Type 0} {c : Setup} {stages : Stages S A} {Fits : S → Need → Type 0} {a : A} {rest whole : Call A} {less most : ℕ}
-    {next : Option (S × Need)} → whole ≡ rest → less ≤ most → Asks c stages Fits a rest less next → Asks c stages Fits a whole most next
-asks_as {S} {A} {c} {stages} {Fits} {a} {rest} {whole} {less} {most} {next} is le asks = record { asks = go next asks.asks } where
-  go : (next : Option (S × Need)) → AsksFor c stages Fits a rest less next → AsksFor c stages Fits a whole most next
+pub asks_as : {S A : Type 0} {c : Setup} {stages : Stages S A} {Fits : S → Need → Type 0} {a : A} {later whole : Call A} {less most : ℕ}
+    {next : Option (S × Need)} → whole ≡ later → less ≤ most → Asks c stages Fits a later less next → Asks c stages Fits a whole most next
+asks_as {S} {A} {c} {stages} {Fits} {a} {later} {whole} {less} {most} {next} is le asks = record { asks = go next asks.asks } where
+  go : (next : Option (S × Need)) → AsksFor c stages Fits a later less next → AsksFor c stages Fits a whole most next
   go (Some next) asks = (is ∙ asks.0, asks.1, (let few = asks.2 in omega arith))
   go None asks = λ kept. ap (λ call. call kept) is ∙ asks kept
 

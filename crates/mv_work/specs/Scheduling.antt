@@ -123,4 +123,4 @@ SchedulerComes b deck i whole t next u =
 
 -- this is what it asks for
 abbrev pub SchedulerAsks : Setup → List JobData → ℕ → Call (List ℕ) → ℕ → Option (SchedulerStage × Need) → Type 0
-SchedulerAsks c deck i rest most next = Asks c (scheduler_stages c deck i) (IsSchedulerNeed c deck i) [] rest most next
+SchedulerAsks c deck i later most next = Asks c (scheduler_stages c deck i) (IsSchedulerNeed c deck i) [] later most next

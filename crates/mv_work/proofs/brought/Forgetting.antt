@@ -110,17 +110,17 @@ abbrev pub forgotten : List JobRecord → Call (List ℕ)
 forgotten records = finished []
 
 module _ (c : Setup) (deck : List JobData) where
-  job_forgets : {B : Type 0} (named : Named) (f : JobRecord → Call B) (rest : Call B)
-      → ((end : ℕ) (notes : List Noted) → f (record_of named.job end notes) ≡ rest)
-      → followed (job_noted c deck named) f ≡ followed (run_job c deck named) (λ counts. rest)
-  job_forgets named f rest each =
+  job_forgets : {B : Type 0} (named : Named) (f : JobRecord → Call B) (later : Call B)
+      → ((end : ℕ) (notes : List Noted) → f (record_of named.job end notes) ≡ later)
+      → followed (job_noted c deck named) f ≡ followed (run_job c deck named) (λ counts. later)
+  job_forgets named f later each =
       let ends : ℕ → Call Counts = λ code. end_of_job c (named.job + 1) (done (length deck) named.job) code in
       let noted : JobRecord → Call JobRecord = λ r. followed (ends r.end) (λ counts. finished r) in
       followed-assoc (all_steps_noted c (job_at deck named.job) named.job named.skipped) noted f
-      ∙ all_steps_forget c named.job (λ r. followed (noted r) f) (λ code. followed (ends code) (λ counts. rest))
-      (λ end notes. followed_by f (ends end) (λ counts. finished (record_of named.job end notes)) (λ counts. rest)
+      ∙ all_steps_forget c named.job (λ r. followed (noted r) f) (λ code. followed (ends code) (λ counts. later))
+      (λ end notes. followed_by f (ends end) (λ counts. finished (record_of named.job end notes)) (λ counts. later)
       (λ counts. each end notes)) (job_at deck named.job) named.skipped
-      ∙ sym (followed-assoc (job_done c (named.job + 1) (job_at deck named.job) named.skipped) ends (λ counts. rest))
+      ∙ sym (followed-assoc (job_done c (named.job + 1) (job_at deck named.job) named.skipped) ends (λ counts. later))
 
   -- ---- an initiator
 

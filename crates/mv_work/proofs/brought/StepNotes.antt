@@ -41,21 +41,21 @@ module _ (c : Setup) (job : ℕ) (codes : List ℕ) (R : Past → JobRecord → 
       steps_bring requests (place + 1) (notes ++ Printed place ∷ []) steps p kept e
       (λ new t are q. noted_on t (own_end steps) notes new (Printed place) (take (Printed place ∷ new) t (new, refl, are) q))
   steps_bring requests place notes (Use latch mode ∷ steps) p kept e take =
-      let rest : ℕ → Call JobRecord = λ id. steps_noted c job (with_at requests latch (Some id)) (place + 1) notes steps in
-      quiet_accepted R p kept (obtain c latch (job + 1) mode Waiting kept) (granted_as rest) (obtain_quiet c latch (job + 1) mode kept)
-      (λ o k t q. granted_then R t rest o k (λ id. steps_bring (with_at requests latch (Some id)) (place + 1) notes steps t k (q ∙ e) take))
+      let later : ℕ → Call JobRecord = λ id. steps_noted c job (with_at requests latch (Some id)) (place + 1) notes steps in
+      quiet_accepted R p kept (obtain c latch (job + 1) mode Waiting kept) (granted_as later) (obtain_quiet c latch (job + 1) mode kept)
+      (λ o k t q. granted_then R t later o k (λ id. steps_bring (with_at requests latch (Some id)) (place + 1) notes steps t k (q ∙ e) take))
   steps_bring requests place notes (Free latch ∷ steps) p kept e take =
       freed_then R p kept c latch (requests latch) (steps_noted c job requests (place + 1) notes steps)
       (λ k t q. steps_bring requests (place + 1) notes steps t k (q ∙ e) take)
   steps_bring requests place notes (Count v amount ∷ steps) p kept e take =
-      let rest : Call JobRecord = steps_noted c job requests (place + 1) notes steps in
-      read_then R p kept v (counted v amount rest) (λ n k once read same none. counted_then R (then_told p once) k v amount n rest
+      let later : Call JobRecord = steps_noted c job requests (place + 1) notes steps in
+      read_then R p kept v (counted v amount later) (λ n k once read same none. counted_then R (then_told p once) k v amount n later
       (λ j t q. steps_bring requests (place + 1) notes steps t j (q ∙ none ∙ e) take))
   steps_bring requests place notes (Scan v ∷ steps) p kept e take =
-      let rest : ℕ → ℕ → Call JobRecord = λ first second.
+      let later : ℕ → ℕ → Call JobRecord = λ first second.
       steps_noted c job requests (place + 1) (notes ++ Scanned place first second ∷ []) steps in
-      read_then R p kept v (λ first. followed (read_volume v) (rest first)) (λ first k once read same none.
-      read_then R (then_told p once) k v (rest first) (λ second j again reread tells still.
+      read_then R p kept v (λ first. followed (read_volume v) (later first)) (λ first k once read same none.
+      read_then R (then_told p once) k v (later first) (λ second j again reread tells still.
       steps_bring requests (place + 1) (notes ++ Scanned place first second ∷ []) steps
       (then_told (then_told p once) again) j (still ∙ none ∙ e) (λ new t are q.
       let number : first ≡ second = cc (sym read.2 ∙ tells v read.0 read.1 reread.0 reread.1 ∙ reread.2) in
