@@ -8,6 +8,7 @@ use Rattle.std.proofs.lemmas.List.{length-append}
 use Rattle.mv_machine.specs.declared.entry.Entry.{Entry}
 use Rattle.mv_machine.specs.Setup.{Setup}
 use Rattle.mv_line.specs.Part.{parts_at, parts_left, left_of}
+use Rattle.mv_machine.specs.Check.{or_else}
 use Rattle.mv_entrytext.specs.declared.fault.Kind.{Kind}
 use Rattle.mv_entrytext.specs.declared.fault.Kind.TheVariants.{NoForm, WrongCount, Cut}
 use Rattle.mv_line.specs.declared.fault.LineRefusal.{LineRefusal}
@@ -20,7 +21,7 @@ use Rattle.mv_entrytext.specs.Journal.{Line, JournalOf, Callers, Elements, Volum
 use Rattle.mv_entrytext.specs.Journal.{EntryOf, End}
 use Rattle.mv_entrytext.specs.Lines.{Stage, AtVersion, AtCallers, AtElements, AtVolumes, AtLatches, AtQuota, AtBudgets, AtOwners}
 use Rattle.mv_entrytext.specs.Lines.{AtExits, AtEntries, AtEnd, count_line, next_line, line_read, Draft, draft_with}
-use Rattle.mv_entrytext.specs.Fault.{TellsFirst, kind_number, kind_of_form, kind_or, kind_said, kind_of, is_cut, first_fault, text_fault}
+use Rattle.mv_entrytext.specs.Fault.{TellsFirst, kind_number, kind_of_form, kind_said, kind_of, is_cut, first_fault, text_fault}
 use Rattle.mv_entrytext.specs.Fault.{draft_of, journal_of}
 use Rattle.mv_entrytext.specs.Said.{entry_said}
 use Rattle.mv_entrytext.specs.Draft.{TellsKind, draft_at, line_behind, IsAt, kind_at_end}
@@ -101,7 +102,7 @@ at_kind here NoMemory told = tt
 
 -- the form alone is at fault
 form_tells : (d : Draft) (text : List ℕ) (e : LineRefusal Kind) → TellsKind e (kind_of_form d.stage text) → TellsKind e (kind_of d text)
-form_tells d text (Has k) told = ap (λ (f : Option Kind). kind_or f (kind_said d (line_read true d.stage text))) told
+form_tells d text (Has k) told = ap (λ (f : Option Kind). or_else f (kind_said d (line_read true d.stage text))) told
 form_tells d text NoMemory told = tt
 
 pub at_form : {bytes rest behind text : List ℕ} {number : ℕ} {d : Draft} → IsAtLine bytes rest number d text behind

@@ -8,7 +8,7 @@ use Rattle.std.proofs.lemmas.List.{append-nil, nil_from_length, flat_map_more}
 use Rattle.std.proofs.lemmas.List.Elements.{All-from_recursion}
 use Rattle.mv_machine.specs.declared.entry.Entry.{Entry}
 use Rattle.mv_machine.specs.declared.config.CheckRefusal.{CheckRefusal}
-use Rattle.mv_machine.specs.Check.{IsValid, refusal_of}
+use Rattle.mv_machine.specs.Check.{IsValid, refusal_of, or_else}
 use Rattle.mv_machine.specs.Setup.{Setup, SetupExit}
 use Rattle.mv_line.specs.Part.{parts_at}
 use Rattle.mv_machine.proofs.Lists.{all_push}
@@ -23,7 +23,7 @@ use Rattle.mv_entrytext.specs.Journal.{EntryOf, End, line_text, line, entry_line
 use Rattle.mv_entrytext.specs.Lines.{Stage, AtVersion, AtCallers, AtElements, AtVolumes, AtLatches, AtQuota, AtBudgets, AtOwners}
 use Rattle.mv_entrytext.specs.Lines.{AtExits, AtEntries, AtEnd, line_read, Draft, blank, with_call, draft_with}
 use Rattle.mv_line.specs.Fault.{fault_at}
-use Rattle.mv_entrytext.specs.Fault.{kind_number, kind_or, kind_said, kind_of, is_read, is_cut, is_ended, fault_or, draft_after, first_fault}
+use Rattle.mv_entrytext.specs.Fault.{kind_number, kind_said, kind_of, is_read, is_cut, is_ended, fault_or, draft_after, first_fault}
 use Rattle.mv_entrytext.specs.Fault.{text_fault, draft_of, journal_of, HasJournal, AreCallsIn}
 use Rattle.mv_entrytext.proofs.CallNumbers.{IsCallIn, AreEach, calls_from_each, no_numbers, number_more, lines_more}
 use Rattle.mv_entrytext.proofs.Parts.{first_part, joined_again}
@@ -235,7 +235,7 @@ pub record IsSaid (d : Draft) (text : List ℕ) : Type 0 where
   pub fine : kind_said d (Some said) ≡ None
 
 abbrev kind_by : Bool → Bool → Option Kind → Option Kind
-kind_by strict loose said = kind_or (cond (not (strict || loose)) (Some NoForm) (cond (not strict) (Some BadNumber) None)) said
+kind_by strict loose said = or_else (cond (not (strict || loose)) (Some NoForm) (cond (not strict) (Some BadNumber) None)) said
 
 kind_none : (strict loose : Bool) (said : Option Kind) → kind_by strict loose said ≡ None → (strict ≡ true) × (said ≡ None)
 kind_none true loose said e = (refl, e)

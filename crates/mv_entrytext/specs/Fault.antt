@@ -2,7 +2,7 @@
 use Rattle.std.specs.Prelude.{◌≡◌, ℕ, ◌+◌, ◌≤◌, ◌==◌, Bool, true, false, ◌&&◌, ◌||◌, not, List, [], ◌∷◌, length, All, Option, Some}
 use Rattle.std.specs.Prelude.{None, is_some, if◌then◌else◌}
 use Rattle.mv_machine.specs.declared.entry.Entry.{Entry}
-use Rattle.mv_machine.specs.Check.{IsValid, refusal_of}
+use Rattle.mv_machine.specs.Check.{IsValid, or_else, refusal_of}
 use Rattle.mv_machine.specs.Setup.{Setup}
 use Rattle.mv_line.specs.declared.fault.TextFault.{TextFault}
 use Rattle.mv_line.specs.Fault.{fault_at}
@@ -32,7 +32,8 @@ kind_number Cut = 5
 abbrev pub is_read : Bool → Stage → List ℕ → Bool
 is_read strict stage line = is_some (line_read strict stage line)
 
--- the kind of a line by its form and its numbers alone: in neither way; and a leading zero, or a number beyond its range
+-- the kind of a line by its form and its numbers alone: of no form where it is read in neither way; a bad number, with a leading zero
+-- or beyond its range, where it is not read strictly
 abbrev pub kind_of_form : Stage → List ℕ → Option Kind
 kind_of_form stage line =
     if not (is_read true stage line || is_read false stage line) then Some NoForm
@@ -54,14 +55,9 @@ abbrev pub kind_said : Draft → Option Line → Option Kind
 kind_said d None = None
 kind_said d (Some l) = if has_bad_config d l then Some BadConfig else if has_wrong_count d l then Some WrongCount else None
 
--- this kind, or else that
-abbrev pub kind_or : Option Kind → Option Kind → Option Kind
-kind_or (Some kind) other = Some kind
-kind_or None other = other
-
 -- the first kind of a line that ends with LF
 abbrev pub kind_of : Draft → List ℕ → Option Kind
-kind_of d line = kind_or (kind_of_form d.stage line) (kind_said d (line_read true d.stage line))
+kind_of d line = or_else (kind_of_form d.stage line) (kind_said d (line_read true d.stage line))
 
 -- what stands behind the last LF is cut off, unless it is nothing and the last line was END
 abbrev pub is_ended : Stage → Bool
