@@ -109,8 +109,8 @@ table z words =
     (led_by (task z) (led_by latch (led_by volume (three (ecb z) (ecb z) table_size))) words)
 
 -- a line behind the head by its first word: a task, a call or the end
-abbrev pub behind_head : Sizes → List ℕ → List (List ℕ) → Read Statement
-behind_head z word words =
+abbrev pub statement_behind_head : Sizes → List ℕ → List (List ℕ) → Read Statement
+statement_behind_head z word words =
     if bytes_eq word (codes "TASK") then none statement.Task words
     else if bytes_eq word (codes "END") then none statement.End words
     else making (λ c. statement.Call c) (call_of z word words)
@@ -122,7 +122,7 @@ stated z word words =
     else if bytes_eq word (codes "ECB") then making (λ k. statement.Ecb k) (one (task z) words)
     else if bytes_eq word (codes "EXIT") then exit z words
     else if bytes_eq word (codes "TABLE") then making (λ t. statement.Table t) (table z words)
-    else behind_head z word words
+    else statement_behind_head z word words
 
 -- a line's words
 abbrev pub words_state : Sizes → List (List ℕ) → Read Statement

@@ -20,9 +20,7 @@ use crate::operand::{
     event_position, latch, mode, place, release_code, requestor, token, token_or_none, volume,
 };
 use crate::statement::ecbs;
-use crate::words::{
-    Misread, both, field_count, no_field, one_word, three_words, two_words, with_others,
-};
+use crate::words::{Misread, both, field_count, no_field, one_word, three_words, two_words};
 use mv_element::Token;
 use mv_latch::LatchForm;
 use mv_line::{LineRefusal, is_word, split_field};
@@ -36,7 +34,7 @@ pub(crate) fn wait(alloc: Global, sizes: Sizes, words: &[u8]) -> Result<Call, Li
     if count_word.is_empty() || field_count(rest) > MOST_WAITED {
         return Err(LineRefusal::Has(Kind::NoForm));
     }
-    let (count, ecbs) = with_others(count(count_word), ecbs(alloc, sizes, rest)?)?;
+    let (count, ecbs) = both(count(count_word), ecbs(alloc, sizes, rest)?)?;
     Ok(Call::Wait { count, ecbs })
 }
 

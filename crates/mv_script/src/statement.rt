@@ -4,7 +4,7 @@ ghost use Rattle.std.specs.Prelude.{◌≡◌, ◌≤◌, IfOk};
 ghost use Rattle.mv_line.specs.Field.{fields_of};
 ghost use Rattle.mv_script.specs.Limits.{most_tasks};
 ghost use Rattle.mv_script.specs.Misread.{IsReadAs};
-ghost use Rattle.mv_script.specs.Statement.{exit as exit_read, table as table_read, behind_head, stated, text_states};
+ghost use Rattle.mv_script.specs.Statement.{exit as exit_read, table as table_read, statement_behind_head, stated, text_states};
 ghost use Rattle.mv_script.specs.Words.{each, three};
 ghost use Rattle.mv_script.specs.Operand.{ecb as ecb_read, table_size};
 
@@ -14,9 +14,7 @@ use crate::fault::Kind;
 use crate::limits::MOST_TARGETS;
 use crate::numbers::Numbers;
 use crate::operand::{Sizes, ecb, latch, table_size as read_table_size, task, task_count, volume};
-use crate::words::{
-    Misread, both, field_count, no_field, one_word, three_words, with_others, worsened,
-};
+use crate::words::{Misread, both, field_count, no_field, one_word, three_words, worsened};
 use mv_calls::Table;
 use mv_line::{LineRefusal, begins_with_space, is_word, split_field};
 use std::alloc::{AllocError, Global};
@@ -92,7 +90,7 @@ fn line_behind_head(
     words: &[u8],
 ) -> Result<Statement, LineRefusal<Kind>>
     requires { sizes.tasks ≤ most_tasks }
-    ensures { IsReadAs result (behind_head sizes word.now (fields_of words.now)) }
+    ensures { IsReadAs result (statement_behind_head sizes word.now (fields_of words.now)) }
 {
     if is_word(word, b"TASK") {
         no_field(words)?;
@@ -117,7 +115,7 @@ fn exit(alloc: Global, sizes: Sizes, words: &[u8]) -> Result<Statement, LineRefu
     if source_word.is_empty() || targets < 1 || targets > MOST_TARGETS {
         return Err(LineRefusal::Has(Kind::NoForm));
     }
-    let (source, targets) = with_others(ecb(sizes, source_word), ecbs(alloc, sizes, rest)?)?;
+    let (source, targets) = both(ecb(sizes, source_word), ecbs(alloc, sizes, rest)?)?;
     Ok(Statement::Exit { source, targets })
 }
 

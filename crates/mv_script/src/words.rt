@@ -5,7 +5,6 @@ ghost use Rattle.mv_line.specs.Field.{fields_of, one_of, two_of};
 ghost use Rattle.mv_script.specs.declared.words.Misread.TheVariants.{NoForm};
 ghost use Rattle.mv_script.specs.Words.{both as both_of, worse as worse_of, worsened, three_of, none as nothing_behind};
 
-use crate::numbers::Numbers;
 use mv_line::{one_field, split_field, two_fields};
 
 /// Why words are read as no value.
@@ -38,7 +37,7 @@ pub(crate) fn worsened(before: Option<Misread>, why: Misread) -> Misread
 }
 
 /// Two values, where both were read.
-pub(crate) fn both<A: Copy, B: Copy>(
+pub(crate) fn both<A: Drop, B: Drop>(
     first: Result<A, Misread>,
     second: Result<B, Misread>,
 ) -> Result<(A, B), Misread>
@@ -46,21 +45,6 @@ pub(crate) fn both<A: Copy, B: Copy>(
 {
     match (first, second) {
         (Ok(a), Ok(b)) => Ok((a, b)),
-        (Ok(_), Err(why)) => Err(why),
-        (Err(why), Ok(_)) => Err(why),
-        (Err(why), Err(other)) => Err(worse(why, other)),
-    }
-}
-
-/// A number and several more, where all were read.
-pub(crate) fn with_others(
-    first: Result<u32, Misread>,
-    others: Result<Numbers, Misread>,
-) -> Result<(u32, Numbers), Misread>
-    ensures { result ≡ both_of first others }
-{
-    match (first, others) {
-        (Ok(number), Ok(others)) => Ok((number, others)),
         (Ok(_), Err(why)) => Err(why),
         (Err(why), Ok(_)) => Err(why),
         (Err(why), Err(other)) => Err(worse(why, other)),
