@@ -16,7 +16,7 @@ use Rattle.mv_machine.specs.declared.entry.Op.TheVariants as op_on
 use Rattle.mv_machine.specs.declared.entry.Reply.{Reply}
 use Rattle.mv_machine.specs.declared.entry.Reply.TheVariants as reply_of
 use Rattle.mv_machine.specs.Parts.{IsPossible}
-use Rattle.mv_machine.specs.Setup.{Setup, SetupExit, owner_of, is_exit_of, starts_from, exit_has, is_on_exit}
+use Rattle.mv_machine.specs.Setup.{Setup, SetupExit, owner_of, is_exit_of, starts_from, is_on, is_on_exit}
 use Rattle.mv_machine.specs.System.{System, admitted}
 use Rattle.mv_calls.specs.Exits.{StartsExit}
 use Rattle.mv_calls.specs.Keeping.{kept_of, extended_with}
@@ -28,7 +28,7 @@ source_is_on c n starts = found (slice_get c.exits (starts.0 - 1)) refl
     (and_parts (nat_lt 0 starts.0) (starts_from n (slice_get c.exits (starts.0 - 1))) starts.1).1 where
       found : (y : Option SetupExit) → slice_get c.exits (starts.0 - 1) ≡ y → starts_from n y ≡ true → is_on_exit c n ≡ true
       found None at is = absurd (false≢true is)
-      found (Some y) at is = any_passes_from_place (λ z. exit_has z n) c.exits (starts.0 - 1) y at
+      found (Some y) at is = any_passes_from_place (λ z. is_on z n) c.exits (starts.0 - 1) y at
           (or_left (y.source == n) (list_any (λ target. target == n) y.targets) is)
 
 -- an exit starts from each block that is held

@@ -7,7 +7,7 @@ use Rattle.std.specs.List.{list_any, range_with_len}
 use Rattle.std.specs.Option.{option_or}
 use Rattle.mv_machine.specs.Check.{is_within, or_else}
 use Rattle.mv_machine.specs.Reach.{reach, reach_within, exits_of, greatest, total, cut}
-use Rattle.mv_machine.specs.Setup.{Setup, SetupExit, owner_of, exit_has, is_on_exit}
+use Rattle.mv_machine.specs.Setup.{Setup, SetupExit, owner_of, is_on, is_on_exit}
 use Rattle.mv_calls.specs.declared.table.Table.{Table}
 use Rattle.mv_calls.specs.declared.table.TableRefusal.{TableRefusal}
 use Rattle.mv_calls.specs.declared.table.TableRefusal.TheVariants.{BadSize, BadRange, NotOwner, BadLatch, BadVolume, HasExit}
@@ -116,10 +116,10 @@ checked_is_sound c t e =
 
 -- ---- a post of a block that is on no exit is one event
 
-none_start : (e : ℕ) (xs : List SetupExit) → list_any (λ x. exit_has x e) xs ≡ false → exits_of e xs ≡ []
+none_start : (e : ℕ) (xs : List SetupExit) → list_any (λ x. is_on x e) xs ≡ false → exits_of e xs ≡ []
 none_start e [] none = refl
 none_start e (x ∷ xs) none =
-    let both = either_fails (exit_has x e) (list_any (λ y. exit_has y e) xs) none in
+    let both = either_fails (is_on x e) (list_any (λ y. is_on y e) xs) none in
     let source = (either_fails (x.source == e) (list_any (λ target. target == e) x.targets) both.0).0 in
     ap (λ b. cond b (x ∷ exits_of e xs) (exits_of e xs)) source ∙ none_start e xs both.1
 

@@ -62,8 +62,8 @@ return_of One operand = None
 return_of Two operand = option_map ReturnOf operand
 
 -- an operation that has one operand
-abbrev pub single : Version → List ℕ → Option (List ℕ) → Option Statement
-single v operation operand =
+abbrev pub one_operand : Version → List ℕ → Option (List ℕ) → Option Statement
+one_operand v operation operand =
     if bytes_eq operation (codes "FREE") then option_map FreeOf operand
     else if bytes_eq operation (codes "SCAN") then option_map ScanOf operand
     else if bytes_eq operation (codes "ABEND") then option_map AbendOf operand
@@ -77,7 +77,7 @@ operated v rest operation operands =
     if bytes_eq operation (codes "PRINT") then Some (PrintOf (drop 6 (without_first_spaces rest)))
     else if bytes_eq operation (codes "USE") then use_of (two_of operands)
     else if bytes_eq operation (codes "COUNT") then option_map (λ (o : List ℕ × List ℕ). CountOf o.0 o.1) (two_of operands)
-    else single v operation (one_of operands)
+    else one_operand v operation (one_of operands)
 
 -- the statement of a line without a name, by its first field
 abbrev pub operation_of : Version → List ℕ → List (List ℕ) → Option Statement

@@ -3,9 +3,9 @@
 ghost use Rattle.std.specs.Prelude.{◌≡◌, Some, drop, map, option_map, IfOk};
 ghost use Rattle.mv_deck.specs.Form.{stated, part_data, listed};
 ghost use Rattle.mv_line.specs.Line.{lines_of, without_first_spaces as from_first_field};
-ghost use Rattle.mv_line.specs.Field.{fields_of, one_of, two_of};
+ghost use Rattle.mv_line.specs.Field.{fields_of, two_of};
 ghost use Rattle.mv_deck.specs.Statement.{form_of as form_by_words, job_of as named, operation_of as unnamed};
-ghost use Rattle.mv_deck.specs.Statement.{use_of as used, return_of as returns_by, single as of_one, part_of as cut, declared_by};
+ghost use Rattle.mv_deck.specs.Statement.{use_of as used, return_of as returns_by, one_operand as of_one, part_of as cut, declared_by};
 ghost use Rattle.mv_deck.specs.Statement.{version_of as version_by_lines};
 
 use crate::line::{is_comment, split_colon};
@@ -95,11 +95,11 @@ fn operation_of(version: Version, rest: &[u8]) -> Option<Form<'_>>
         let (volume, amount) = two_fields(operands)?;
         return Some(Form::Count(volume, amount));
     }
-    single(version, operation, one_field(operands)?)
+    one_operand(version, operation, one_field(operands)?)
 }
 
 // An operation that has one operand.
-fn single<'a>(version: Version, operation: &[u8], operand: &'a [u8]) -> Option<Form<'a>>
+fn one_operand<'a>(version: Version, operation: &[u8], operand: &'a [u8]) -> Option<Form<'a>>
     ensures { option_map (stated version) result ≡ of_one version operation.now (Some operand.now) }
 {
     if is_word(operation, b"FREE") {

@@ -6,7 +6,7 @@ use Rattle.std.specs.List.{list_any}
 use Rattle.mv_machine.specs.declared.config.Config.{Config}
 use Rattle.mv_machine.specs.declared.config.Exit.{Exit}
 use Rattle.mv_machine.specs.Config.{setup_of, exit_of}
-use Rattle.mv_machine.specs.Setup.{Setup, targets_of, targets_at, exit_has, is_on_exit}
+use Rattle.mv_machine.specs.Setup.{Setup, targets_of, targets_at, is_on, is_on_exit}
 
 -- exits are counted from 1
 counted : (c : Setup) (x : ℕ) → (x ≡ 0 → ⊥) → targets_of c x ≡ targets_at (slice_get c.exits (x - 1))
@@ -31,9 +31,9 @@ targets_missing config c x given n is = ap (λ s. targets_of s x) (sym given) �
 
 -- what is so of each exit as it was given
 pub on_given_exit : (given : Config) (c : Setup) (e : ℕ) → setup_of given ≡ c
-    → list_any (λ x. exit_has (exit_of x) e) given.exits.items ≡ is_on_exit c e
+    → list_any (λ x. is_on (exit_of x) e) given.exits.items ≡ is_on_exit c e
 on_given_exit given c e same =
     any_of_map given.exits.items ∙ ap (λ (d : Setup). is_on_exit d e) same where
-      any_of_map : (xs : List Exit) → list_any (λ x. exit_has (exit_of x) e) xs ≡ list_any (λ x. exit_has x e) (map exit_of xs)
+      any_of_map : (xs : List Exit) → list_any (λ x. is_on (exit_of x) e) xs ≡ list_any (λ x. is_on x e) (map exit_of xs)
       any_of_map [] = refl
-      any_of_map (x ∷ xs) = ap (λ b. exit_has (exit_of x) e || b) (any_of_map xs)
+      any_of_map (x ∷ xs) = ap (λ b. is_on (exit_of x) e || b) (any_of_map xs)

@@ -51,12 +51,12 @@ starts_from ecb None = false
 starts_from ecb (Some x) = x.source == ecb
 
 -- whether a block is the source or a target of an exit
-abbrev pub exit_has : SetupExit → ℕ → Bool
-exit_has x ecb = (x.source == ecb) || list_any (λ target. target == ecb) x.targets
+abbrev pub is_on : SetupExit → ℕ → Bool
+is_on x ecb = (x.source == ecb) || list_any (λ target. target == ecb) x.targets
 
 -- whether a block is on any exit
 abbrev pub is_on_exit : Setup → ℕ → Bool
-is_on_exit c ecb = list_any (λ x. exit_has x ecb) c.exits
+is_on_exit c ecb = list_any (λ x. is_on x ecb) c.exits
 
 -- whether this block is the source of the exit of this number, counted from 1
 abbrev pub is_exit_of : Setup → ℕ → ℕ → Bool

@@ -7,7 +7,7 @@ ghost use Rattle.mv_latch.specs.LatchSet.{opened};
 ghost use Rattle.mv_machine.specs.Config.{exit_of};
 ghost use Rattle.mv_machine.specs.Limits.{exits_limit};
 ghost use Rattle.mv_machine.specs.Reach.{reach, release_cost};
-ghost use Rattle.mv_machine.specs.Setup.{Setup, is_exit_of, targets_of, exit_has, is_on_exit};
+ghost use Rattle.mv_machine.specs.Setup.{Setup, is_exit_of, targets_of, is_on, is_on_exit};
 ghost use Rattle.mv_machine.specs.Setup.{owner_of, element_owner, element_count};
 
 use crate::config::{Config, Exit};
@@ -96,9 +96,9 @@ impl ValidConfig {
         caller < self.config.callers
     }
 
-    // Whether there is this event control block.
-    pub(crate) fn has_ecb(&self, ecb: u32) -> bool
-        ensures { result ≡ nat_lt ecb (length self.now.owners) }
+    /// Whether there is this event control block.
+    pub fn has_ecb(&self, ecb: u32) -> bool
+        ensures there { result ≡ nat_lt ecb (length self.now.owners) }
     {
         (ecb as usize) < self.config.owners.len()
     }
@@ -233,7 +233,7 @@ impl ValidConfig {
 
 // Whether a block is the source or a target of one of these exits.
 fn is_on_any(exits: &[Exit], ecb: u32) -> bool
-    ensures { result ≡ list_any (λ x. exit_has (exit_of x) ecb) exits.now }
+    ensures { result ≡ list_any (λ x. is_on (exit_of x) ecb) exits.now }
 {
     exits.iter().any(|exit| exit.source == ecb || has_target(&exit.targets, ecb))
 }

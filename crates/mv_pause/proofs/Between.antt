@@ -13,7 +13,7 @@ use Rattle.mv_machine.specs.Parked.{parked}
 use Rattle.mv_machine.specs.Parts.{IsPossible}
 use Rattle.mv_machine.specs.Replies.{NamesUpTo}
 use Rattle.mv_machine.specs.Setup.{Setup, element_owner}
-use Rattle.mv_board.specs.Faces.{CallerFace, Happened, IsSame, is_given as gives}
+use Rattle.mv_board.specs.Faces.{CallerFace, Happened, IsSame, is_given}
 use Rattle.mv_calls.specs.Keeping.{kept_of}
 use Rattle.mv_calls.specs.Pauses.{Gift, gift_of, paused, resumed, is_others_token}
 use Rattle.mv_calls.specs.Program.{Done}
@@ -27,7 +27,7 @@ use Rattle.mv_pause.specs.Replies.{HappenedOn, SaysGiven}
 use Rattle.mv_pause.specs.declared.pausing.Given.{Given}
 use Rattle.mv_pause.specs.declared.pausing.PauseRefusal.{PauseRefusal}
 use Rattle.mv_pause.proofs.Answering.{resume_gives, gives_next}
-use Rattle.mv_pause.proofs.Gifts.{was_given, is_given, made_own}
+use Rattle.mv_pause.proofs.Gifts.{was_given, given_is_so, made_own}
 use Rattle.mv_pause.proofs.Served.{own_is, rests_by, none_resumed, is_parked}
 
 -- it is the same task
@@ -57,7 +57,7 @@ pausing_look c token t0 t u p looks =
     record { may = p.may; own = p.own; parked = p.parked; event = p.event; since = went_then [] [] p.parked t u p.since looks }
 
 -- a reply that gives says what is given
-pub says_given : (r : Reply) → gives r ≡ true → SaysGiven r
+pub says_given : (r : Reply) → is_given r ≡ true → SaysGiven r
 says_given (reply_of.Element (element_reply.Given code next)) e = tt
 says_given (reply_of.Element element_reply.Parked) e = absurd (false≢true e)
 says_given (reply_of.Element r) e = absurd (false≢true e)
@@ -92,7 +92,7 @@ pausing_ends c token t0 t u code next result p h possible low e =
           ∙ waits_one t0 p.parked (Element n) op (reply_of.Element element_reply.Parked) p.event))
           (none_resumed (waits_from no_waits t0.log) n code next op resume p.may.rest);
       current = λ current. (result, refl);
-      answer = is_given u token result code next e (was_given t u token resume code next h is) is;
+      answer = given_is_so u token result code next e (was_given t u token resume code next h is) is;
       low = (tt, subst (λ (z : Gift). z.next.generation ≤ 262143) (sym e) low);
     }
 

@@ -36,9 +36,9 @@ was_given t u token op code next h is = record {
 }
 
 -- what the call answers of it
-pub is_given : (u : CallerFace) (token : Token) (given : Given) (code next : ℕ) → gift_as given ≡ gift_of token.element code next
+pub given_is_so : (u : CallerFace) (token : Token) (given : Given) (code next : ℕ) → gift_as given ≡ gift_of token.element code next
     → WasGiven token code u.log → next ≡ token.generation + 1 → IsGiven token given u.log
-is_given u token given code next e was is = record {
+given_is_so u token given code next e was is = record {
   was = subst (λ d. WasGiven token d u.log) (sym (ap (λ (z : Gift). z.code) e)) was;
   element = ap (λ (z : Gift). z.next.element) e;
   generation = ap (λ (z : Gift). z.next.generation) e ∙ is;

@@ -34,7 +34,7 @@ fn linger() {
 fn assert_is_block(rt: &impl Abort, station: &Station, ecb: u32)
     ensures { ecb < length station.now.config.owners }
 {
-    assert!(rt; (ecb as usize) < station.config().config().owners.len());
+    assert!(rt; station.config().has_ecb(ecb));
 }
 
 // Stops the test where the task can not wait for this block and clear it.

@@ -16,7 +16,7 @@ use Rattle.mv_pause.specs.Answers.{gift_as}
 use Rattle.mv_pause.specs.Pausing.{pause_own}
 use Rattle.mv_pause.specs.Replies.{SaysBegun}
 use Rattle.mv_pause.proofs.Answering.{pause_says, says_idle, pause_is_current, current_is_not_spent, pause_gives, gives_next}
-use Rattle.mv_pause.proofs.Gifts.{was_given, is_given}
+use Rattle.mv_pause.proofs.Gifts.{was_given, given_is_so}
 use Rattle.mv_pause.proofs.Served.{rests_by, none_given}
 use Rattle.mv_pause.proofs.pausing.begin_own.Goals as goal
 
@@ -46,7 +46,7 @@ returns-in-Given g c =
       rest = rests_by u.log (waits_after (waits_from no_waits t.log) (Element n) op reply) (waits_one t u (Element n) op reply h)
           (none_given (waits_from no_waits t.log) n gift.code gift.next op c.requires.rest);
       current = λ is. (c.with_token.result, refl);
-      answer = is_given u token c.with_token.result gift.code gift.next c.with_token.ensures
+      answer = given_is_so u token c.with_token.result gift.code gift.next c.with_token.ensures
           (was_given t u token op gift.code gift.next h next) next;
       low = (
         tt,

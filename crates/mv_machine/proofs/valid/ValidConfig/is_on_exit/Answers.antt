@@ -3,13 +3,13 @@ use Rattle.std.proofs.Common.{◌∙◌, List, ap}
 use Rattle.std.specs.List.{list_any}
 use Rattle.mv_machine.specs.declared.config.Exit.{Exit}
 use Rattle.mv_machine.specs.Config.{exit_of}
-use Rattle.mv_machine.specs.Setup.{exit_has}
+use Rattle.mv_machine.specs.Setup.{is_on}
 use Rattle.mv_machine.proofs.Targets.{on_given_exit}
 use Rattle.mv_machine.proofs.valid.ValidConfig.is_on_exit.Goals as goal
 
 pub returns : goal.returns
 returns c = record {
   on = c.is_on_any.ensures
-      ∙ ap (λ (xs : List Exit). list_any (λ x. exit_has (exit_of x) c.args.ecb) xs) c.deref.ensures.value
+      ∙ ap (λ (xs : List Exit). list_any (λ x. is_on (exit_of x) c.args.ecb) xs) c.deref.ensures.value
       ∙ on_given_exit c.self.inside.config c.args.self.now c.args.ecb c.self.view_is;
 }
