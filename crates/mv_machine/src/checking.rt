@@ -1,7 +1,7 @@
 //! The check of a configuration: its limits, owners, exits and budgets in their order, by specs/Check.antt.
 
 ghost use Rattle.std.specs.List.{list_all, list_any};
-ghost use Rattle.std.specs.Prelude.{◌≡◌, ◌≢◌, ◌≤◌, ◌||◌, nat_le, sum, vec_len, OnOk, IfOk, IfErr, IsErrOf, Some, None};
+ghost use Rattle.std.specs.Prelude.{◌≡◌, ◌≢◌, ◌≤◌, ◌||◌, nat_le, sum, vec_len, OnOk, IfOk, IfErr, IsErrOf, Some};
 ghost use Rattle.mv_machine.specs.Config.{setup_of, exit_of};
 ghost use Rattle.mv_machine.specs.Check.{refusal_of, first_limit, first_bad_owner, first_bad_exit, bad_budget};
 ghost use Rattle.mv_machine.specs.Check.{is_bad_exit as is_bad_exit_at, is_within, IsValid};

@@ -1,6 +1,6 @@
 //! The log of a caller: its entries, in 40 bytes each. Clauses cite `specs/Log.antt`.
 
-ghost use Rattle.std.specs.Prelude.{◌≡◌, ◌<◌, ◌+◌, ◌-◌, ◌^◌, [], length, slice_get, option_map, IfOk, IfSome};
+ghost use Rattle.std.specs.Prelude.{◌≡◌, ◌<◌, ◌+◌, ◌^◌, [], length, slice_get, option_map, IfOk, IfSome};
 ghost use Rattle.mv_machine.specs.Log.{subject_of, with_entry};
 
 use crate::compact::CompactEntry;

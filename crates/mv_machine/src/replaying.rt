@@ -1,7 +1,7 @@
 //! The judgement of a list of entries: is it legal, and which entry is the first that is not, by specs/Legal.antt and
 //! specs/Replay.antt.
 
-ghost use Rattle.std.specs.Prelude.{◌≡◌, ◌≢◌, ◌<◌, ◌≤◌, ◌↔◌, IsTrue, MatchOption, OnOk, IfOk, IfErr, All, Some, None};
+ghost use Rattle.std.specs.Prelude.{◌≡◌, ◌≢◌, ◌<◌, ◌≤◌, ◌↔◌, IsTrue, MatchOption, OnOk, IfOk, IfErr, All, Some};
 ghost use Rattle.mv_machine.specs.declared.entry.Object.{Object as AnyObject};
 ghost use Rattle.mv_machine.specs.Legal.{Legal, LegalFrom, after, after_from};
 ghost use Rattle.mv_machine.specs.Limits.{highest_place, place_limit};

@@ -1,6 +1,6 @@
 //! The state of the whole machine, and its one step, by specs/System.antt and specs/State.antt.
 
-ghost use Rattle.std.specs.Prelude.{◌≡◌, ◌<◌, ◌≤◌, ◌+◌, ◌-◌, [], IfOk, IsTrue, ◌↔◌};
+ghost use Rattle.std.specs.Prelude.{◌≡◌, ◌<◌, ◌≤◌, [], IfOk, IsTrue, ◌↔◌};
 ghost use Rattle.mv_latch.specs.LatchSet.{list_of};
 ghost use Rattle.mv_machine.specs.Limits.{highest_place, place_limit};
 ghost use Rattle.mv_machine.specs.System.{answer, after_step, place_of, volume_step};

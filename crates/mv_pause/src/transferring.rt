@@ -1,7 +1,7 @@
 //! A release and a pause in one call. Clauses cite the programs' `Pauses.antt`, and `specs/Answers.antt` and
 //! `specs/Transferring.antt`.
 
-ghost use Rattle.std.specs.Prelude.{◌≡◌, ◌<◌, ◌≤◌, ◌+◌, Some, None, IfOk, IfSome, MatchResult, option_map};
+ghost use Rattle.std.specs.Prelude.{◌≡◌, ◌<◌, ◌≤◌, ◌+◌, None, IfOk, IfSome, MatchResult, option_map};
 ghost use Rattle.mv_element.specs.Table.{release_limit};
 ghost use Rattle.mv_machine.specs.Setup.{element_count};
 ghost use Rattle.mv_machine.specs.Limits.{highest_generation};

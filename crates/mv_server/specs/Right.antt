@@ -1,6 +1,6 @@
 -- What each task of a pool keeps to, whatever the others do: a block of an answer is posted by a worker, and with nothing but that
 -- answer.
-use Rattle.std.specs.Prelude.{◌≡◌, ℕ, ◌+◌, ◌<◌, ◌≤◌, List, [], length, slice_index}
+use Rattle.std.specs.Prelude.{◌≡◌, ℕ, ◌+◌, ◌<◌, ◌≤◌, List, length, slice_index}
 use Rattle.std.specs.List.{AllByRecursion}
 use Rattle.mv_ecb.specs.declared.operation.EcbOp.TheVariants.{Extend, Post}
 use Rattle.mv_machine.specs.declared.entry.Entry.{Entry}

@@ -18,7 +18,6 @@ use crossbeam_utils::sync::Unparker;
 use mv_board::{Board, Caller, Closed, Moved, Watch};
 use mv_io::NoMemory;
 use mv_machine::{Object, Op, Reply, ValidConfig};
-use slab::Slab;
 use std::alloc::Global;
 use std::marker::Model;
 use std::sync::Wait;

@@ -1,6 +1,6 @@
 //! What an initiator notes of the jobs that it runs, in room that is taken before it starts. Clauses cite `specs/Records.antt`.
 
-ghost use Rattle.std.specs.Prelude.{◌≡◌, ◌<◌, ◌≤◌, ◌-◌, ◌+◌, ◌++◌, ◌∷◌, [], IfOk};
+ghost use Rattle.std.specs.Prelude.{◌≡◌, ◌<◌, ◌≤◌, ◌-◌, ◌++◌, ◌∷◌, [], IfOk};
 
 use mv_io::NoMemory;
 use std::alloc::Global;
