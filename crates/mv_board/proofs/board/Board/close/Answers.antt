@@ -21,7 +21,7 @@ take_back-requires-clause-next c =
     let back = ap length i.back in
     omega arith
 
--- behind the last caller the parts of all have come back
+-- behind the last caller as many parts have come back as there are callers
 pub done-requires : goal.done-requires
 done-requires c =
     let i = c.loop-caller.invariant in
@@ -31,6 +31,7 @@ done-requires c =
           ∙ (length-map c.args.callers.items part_of ∙ (c.requires.all ∙ sym (ap (λ (b : BoardFace). b.config.callers) i.board)));
     }
 
+-- and they are those of the callers, in order
 all_are_back : (c : goal.After-done) → c.loop-caller.closing.back ≡ map part_of c.args.callers.items
 all_are_back c =
     let i = c.loop-caller.invariant in

@@ -20,7 +20,7 @@ take_back-requires c =
       next = omega arith;
     }
 
--- behind the last task the parts of all have come back
+-- behind the last task as many parts have come back as there are tasks
 pub done-requires : goal.done-requires
 done-requires c =
     let i = c.loop-task.invariant in
@@ -30,6 +30,7 @@ done-requires c =
           ∙ (length-map c.args.tasks.items part_of ∙ (c.requires.all ∙ sym (ap (λ (b : BoardFace). b.config.callers) i.board)));
     }
 
+-- and they are those of the tasks, in order
 all_are_back : (c : goal.After-drop-self-inside) → c.loop-task.closing.back ≡ map part_of c.args.tasks.items
 all_are_back c =
     let i = c.loop-task.invariant in
