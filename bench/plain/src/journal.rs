@@ -3,7 +3,7 @@
 use crate::calls::Numbering;
 use crate::ecb::{self, EcbOp, EcbReply};
 use crate::element::{self, ElementOp, ElementReply, ElementState, Phase};
-use crate::latch::{Form, LatchOp, LatchReply, Mode};
+use crate::latch::{LatchForm, LatchOp, LatchReply, Mode};
 use crate::machine::{Config, Entry, Event, Exit, History, VolumeOp, VolumeReply, MOST_EVENTS};
 use crate::text::{push_field, push_number};
 
@@ -228,9 +228,9 @@ fn write_latch_op(out: &mut Vec<u8>, op: LatchOp) {
                 Mode::Exclusive => b" X",
             });
             match form {
-                Form::Conditional => out.extend_from_slice(b" C"),
-                Form::Waiting => out.extend_from_slice(b" W"),
-                Form::Posted(ecb) => {
+                LatchForm::Conditional => out.extend_from_slice(b" C"),
+                LatchForm::Waiting => out.extend_from_slice(b" W"),
+                LatchForm::Posted(ecb) => {
                     out.extend_from_slice(b" P");
                     push_number(out, u64::from(ecb));
                 }
@@ -653,9 +653,9 @@ impl<'a> Cursor<'a> {
                 let letter = self.peek()?;
                 self.at += 1;
                 let form = match letter {
-                    b'C' => Form::Conditional,
-                    b'W' => Form::Waiting,
-                    b'P' => Form::Posted(self.digits(0, FULL)? as u32),
+                    b'C' => LatchForm::Conditional,
+                    b'W' => LatchForm::Waiting,
+                    b'P' => LatchForm::Posted(self.digits(0, FULL)? as u32),
                     _ => return None,
                 };
                 LatchOp::Obtain { latch, requestor, mode, form }

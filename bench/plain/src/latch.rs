@@ -7,7 +7,7 @@ pub enum Mode {
 }
 
 #[derive(Clone, Copy, Debug, PartialEq, Eq)]
-pub enum Form {
+pub enum LatchForm {
     Conditional,
     Waiting,
     /// Returns at once; the ECB is posted at the grant.
@@ -20,12 +20,12 @@ pub struct Request {
     pub caller: u32,
     pub requestor: u64,
     pub mode: Mode,
-    pub form: Form,
+    pub form: LatchForm,
 }
 
 #[derive(Clone, Copy, Debug, PartialEq, Eq)]
 pub enum LatchOp {
-    Obtain { latch: u32, requestor: u64, mode: Mode, form: Form },
+    Obtain { latch: u32, requestor: u64, mode: Mode, form: LatchForm },
     Confirm { latch: u32, id: u32 },
     Release { latch: u32, id: u32, conditional: bool },
     Purge { requestor: u64 },
@@ -53,7 +53,7 @@ pub struct Wake {
 impl Wake {
     fn of(request: &Request, code: u32) -> Self {
         let ecb = match request.form {
-            Form::Posted(ecb) => Some(ecb),
+            LatchForm::Posted(ecb) => Some(ecb),
             _ => None,
         };
         Wake { caller: request.caller, ecb, code }
@@ -108,7 +108,7 @@ impl LatchSet {
                 let held = &self.held[caller as usize];
                 self.exists(latch)
                     && held.requests < self.quota
-                    && (!matches!(form, Form::Posted(_)) || held.posted < self.posted_quota)
+                    && (!matches!(form, LatchForm::Posted(_)) || held.posted < self.posted_quota)
             }
         }
     }
@@ -138,13 +138,13 @@ impl LatchSet {
         };
         let reply = match blocker {
             None => LatchReply::Granted(request.id),
-            Some(blocker) if request.form == Form::Conditional => return LatchReply::NotNow(blocker.id),
+            Some(blocker) if request.form == LatchForm::Conditional => return LatchReply::NotNow(blocker.id),
             Some(_) => LatchReply::Queued(request.id),
         };
         list.push(request);
         let held = &mut self.held[request.caller as usize];
         held.requests += 1;
-        held.posted += u32::from(matches!(request.form, Form::Posted(_)));
+        held.posted += u32::from(matches!(request.form, LatchForm::Posted(_)));
         reply
     }
 
@@ -217,6 +217,6 @@ impl LatchSet {
 impl Held {
     fn give_back(&mut self, request: &Request) {
         self.requests -= 1;
-        self.posted -= u32::from(matches!(request.form, Form::Posted(_)));
+        self.posted -= u32::from(matches!(request.form, LatchForm::Posted(_)));
     }
 }

@@ -2,7 +2,7 @@
 
 use crate::ecb::{self, EcbOp, EcbReply};
 use crate::element::{self, ElementOp, ElementReply, ElementState};
-use crate::latch::{Form, LatchOp, LatchReply, LatchSet, Wake};
+use crate::latch::{LatchForm, LatchOp, LatchReply, LatchSet, Wake};
 use crate::word;
 
 #[derive(Clone, Debug, PartialEq, Eq)]
@@ -289,7 +289,7 @@ impl State {
             Event::Volume(volume, ..) => volume < config.volumes,
             Event::Latch(op, _) => {
                 let own = match op {
-                    LatchOp::Obtain { form: Form::Posted(ecb), .. } => config.owners.get(ecb as usize) == Some(&caller),
+                    LatchOp::Obtain { form: LatchForm::Posted(ecb), .. } => config.owners.get(ecb as usize) == Some(&caller),
                     _ => true,
                 };
                 own && self.latches.admits(caller, op)

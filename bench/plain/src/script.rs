@@ -3,7 +3,7 @@
 use crate::board::{Board, Closed, Seat};
 use crate::element::{ElementState, Token};
 use crate::journal::phase_name;
-use crate::latch::{Form, Mode};
+use crate::latch::{LatchForm, Mode};
 use crate::machine::{Config, Exit, History, MOST_EVENTS};
 use crate::services::*;
 use crate::text::{self, push_field, push_number};
@@ -27,7 +27,7 @@ pub enum Call {
     Transfer { current: Option<Token>, target: Token, code: u32 },
     Dealloc(Token),
     TestElement(u32),
-    Obtain { latch: u32, requestor: u64, mode: Mode, form: Form },
+    Obtain { latch: u32, requestor: u64, mode: Mode, form: LatchForm },
     Check(u32),
     Free { obtain: u32, conditional: bool },
     Purge(u64),
@@ -238,7 +238,7 @@ impl Reader {
         match *call {
             Call::Wait { ref ecbs, .. } => 2 * ecbs.len() as u32,
             Call::Post { ecb, .. } => reach(ecb),
-            Call::Pause(_) | Call::Obtain { form: Form::Waiting, .. } => 2,
+            Call::Pause(_) | Call::Obtain { form: LatchForm::Waiting, .. } => 2,
             Call::Transfer { current: Some(_), .. } => 3,
             Call::Free { .. } | Call::Purge(_) => self.release_cost,
             Call::EndTask { mother, .. } => ELEMENTS + self.release_cost + mother.map_or(0, reach),
@@ -422,9 +422,9 @@ impl<'a> Fields<'a> {
                     _ => return None,
                 },
                 form: match self.word()? {
-                    b"COND" => Form::Conditional,
-                    b"WAIT" => Form::Waiting,
-                    b"ECB" => Form::Posted(self.ecb()?),
+                    b"COND" => LatchForm::Conditional,
+                    b"WAIT" => LatchForm::Waiting,
+                    b"ECB" => LatchForm::Posted(self.ecb()?),
                     _ => return None,
                 },
             },

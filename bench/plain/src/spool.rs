@@ -2,7 +2,7 @@
 
 use crate::board::{Board, Closed, Seat};
 use crate::deck::{Deck, Step, NOT_RUN};
-use crate::latch::Form;
+use crate::latch::LatchForm;
 use crate::machine::{Config, Exit, History};
 use crate::report::Outcome;
 use crate::services::{Given, Obtained, Task, WaitSlot};
@@ -280,7 +280,7 @@ impl<B: Board, G: Gate> Worker<'_, B, G> {
             match *step {
                 Step::Print(_) => {}
                 Step::Use(latch, mode) => {
-                    let obtained = self.task.obtain(latch, requestor_of(job), mode, Form::Waiting);
+                    let obtained = self.task.obtain(latch, requestor_of(job), mode, LatchForm::Waiting);
                     match obtained.expect(SOUND) {
                         Obtained::Granted(token) | Obtained::Pending(token) => held[latch as usize] = Some(token),
                     }
