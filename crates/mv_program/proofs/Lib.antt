@@ -3,5 +3,3 @@ pub mod Runs
 -- How a run ends, and what it tells.
 pub mod Owed
 pub mod Told
--- Of the tests: tasks in a queue.
-pub mod Rings

@@ -13,7 +13,6 @@ use std::sync::Wait;
 use std::test::Fail;
 use std::thread::Threads;
 
-mod event_tables;
 mod failing_streams;
 mod faulty_decks;
 mod faulty_journals;
@@ -21,10 +20,7 @@ mod faulty_scripts;
 mod forged_journals;
 mod held_tasks;
 mod journal_rows;
-mod orders;
 mod polled_runs;
-mod polls;
-mod rings;
 mod scheduled_scripts;
 mod script_rows;
 

@@ -1,0 +1,2 @@
+-- Of the tests: tasks in a queue.
+pub mod Rings

@@ -1,0 +1,10 @@
+use Rattle.std.proofs.Common.{List, subst, sym}
+use Rattle.mv_deck.specs.Deck.{JobData}
+use Rattle.mv_deck.specs.Sound.{IsSound}
+use Rattle.mv_deck.proofs.Sounds.{sound}
+use Rattle.mv_tests.proofs.tests.orders.deck_of.Goals as goal
+
+pub returns : goal.returns
+returns c =
+    subst (λ (d : List JobData). IsSound d c.args.initiators) (sym c.in_ok-deck.ensures.deck.1)
+    (sound c.args.text.now c.args.initiators c.in_ok-deck.ensures.deck.0)

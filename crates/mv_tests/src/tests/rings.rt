@@ -1,0 +1,310 @@
+//! A small executor on one thread: eight tasks hand a post round in a ring, and then releases, and each is polled only where an
+//! event has rung its key, or it has made an event itself.
+
+ghost use Rattle.std.specs.Prelude.{◌≡◌, ◌<◌, ◌≤◌, length, IfOk};
+ghost use Rattle.std.specs.List.{AllByRecursion};
+ghost use Rattle.mv_machine.specs.Setup.{element_count};
+ghost use Rattle.mv_calls.specs.Rest.{IsAtRest};
+ghost use Rattle.mv_board.specs.Faces.{CallerFace, IsOf, AreFresh, AreInOrder};
+ghost use Rattle.mv_polled.specs.Pausing.{IsPauseAt};
+ghost use Rattle.mv_tests.specs.Rings.{MayGoOn};
+ghost use Rattle.mv_polled.specs.Waiting.{IsWaitAt};
+
+use super::polls::{a_wait, given, is_over, open, post, release_to, token};
+use mv_machine::{OpenLog, replay};
+use mv_pause::allocate;
+use mv_polled::{PauseCall, WaitCall, rung};
+use mv_wait::{Station, Task};
+use std::alloc::Global;
+use std::collections::VecDeque;
+use std::process::Abort;
+use std::sync::Wait;
+use std::test::Fail;
+
+// The last of the eight tasks.
+const LAST: u32 = 7;
+
+// How often the releases go round.
+const LAPS: u32 = 3;
+
+// Turns that are enough.
+const TURNS: u32 = 2000;
+
+// A task with the call that it waits in; it has none once it is done.
+#[derive(Drop)]
+struct Runner {
+    task: Task,
+    wait: Option<WaitCall>,
+    pause: Option<PauseCall>,
+}
+
+// A task at rest that is to wait for its block.
+fn waiting(alloc: Global, station: &Station, task: Task) -> Result<Runner, Fail>
+    requires task { IsOf station.now task }
+    requires rest { IsAtRest task.log }
+    requires number { task.number < 8 }
+    requires left { 2 ≤ task.left }
+    requires blocks { length station.now.config.owners ≡ 8 }
+    ensures { IfOk result (λ r. MayGoOn station.now r.task r.wait r.pause) }
+{
+    let call = a_wait(alloc, station, &task, 1, &[task.number()])?;
+    Ok(Runner {
+        task,
+        wait: Some(call),
+        pause: None,
+    })
+}
+
+// A task at rest that is to pause with its element of this generation.
+fn pausing(station: &Station, task: Task, generation: u32) -> Runner
+    requires task { IsOf station.now task }
+    requires rest { IsAtRest task.log }
+    requires number { task.number < 8 }
+    requires left { 2 ≤ task.left }
+    requires elements { element_count station.now.config ≡ 8 }
+    ensures { MayGoOn station.now result.task result.wait result.pause }
+{
+    let _config = station.config();
+    let call = PauseCall::new(token(task.number(), generation));
+    Runner {
+        task,
+        wait: None,
+        pause: Some(call),
+    }
+}
+
+// Behind its wait a task hands the post on, and the last one begins the releases.
+#[tactic(auto, using(mv_wait::proofs::Compose::served))]
+fn behind_wait<R: Abort + Wait>(rt: &R, station: &Station, mut task: Task) -> Runner
+    requires task { IsOf station.now task }
+    requires rest { IsAtRest task.log }
+    requires blocks { length station.now.config.owners ≡ 8 }
+    requires elements { element_count station.now.config ≡ 8 }
+    ensures { MayGoOn station.now result.task result.wait result.pause }
+{
+    let own = task.number();
+    assert!(rt; own <= LAST);
+    if own < LAST {
+        post(rt, station, &mut task, own + 1, 0);
+    } else {
+        release_to(rt, station, &mut task, token(0, 0), 0);
+    }
+    assert!(rt; task.left() >= 2);
+    pausing(station, task, 0)
+}
+
+// Behind its pause a task hands the release on, and pauses again where another lap is to come.
+fn behind_pause<R: Abort + Wait>(rt: &R, station: &Station, mut task: Task, lap: u32) -> Runner
+    requires task { IsOf station.now task }
+    requires rest { IsAtRest task.log }
+    requires elements { element_count station.now.config ≡ 8 }
+    ensures { MayGoOn station.now result.task result.wait result.pause }
+{
+    let own = task.number();
+    assert!(rt; own <= LAST && lap < LAPS);
+    if own < LAST {
+        release_to(rt, station, &mut task, token(own + 1, lap), lap);
+    } else {
+        release_to(rt, station, &mut task, token(0, lap + 1), lap + 1);
+    }
+    if lap + 1 < LAPS {
+        assert!(rt; task.left() >= 2);
+        return pausing(station, task, lap + 1);
+    }
+    Runner {
+        task,
+        wait: None,
+        pause: None,
+    }
+}
+
+// Polls the wait of a task, and goes on with the task where it is over.
+fn poll_wait<R: Abort + Wait>(
+    rt: &R,
+    station: &Station,
+    mut task: Task,
+    mut call: WaitCall,
+) -> Runner
+    requires task { IsOf station.now task }
+    requires stage { (t0 : CallerFace) × IsWaitAt station.now.config call t0 task }
+    requires blocks { length station.now.config.owners ≡ 8 }
+    requires elements { element_count station.now.config ≡ 8 }
+    ensures { MayGoOn station.now result.task result.wait result.pause }
+{
+    if is_over(rt, station, &mut task, &mut call) {
+        return behind_wait(rt, station, task);
+    }
+    Runner {
+        task,
+        wait: Some(call),
+        pause: None,
+    }
+}
+
+// Polls the pause of a task, and goes on with the task where it is over.
+fn poll_pause<R: Abort + Wait>(
+    rt: &R,
+    station: &Station,
+    mut task: Task,
+    mut call: PauseCall,
+) -> Runner
+    requires task { IsOf station.now task }
+    requires stage { (t0 : CallerFace) × IsPauseAt station.now.config call t0 task }
+    requires elements { element_count station.now.config ≡ 8 }
+    ensures { MayGoOn station.now result.task result.wait result.pause }
+{
+    if let Some(given) = given(rt, station, &mut task, &mut call) {
+        return behind_pause(rt, station, task, given.code);
+    }
+    Runner {
+        task,
+        wait: None,
+        pause: Some(call),
+    }
+}
+
+// Polls what a task waits in, and goes on with it where that is over.
+fn go_on<R: Abort + Wait>(rt: &R, station: &Station, runner: Runner) -> Runner
+    requires runner { MayGoOn station.now runner.task runner.wait runner.pause }
+    requires blocks { length station.now.config.owners ≡ 8 }
+    requires elements { element_count station.now.config ≡ 8 }
+    ensures { MayGoOn station.now result.task result.wait result.pause }
+{
+    let Runner { task, wait, pause } = runner;
+    if let Some(call) = wait {
+        return poll_wait(rt, station, task, call);
+    }
+    if let Some(call) = pause {
+        return poll_pause(rt, station, task, call);
+    }
+    Runner {
+        task,
+        wait: None,
+        pause: None,
+    }
+}
+
+// A new task takes its element in use, and the last one posts the first one's block.
+#[tactic(auto, using(mv_wait::proofs::Compose::served))]
+fn begin<R: Abort + Wait>(
+    rt: &R,
+    alloc: Global,
+    station: &Station,
+    mut task: Task,
+) -> Result<Runner, Fail>
+    requires task { IsOf station.now task }
+    requires rest { IsAtRest task.log }
+    requires blocks { length station.now.config.owners ≡ 8 }
+    ensures { IfOk result (λ r. MayGoOn station.now r.task r.wait r.pause) }
+{
+    assert!(rt; task.left() > 0);
+    assert!(rt; allocate(station, rt, &mut task).is_ok());
+    if task.number() == LAST {
+        post(rt, station, &mut task, 0, 0);
+    }
+    assert!(rt; task.number() <= LAST && task.left() >= 2);
+    waiting(alloc, station, task)
+}
+
+// The tasks, the last one first. Each has its element in use and waits for its block; the first one's is posted.
+fn begin_all<R: Abort + Wait>(
+    rt: &R,
+    alloc: Global,
+    station: &Station,
+    mut tasks: Vec<Task>,
+) -> Result<VecDeque<Runner>, Fail>
+    requires tasks { AreFresh station.now 0 tasks.items }
+    requires blocks { length station.now.config.owners ≡ 8 }
+    ensures { IfOk result (λ rs. AllByRecursion (λ r. MayGoOn station.now r.task r.wait r.pause) rs.items) }
+{
+    let mut runners = VecDeque::new(alloc);
+    for _ in 0..=LAST {
+        assert!(rt; !tasks.is_empty());
+        let task = station.take_last(&mut tasks);
+        runners.push_back(begin(rt, alloc, station, task)?)?;
+    }
+    Ok(runners)
+}
+
+// Marks the task of each key that the entries of a log from this one on ring. Task e has block e and element e, whose keys end in e.
+fn hear(woken: &mut [bool; 8], log: &OpenLog, from: usize) {
+    for at in from..log.len() {
+        if let Some(entry) = log.get(at) {
+            if let Some(key) = rung(&entry) {
+                woken[(key & 7) as usize] = true;
+            }
+        }
+    }
+}
+
+// Polls one task after the other, where it was marked.
+fn run<R: Abort + Wait>(
+    rt: &R,
+    station: &Station,
+    mut runners: VecDeque<Runner>,
+) -> Result<VecDeque<Runner>, Fail>
+    requires runners { AllByRecursion (λ r. MayGoOn station.now r.task r.wait r.pause) runners.items }
+    requires blocks { length station.now.config.owners ≡ 8 }
+    requires elements { element_count station.now.config ≡ 8 }
+    ensures { IfOk result (λ rs. AllByRecursion (λ r. MayGoOn station.now r.task r.wait r.pause) rs.items) }
+{
+    let mut woken = [true; 8];
+    for _ in 0..TURNS {
+        let Some(mut runner) = runners.pop_front() else {
+            return Ok(runners);
+        };
+        let number = (runner.task.number() & 7) as usize;
+        if woken[number] {
+            let from = runner.task.log().len();
+            runner = go_on(rt, station, runner);
+            woken[number] = runner.task.log().len() > from;
+            hear(&mut woken, runner.task.log(), from);
+        }
+        runners.push_back(runner)?;
+    }
+    Ok(runners)
+}
+
+// The tasks in their order, once all are done.
+fn tasks_of<R: Abort>(
+    rt: &R,
+    alloc: Global,
+    station: &Station,
+    mut runners: VecDeque<Runner>,
+) -> Result<Vec<Task>, Fail>
+    requires runners { AllByRecursion (λ r. MayGoOn station.now r.task r.wait r.pause) runners.items }
+    ensures { IfOk result (λ ts. AreInOrder station.now 0 ts.items × (length ts.items ≡ 8)) }
+{
+    let _config = station.config();
+    let mut tasks = Vec::new(alloc);
+    for _ in 0..=LAST {
+        let Some(runner) = runners.pop_back() else {
+            panic!(rt; "a task is lost")
+        };
+        assert!(rt; runner.wait.is_none() && runner.pause.is_none());
+        assert_eq!(rt; runner.task.number() as usize, tasks.len());
+        tasks.push(runner.task)?;
+    }
+    assert_eq!(rt; tasks.len(), 8);
+    Ok(tasks)
+}
+
+#[test]
+fn eight_tasks_go_round_by_what_is_rung(rt: HostRuntime) -> Result<(), Fail> {
+    let mut owners = Vec::new(rt.alloc());
+    for owner in 0..=LAST {
+        owners.push(owner)?;
+    }
+    assert_eq!(rt; owners.len(), 8);
+    let (station, tasks) = open(rt.alloc(), owners)?;
+    let runners = begin_all(&rt, rt.alloc(), &station, tasks)?;
+    let runners = run(&rt, &station, runners)?;
+    let tasks = tasks_of(&rt, rt.alloc(), &station, runners)?;
+    let closed = station.close(tasks);
+    let listed = closed.history.listed(rt.alloc())?;
+    // Of each task its allocation, an arm, a settle and what it hands on, and in each lap a pause, a resume and what it hands on; and the
+    // first post.
+    assert_eq!(rt; listed.journal.len(), 8 * 4 + 3 * 8 * 3 + 1);
+    replay(rt.alloc(), &listed.config, &listed.journal)?;
+    Ok(())
+}
