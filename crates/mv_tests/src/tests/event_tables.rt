@@ -103,19 +103,29 @@ fn next<R: Abort + Wait>(
 
 // ---- one task
 
-#[test]
+// Writes the table's volume, and posts a slot with what is no event.
 #[tactic(auto, using(mv_wait::proofs::Compose::served))]
-fn what_others_did_to_the_table_is_told(rt: HostRuntime) -> Result<(), Fail> {
-    let (station, mut task) = open(rt.alloc())?;
-    let table = checked(&rt, &station);
+fn break_a_table<R: Abort + Wait>(rt: &R, station: &Station, task: &mut Task)
+    requires task { IsOf station.now task.old }
+    requires rest { IsAtRest task.old.log }
+    requires volumes { station.now.config.volumes ≡ 1 }
+    requires blocks { length station.now.config.owners ≡ 6 }
+{
+    let table = checked(rt, station);
     assert!(rt; task.left() > 0);
-    station.write_volume(&rt, &mut task, 0, 3);
-    let posted = post(&rt, &station, &mut task, &table, 1, 5);
+    station.write_volume(rt, task, 0, 3);
+    let posted = post(rt, station, task, &table, 1, 5);
     assert_eq!(rt; posted, Err(PostEventRefusal::Broken(3)));
     assert!(rt; station.config().reach(3) <= task.left());
-    station.post(&rt, &mut task, 3, 40);
-    let next = next(&rt, &station, &mut task, &table, 0);
+    station.post(rt, task, 3, 40);
+    let next = next(rt, station, task, &table, 0);
     assert_eq!(rt; next, Err(NextRefusal::Strange(40)));
+}
+
+#[test]
+fn what_others_did_to_the_table_is_told(rt: HostRuntime) -> Result<(), Fail> {
+    let (station, mut task) = open(rt.alloc())?;
+    break_a_table(&rt, &station, &mut task);
     Ok(())
 }
 

@@ -116,28 +116,41 @@ pub(crate) fn is_over<R: Wait>(
 }
 
 // A wait for two of three blocks, of which one is posted before its first poll and one behind it.
-fn wait_for_two<R: Abort + Wait>(
+fn wait_for_two<R: Abort + Wait + AllocGlobal>(
     rt: &R,
     station: &Station,
     waiter: &mut Task,
     poster: &mut Task,
-    call: &mut WaitCall,
-)
+) -> Result<(), Fail>
     requires waiter { IsOf station.now waiter.old }
     requires poster { IsOf station.now poster.old }
-    requires rest { IsAtRest poster.old.log }
+    requires rest { IsAtRest waiter.old.log × IsAtRest poster.old.log }
     requires blocks { length station.now.config.owners ≡ 3 }
-    requires stage { (t0 : CallerFace) × IsWaitAt station.now.config call.old t0 waiter.old }
 {
+    assert!(rt; waiter.left() >= 6);
+    let mut call = a_wait(rt.alloc(), station, waiter, 2, &[0, 1, 2])?;
     post(rt, station, poster, 0, 5);
-    assert!(rt; !is_over(rt, station, waiter, call));
+    assert!(rt; !is_over(rt, station, waiter, &mut call));
     assert_eq!(rt; call.keys(), [1, 2].as_slice());
     assert_eq!(rt; (call.slots().len(), waiter.log().len()), (0, 3));
     post(rt, station, poster, 2, 7);
-    assert!(rt; is_over(rt, station, waiter, call));
+    assert!(rt; is_over(rt, station, waiter, &mut call));
     let found = [WaitSlot::Complete(5), WaitSlot::Open, WaitSlot::Complete(7)];
     assert_eq!(rt; call.slots(), found.as_slice());
     assert_eq!(rt; call.keys().len(), 0);
+    Ok(())
+}
+
+// What the two have made of it.
+fn assert_waited<R: Abort>(rt: &R, waiter: &Task, poster: &Task) {
+    let posts = [
+        (Op::Ecb(EcbOp::Post(5)), Some(0)),
+        (Op::Ecb(EcbOp::Post(7)), Some(2)),
+    ];
+    assert_made(rt, poster, &posts);
+    let arm = (Op::Ecb(EcbOp::Arm), None);
+    let settle = (Op::Ecb(EcbOp::Settle), None);
+    assert_made(rt, waiter, &[arm, arm, arm, settle, settle, settle]);
 }
 
 #[test]
@@ -146,17 +159,8 @@ fn a_wait_for_two_of_three(rt: HostRuntime) -> Result<(), Fail> {
     let (station, mut tasks) = open(rt.alloc(), owners)?;
     let mut waiter = station.take_last(&mut tasks);
     let mut poster = station.take_last(&mut tasks);
-    assert!(rt; waiter.left() >= 6);
-    let mut call = a_wait(rt.alloc(), &station, &waiter, 2, &[0, 1, 2])?;
-    wait_for_two(&rt, &station, &mut waiter, &mut poster, &mut call);
-    let posts = [
-        (Op::Ecb(EcbOp::Post(5)), Some(0)),
-        (Op::Ecb(EcbOp::Post(7)), Some(2)),
-    ];
-    assert_made(&rt, &poster, &posts);
-    let arm = (Op::Ecb(EcbOp::Arm), None);
-    let settle = (Op::Ecb(EcbOp::Settle), None);
-    assert_made(&rt, &waiter, &[arm, arm, arm, settle, settle, settle]);
+    wait_for_two(&rt, &station, &mut waiter, &mut poster)?;
+    assert_waited(&rt, &waiter, &poster);
     Ok(())
 }
 
@@ -226,27 +230,33 @@ pub(crate) fn release_to<R: Abort + Wait>(
 }
 
 // A pause whose token is released behind its first poll.
-fn pause_for_nine<R: Abort + Wait>(
-    rt: &R,
-    station: &Station,
-    first: &mut Task,
-    second: &mut Task,
-    call: &mut PauseCall,
-)
+fn pause_for_nine<R: Abort + Wait>(rt: &R, station: &Station, first: &mut Task, second: &mut Task)
     requires first { IsOf station.now first.old }
     requires second { IsOf station.now second.old }
-    requires rest { IsAtRest second.old.log }
+    requires rest { IsAtRest first.old.log × IsAtRest second.old.log }
     requires elements { element_count station.now.config ≡ 8 }
-    requires stage { (t0 : CallerFace) × IsPauseAt station.now.config call.old t0 first.old }
 {
-    assert!(rt; given(rt, station, first, call).is_none());
+    let mut call = a_pause(rt, station, first);
+    assert!(rt; given(rt, station, first, &mut call).is_none());
     assert_eq!(rt; call.key(), ELEMENT);
     release_to(rt, station, second, token(7, 0), 9);
     let next = token(7, 1);
     assert_eq!(rt;
-        given(rt, station, first, call),
+        given(rt, station, first, &mut call),
         Some(Given { code: 9, next })
     );
+}
+
+// What the two have made of it.
+fn assert_paused<R: Abort>(rt: &R, first: &Task, second: &Task) {
+    let made = [
+        (Op::Element(ElementOp::Open), None),
+        (Op::Element(ElementOp::Pause(0)), None),
+        (Op::Element(ElementOp::Resume(0)), None),
+    ];
+    assert_made(rt, first, &made);
+    let woke = (Op::Element(ElementOp::Release(0, 9)), Some(ELEMENT));
+    assert_made(rt, second, &[woke]);
 }
 
 #[test]
@@ -254,16 +264,8 @@ fn a_pause_goes_on_once_it_is_released(rt: HostRuntime) -> Result<(), Fail> {
     let (station, mut tasks) = open(rt.alloc(), Vec::new(rt.alloc()))?;
     let mut first = station.take_last(&mut tasks);
     let mut second = station.take_last(&mut tasks);
-    let mut call = a_pause(&rt, &station, &mut first);
-    pause_for_nine(&rt, &station, &mut first, &mut second, &mut call);
-    let made = [
-        (Op::Element(ElementOp::Open), None),
-        (Op::Element(ElementOp::Pause(0)), None),
-        (Op::Element(ElementOp::Resume(0)), None),
-    ];
-    assert_made(&rt, &first, &made);
-    let woke = (Op::Element(ElementOp::Release(0, 9)), Some(ELEMENT));
-    assert_made(&rt, &second, &[woke]);
+    pause_for_nine(&rt, &station, &mut first, &mut second);
+    assert_paused(&rt, &first, &second);
     Ok(())
 }
 
@@ -341,13 +343,15 @@ fn an_obtain_goes_on_once_it_is_granted(rt: HostRuntime) -> Result<(), Fail> {
 // ---- futures
 
 // Polls the future of a wait for block 0, and rings another key, and then its own.
-fn ring_a_wait<R>(rt: &R, station: &Station, waiter: &mut Task, call: WaitCall) -> Result<(), Fail>
+fn ring_a_wait<R>(rt: &R, station: &Station, waiter: &mut Task) -> Result<(), Fail>
 where
     R: Abort + Wait + RandomSource + AllocGlobal,
     requires waiter { IsOf station.now waiter.old }
-    requires one { length call.ecbs ≡ 1 }
-    requires stage { (t0 : CallerFace) × IsWaitAt station.now.config call t0 waiter.old }
+    requires rest { IsAtRest waiter.old.log }
+    requires one { length station.now.config.owners ≡ 1 }
 {
+    assert!(rt; waiter.left() >= 2);
+    let call = a_wait(rt.alloc(), station, waiter, 1, &[0])?;
     let sources = [Source::new()];
     let mut future = WaitFuture::new(station, rt, waiter, call, &sources);
     let task = MockTask::new(rt)?;
@@ -365,9 +369,7 @@ fn a_future_of_a_wait_registers_and_does_not_yield(rt: HostRuntime) -> Result<()
     let owners = vec![in rt.alloc(); 7; 1]?;
     let (station, mut tasks) = open(rt.alloc(), owners)?;
     let mut waiter = station.take_last(&mut tasks);
-    assert!(rt; waiter.left() >= 2);
-    let call = a_wait(rt.alloc(), &station, &waiter, 1, &[0])?;
-    ring_a_wait(&rt, &station, &mut waiter, call)
+    ring_a_wait(&rt, &station, &mut waiter)
 }
 
 // Polls the future of a pause, and rings its key.
@@ -396,13 +398,15 @@ fn a_future_of_a_pause_registers_and_does_not_yield(rt: HostRuntime) -> Result<(
 }
 
 // The future of a wait for block 0 is over at its first poll: an executor that polled it again without a ring would sleep for ever.
-fn end_at_once<R>(rt: &R, station: &Station, waiter: &mut Task, call: WaitCall) -> Result<(), Fail>
+fn end_at_once<R>(rt: &R, station: &Station, waiter: &mut Task) -> Result<(), Fail>
 where
     R: Abort + Wait + RandomSource + AllocGlobal,
     requires waiter { IsOf station.now waiter.old }
-    requires one { length call.ecbs ≡ 1 }
-    requires stage { (t0 : CallerFace) × IsWaitAt station.now.config call t0 waiter.old }
+    requires rest { IsAtRest waiter.old.log }
+    requires one { length station.now.config.owners ≡ 1 }
 {
+    assert!(rt; waiter.left() >= 2);
+    let call = a_wait(rt.alloc(), station, waiter, 1, &[0])?;
     let sources = [Source::new()];
     let future = WaitFuture::new(station, rt, waiter, call, &sources);
     let answer = block_on(rt, future)?;
@@ -417,7 +421,5 @@ fn a_block_that_was_posted_ends_a_wait_at_once(rt: HostRuntime) -> Result<(), Fa
     let mut waiter = station.take_last(&mut tasks);
     let mut poster = station.take_last(&mut tasks);
     post(&rt, &station, &mut poster, 0, 5);
-    assert!(rt; waiter.left() >= 2);
-    let call = a_wait(rt.alloc(), &station, &waiter, 1, &[0])?;
-    end_at_once(&rt, &station, &mut waiter, call)
+    end_at_once(&rt, &station, &mut waiter)
 }

@@ -289,17 +289,40 @@ fn tasks_of<R: Abort>(
     Ok(tasks)
 }
 
-#[test]
-fn eight_tasks_go_round_by_what_is_rung(rt: HostRuntime) -> Result<(), Fail> {
-    let mut owners = Vec::new(rt.alloc());
+// A block for each task.
+fn eight_owners<R: Abort>(rt: &R, alloc: Global) -> Result<Vec<u32>, Fail>
+    ensures { IfOk result (λ owners. length owners.items ≡ 8) }
+{
+    let mut owners = Vec::new(alloc);
     for owner in 0..=LAST {
         owners.push(owner)?;
     }
     assert_eq!(rt; owners.len(), 8);
+    Ok(owners)
+}
+
+// Has new tasks go round until all are done.
+fn go_round<R: Abort + Wait>(
+    rt: &R,
+    alloc: Global,
+    station: &Station,
+    tasks: Vec<Task>,
+) -> Result<Vec<Task>, Fail>
+    requires tasks { AreFresh station.now 0 tasks.items }
+    requires blocks { length station.now.config.owners ≡ 8 }
+    requires elements { element_count station.now.config ≡ 8 }
+    ensures { IfOk result (λ ts. AreInOrder station.now 0 ts.items × (length ts.items ≡ 8)) }
+{
+    let runners = begin_all(rt, alloc, station, tasks)?;
+    let runners = run(rt, station, runners)?;
+    tasks_of(rt, alloc, station, runners)
+}
+
+#[test]
+fn eight_tasks_go_round_by_what_is_rung(rt: HostRuntime) -> Result<(), Fail> {
+    let owners = eight_owners(&rt, rt.alloc())?;
     let (station, tasks) = open(rt.alloc(), owners)?;
-    let runners = begin_all(&rt, rt.alloc(), &station, tasks)?;
-    let runners = run(&rt, &station, runners)?;
-    let tasks = tasks_of(&rt, rt.alloc(), &station, runners)?;
+    let tasks = go_round(&rt, rt.alloc(), &station, tasks)?;
     let closed = station.close(tasks);
     let listed = closed.history.listed(rt.alloc())?;
     // Of each task its allocation, an arm, a settle and what it hands on, and in each lap a pause, a resume and what it hands on; and the
