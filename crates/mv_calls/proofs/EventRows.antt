@@ -1,5 +1,5 @@
 -- Tables of events: histories in which each call is done on its entries with its answer, by computing them.
-use Rattle.std.proofs.Common.{◌≡◌, ℕ, false, List, [], ◌∷◌, Ok, Err, refl}
+use Rattle.std.proofs.Common.{◌≡◌, false, [], ◌∷◌, Ok, Err, refl}
 use Rattle.mv_ecb.specs.declared.operation.EcbOp.TheVariants as ecb_op
 use Rattle.mv_ecb.specs.declared.operation.EcbReply.TheVariants as ecb_reply
 use Rattle.mv_latch.specs.declared.operation.LatchOp.TheVariants as latch_op
@@ -8,7 +8,6 @@ use Rattle.mv_latch.specs.declared.request.LatchForm.TheVariants.{Conditional, W
 use Rattle.mv_latch.specs.declared.request.Mode.TheVariants.{Exclusive}
 use Rattle.mv_machine.specs.declared.entry.VolumeOp.TheVariants as volume_op
 use Rattle.mv_machine.specs.declared.entry.VolumeReply.TheVariants as volume_reply
-use Rattle.mv_calls.specs.declared.table.Table.{Table}
 use Rattle.mv_calls.specs.declared.table.TableRefusal.TheVariants as table_refused
 use Rattle.mv_calls.specs.Events.{EnteredAt, WasComplete}
 use Rattle.mv_calls.specs.Posts as posts
@@ -17,20 +16,7 @@ use Rattle.mv_calls.specs.Services.{Post, WriteVolume, PostEvent, NextEvent}
 use Rattle.mv_calls.specs.Table.{IsTableOf, table_refusal}
 use Rattle.std.specs.Prelude.{Some}
 use Rattle.mv_calls.proofs.Computed.{does, IsRow, row, one_task, two_tasks, at_block, at_volume, at_latches}
-
--- three events and a slot for each, of task 0
-abbrev three : Table
-three = record { owner = 0; latch = 0; volume = 0; events = 0; slots = 3; size = 3 }
-
-abbrev six_blocks : List ℕ
-six_blocks = 0 ∷ 0 ∷ 0 ∷ 0 ∷ 0 ∷ 0 ∷ []
-
--- the requestors of tasks 0 and 1
-abbrev mine : ℕ
-mine = 9223372036854775808
-
-abbrev theirs : ℕ
-theirs = 9223372036854775809
+use Rattle.mv_calls.proofs.Examples.{three, six_blocks, mine, theirs, events_handed_out}
 
 checked : IsTableOf (one_task six_blocks []) three
 checked = refl
@@ -40,31 +26,7 @@ meeting : table_refusal (one_task six_blocks []) (record three { slots = 2; latc
 meeting = refl
 
 -- Event 2 is posted, then event 0; event 2 is not counted again. The events come in the order of their completion.
-handed_out_in_order : IsRow (one_task six_blocks []) 0
-    (
-    at_latches 0 0 (latch_op.Obtain 0 mine Exclusive Waiting) (latch_reply.Granted 0)
-    ∷ at_block 0 2 0 (ecb_op.Post 7) ecb_reply.Posted
-    ∷ at_volume 0 0 0 volume_op.Read (volume_reply.Value 0)
-    ∷ at_volume 0 0 1 (volume_op.Write 1) volume_reply.Stored
-    ∷ at_block 0 3 0 (ecb_op.Post 2) ecb_reply.Posted
-    ∷ at_latches 0 1 (latch_op.Release 0 0 false) (latch_reply.Released 0)
-    ∷ at_latches 0 2 (latch_op.Obtain 0 mine Exclusive Waiting) (latch_reply.Granted 2)
-    ∷ at_block 0 0 0 (ecb_op.Post 9) ecb_reply.Posted
-    ∷ at_volume 0 0 2 volume_op.Read (volume_reply.Value 1)
-    ∷ at_volume 0 0 3 (volume_op.Write 2) volume_reply.Stored
-    ∷ at_block 0 4 0 (ecb_op.Post 0) ecb_reply.Posted
-    ∷ at_latches 0 3 (latch_op.Release 0 2 false) (latch_reply.Released 0)
-    ∷ at_latches 0 4 (latch_op.Obtain 0 mine Exclusive Waiting) (latch_reply.Granted 4)
-    ∷ at_block 0 2 1 (ecb_op.Post 1) (ecb_reply.Already 7)
-    ∷ at_latches 0 5 (latch_op.Release 0 4 false) (latch_reply.Released 0)
-    ∷ at_block 0 3 1 ecb_op.Arm (ecb_reply.Complete 2)
-    ∷ at_block 0 3 2 ecb_op.Settle (ecb_reply.Complete 2)
-    ∷ at_block 0 2 2 ecb_op.Test (ecb_reply.Word 1073741831)
-    ∷ at_block 0 4 1 ecb_op.Arm (ecb_reply.Complete 0)
-    ∷ at_block 0 4 2 ecb_op.Settle (ecb_reply.Complete 0)
-    ∷ at_block 0 0 1 ecb_op.Test (ecb_reply.Word 1073741833)
-    ∷ []
-    )
+handed_out_in_order : IsRow (one_task six_blocks []) 0 events_handed_out
     (
     does (PostEvent three 2 7) 6 (Ok (EnteredAt 0))
     ∷ does (PostEvent three 0 9) 6 (Ok (EnteredAt 1))
