@@ -156,16 +156,7 @@ impl Keep {
                     mode,
                     form,
                 },
-                LatchReply::Granted(id),
-            ) => self.stand(latch, id, requestor, mode, form),
-            (
-                LatchOp::Obtain {
-                    latch,
-                    requestor,
-                    mode,
-                    form,
-                },
-                LatchReply::Queued(id),
+                LatchReply::Granted(id) | LatchReply::Queued(id),
             ) => self.stand(latch, id, requestor, mode, form),
             (LatchOp::Confirm { latch, id }, LatchReply::Gone)
             | (
