@@ -53,6 +53,15 @@ first_of_list (x ∷ xs) = Some x
 abbrev pub first_fault : {Said : Type 0} → LineRules Said → Said → List (List ℕ) → Option TextFault
 first_fault rules said lines = first_of_list (faults_by_line rules 1 said lines)
 
+-- ---- the pass over the lines
+
+-- Of the lines of a text these are left, numbered from here on, behind lines that have no fault and have said this: what is left decides
+-- as the whole does.
+pub record HasPassed {Said : Type 0} (rules : LineRules Said) (start : Said) (lines : List (List ℕ)) (number : ℕ) (said : Said)
+    (left : List (List ℕ)) : Type 0 where
+  pub first : first_of_list (faults_by_line rules number said left) ≡ first_fault rules start lines
+  pub all : fold rules.with_line said left ≡ fold rules.with_line start lines
+
 -- ---- what is told
 
 -- the kind that is told of a line is the lowest of its kinds, which have these numbers
