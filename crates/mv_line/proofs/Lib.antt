@@ -2,6 +2,8 @@
 pub mod Places
 -- split_line
 pub mod Lines
+-- texts whose lines all end with LF, for journals
+pub mod Ended
 -- split_field
 pub mod Fields
 -- split_part

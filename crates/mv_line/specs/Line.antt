@@ -1,6 +1,6 @@
 -- How a text is cut into lines, and what of a line counts.
-use Rattle.std.specs.Prelude.{ℕ, ◌-◌, ◌==◌, Bool, false, nat_lt, List, [], ◌∷◌, length, take, drop, slice_index, if◌then◌else◌}
-use Rattle.std.specs.List.{onto_first, prefix_len, suffix_len}
+use Rattle.std.specs.Prelude.{ℕ, ◌-◌, ◌==◌, Bool, false, not, nat_lt, List, [], ◌∷◌, length, take, drop, slice_index, if◌then◌else◌}
+use Rattle.std.specs.List.{onto_first, prefix_len, suffix_len, after_last}
 use Rattle.mv_line.specs.Byte.{is_space, has_foreign_byte}
 
 -- Each line ends at LF or at the end of the text; LF is no part of it. What stands behind the last LF is a line
@@ -13,6 +13,22 @@ lines_of (b ∷ bs) = if b == 10 then [] ∷ lines_of bs else onto_first b (line
 abbrev pub behind_first_line : List ℕ → List ℕ
 behind_first_line [] = []
 behind_first_line (b ∷ bs) = if b == 10 then bs else behind_first_line bs
+
+-- ---- a text in which each line ends with LF
+
+-- the text up to its last LF, and this LF: nothing where there is none
+abbrev pub ended_part : List ℕ → List ℕ
+ended_part text = take (length text - suffix_len (λ b. not (b == 10)) text) text
+
+-- the lines of that part
+abbrev pub ended_lines : List ℕ → List (List ℕ)
+ended_lines text = lines_of (ended_part text)
+
+-- what stands behind it: a line that is cut off, or nothing
+abbrev pub cut_off : List ℕ → List ℕ
+cut_off text = after_last (λ b. b == 10) text
+
+-- ---- what of a line counts
 
 -- a line without the CR that stands right at its end, if one does
 abbrev pub without_cr : List ℕ → List ℕ

@@ -4,6 +4,7 @@ ghost use Rattle.std.specs.Prelude.{◌≡◌, ◌∷◌, ◌<◌, length};
 ghost use Rattle.mv_line.specs.Line.{lines_of, behind_first_line, without_cr as text_without_cr, without_first_spaces as from_first_field};
 ghost use Rattle.mv_line.specs.Line.{without_last_spaces as to_last_field, begins_with_space as begins_so};
 ghost use Rattle.mv_line.specs.Line.{shown as what_counts, is_foreign as has_foreign, is_too_long as exceeds_card};
+ghost use Rattle.mv_line.specs.Line.{ended_part, cut_off};
 
 use crate::byte::{end_at, has_foreign_byte};
 
@@ -22,6 +23,18 @@ pub fn split_line(text: &[u8]) -> (&[u8], &[u8])
         return text.split_at(end);
     }
     (&text[..end], &text[end + 1..])
+}
+
+/// A text up to its last LF, and what stands behind that, in time linear in the latter.
+pub fn split_cut_off(text: &[u8]) -> (&[u8], &[u8])
+    ensures ended { result.0.now ≡ ended_part text.now }
+    ensures cut { result.1.now ≡ cut_off text.now }
+{
+    let mut end = text.len();
+    while end > 0 && text[end - 1] != b'\n' {
+        end -= 1;
+    }
+    text.split_at(end)
 }
 
 /// A line without one CR at its end; a second CR stays, and is no printable byte.
