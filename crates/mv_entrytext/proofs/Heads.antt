@@ -1,19 +1,18 @@
 -- What the reader of the head takes.
-use Rattle.std.proofs.Common.{◌≡◌, ℕ, true, false, List, Some, None, refl}
+use Rattle.std.proofs.Common.{◌≡◌, false, Some, None, refl}
 use Rattle.mv_machine.specs.Check.{IsValid}
 use Rattle.mv_entrytext.specs.declared.line.Line.{Line}
 use Rattle.mv_entrytext.specs.declared.line.Line.TheVariants.{Version, Callers, Elements, Volumes, Latches, Quota, Budget, Owner, Exit}
 use Rattle.mv_entrytext.specs.declared.line.Line.TheVariants.{Events}
 use Rattle.mv_entrytext.specs.declared.line.Stage.{Stage}
 use Rattle.mv_entrytext.specs.declared.line.Stage.TheVariants as stage
-use Rattle.mv_entrytext.specs.declared.head.HeadDraft.{HeadDraft}
 use Rattle.mv_entrytext.specs.Journal as journal
-use Rattle.mv_entrytext.specs.Fault.{kind_said, is_cut, is_ended}
+use Rattle.mv_entrytext.specs.Fault.{kind_said, is_ended}
 use Rattle.mv_entrytext.specs.Lines.{Draft}
 use Rattle.mv_entrytext.specs.Said.{said, stage_of}
-use Rattle.mv_entrytext.specs.Draft.{head_seen}
 
-not_ended : (s : Stage) → is_ended (stage_of s) ≡ false
+-- within the head a text is cut off wherever it ends
+pub not_ended : (s : Stage) → is_ended (stage_of s) ≡ false
 not_ended stage.Version = refl
 not_ended stage.Callers = refl
 not_ended stage.Elements = refl
@@ -23,10 +22,6 @@ not_ended stage.Quota = refl
 not_ended stage.Budgets = refl
 not_ended stage.Owners = refl
 not_ended stage.Exits = refl
-
--- within the head a text is cut off wherever it ends
-pub head_is_cut : (d : HeadDraft) (text : List ℕ) → is_cut (head_seen d) text ≡ true
-head_is_cut d text = rw (not_ended d.stage) refl
 
 pub said_other : (l : Line) → (l ≡ Events → ⊥) → said l ≡ journal.Events → ⊥
 said_other (Version v) h e = cc

@@ -3,13 +3,13 @@ use Rattle.std.proofs.Common.{◌≡◌, ℕ, suc, ◌≤◌, true, List, ◌∷
 use Rattle.std.proofs.lemmas.List.{length-append}
 use Rattle.mv_machine.specs.declared.entry.Entry.{Entry}
 use Rattle.mv_machine.specs.Setup.{Setup}
-use Rattle.mv_line.specs.Part.{parts_at}
+use Rattle.mv_line.specs.Line.{lines_of}
+use Rattle.mv_line.proofs.Ended.{line_first}
 use Rattle.mv_entrytext.specs.declared.version.Version.{Version}
 use Rattle.mv_entrytext.specs.EntryText.{entry_text, entry_read}
 use Rattle.mv_entrytext.specs.Journal.{EntryOf}
 use Rattle.mv_entrytext.specs.Lines.{AtEntries, line_read}
 use Rattle.mv_entrytext.specs.Draft.{draft_at, IsAt}
-use Rattle.mv_entrytext.proofs.Parts.{parts_first}
 use Rattle.mv_entrytext.proofs.OneLine.{is_one_line}
 use Rattle.mv_entrytext.proofs.LinesAgain.{entry_line_read}
 use Rattle.mv_entrytext.proofs.KindsTaken.{takes_entry}
@@ -35,6 +35,6 @@ module _ (v : Version) (text behind : List ℕ) (call : Option ℕ) (e : Entry)
       → IsAtLine bytes text number (draft_at (AtEntries v) v c es ns) (entry_text call e) behind
   stands_before bytes number c es ns at = record {
     at = at;
-    shape = ap (parts_at 10) spelled ∙ parts_first 10 (entry_text call e) behind (is_one_line (EntryOf call e));
+    shape = ap lines_of spelled ∙ line_first (entry_text call e) behind (is_one_line (EntryOf call e));
     shorter = shorter_behind;
   }

@@ -12,7 +12,11 @@ use Rattle.std.proofs.lemmas.List.Concat.{flat_map-cons}
 use Rattle.mv_machine.specs.declared.entry.Entry.{Entry}
 use Rattle.mv_machine.specs.Setup.{Setup, SetupExit}
 use Rattle.mv_machine.specs.Check.{IsValid}
+use Rattle.mv_line.specs.Fault.{HasPassed}
+use Rattle.mv_line.specs.Line.{lines_of, ended_part, ended_lines, cut_off}
 use Rattle.mv_line.specs.Part.{parts_at}
+use Rattle.mv_line.proofs.Ended.{line_first, ended_whole, none_cut_off}
+use Rattle.mv_line.proofs.Passes.{at_first, at_next, whole_at_end}
 use Rattle.mv_entrytext.specs.declared.version.Version.{Version}
 use Rattle.mv_entrytext.specs.declared.version.Version.TheVariants.{One, Two}
 use Rattle.mv_entrytext.specs.Ranges.{highest_u32}
@@ -25,9 +29,9 @@ use Rattle.mv_entrytext.specs.Lines.{Stage, AtVersion, AtCallers, AtElements, At
 use Rattle.mv_entrytext.specs.Lines.{AtEntries, AtEnd, numbers, exit_from, exit_read, count_line, next_line, line_read, with_call, Draft}
 use Rattle.mv_entrytext.specs.Lines.{blank, draft_with}
 use Rattle.mv_entrytext.specs.Draft.{draft_at}
-use Rattle.mv_entrytext.specs.Fault.{kind_said, first_fault, draft_of, HasJournal, AreCallsIn, text_fault, journal_of}
+use Rattle.mv_entrytext.specs.Fault.{kind_said, kind_of, listed, draft_after, line_rules, HasJournal, AreCallsIn, text_fault, journal_of}
 use Rattle.mv_entrytext.proofs.Numbers.{numeral_of, u32_again, parted_again}
-use Rattle.mv_entrytext.proofs.Parts.{Lacks-decimal, parts_first, parts_last, first_part}
+use Rattle.mv_entrytext.proofs.Parts.{Lacks-decimal, parts_first, parts_last}
 use Rattle.mv_entrytext.proofs.OneLine.{is_one_line}
 use Rattle.mv_entrytext.proofs.ConfigNumbers.{AreU32, IsExit, HasNumbers, has_numbers}
 use Rattle.mv_entrytext.proofs.CallNumbers.{IsCallIn, AreEach, each_from_calls}
@@ -169,50 +173,45 @@ entry_line_read v call e h m =
 
 -- ---- a line is passed
 
--- a text is passed up to its rest: the faults and the values are those of the rest
+-- a line that is read and says no fault has none, and its draft is that of what it says
+pub nothing_listed : (d : Draft) (l : Line) (text : List ℕ) → line_read true d.stage text ≡ Some l → kind_said d (Some l) ≡ None
+    → listed (kind_of d text) ≡ []
+nothing_listed d l text read said = rw (read, said) refl
+
+-- so it is passed
+pub said_passed : (cut : List ℕ) (lines : List (List ℕ)) (number : ℕ) (d : Draft) (l : Line) (text : List ℕ) (left behind : List (List ℕ))
+    → HasPassed (line_rules cut) blank lines number d left → left ≡ text ∷ behind → line_read true d.stage text ≡ Some l
+    → kind_said d (Some l) ≡ None → HasPassed (line_rules cut) blank lines (number + 1) (draft_with l d) behind
+said_passed cut lines number d l text left behind p shape read said =
+    subst (λ (o : Option Line). HasPassed (line_rules cut) blank lines (number + 1) (draft_after d o) behind) read
+    (at_next (line_rules cut) blank lines number d left p text behind shape (nothing_listed d l text read said))
+
+-- a text is passed up to its rest
 pub record Goes (d : Draft) (text : List ℕ) (next : Draft) (rest : List ℕ) : Type 0 where
-  pub fault : (number : ℕ) → (later : ℕ) × (first_fault number d (parts_at 10 text) ≡ first_fault later next (parts_at 10 rest))
-  pub draft : draft_of d (parts_at 10 text) ≡ draft_of next (parts_at 10 rest)
+  pub pass : (cut : List ℕ) (lines : List (List ℕ)) (number : ℕ) → HasPassed (line_rules cut) blank lines number d (lines_of text)
+      → (later : ℕ) × HasPassed (line_rules cut) blank lines later next (lines_of rest)
 
 goes_on : (a b c : Draft) (x y z : List ℕ) → Goes a x b y → Goes b y c z → Goes a x c z
 goes_on a b c x y z p q = record {
-  fault = λ number. let one = p.fault number in let two = q.fault one.0 in (two.0, one.1 ∙ two.1);
-  draft = p.draft ∙ q.draft;
+  pass = λ cut lines number h. let one = p.pass cut lines number h in q.pass cut lines one.0 one.1;
 }
 
 stays : (d : Draft) (x : List ℕ) → Goes d x d x
-stays d x = record { fault = λ number. (number, refl); draft = refl }
+stays d x = record { pass = λ cut lines number h. (number, h) }
 
-pub fault_passed : (number : ℕ) (d : Draft) (l : Line) (text more : List ℕ) (lines : List (List ℕ)) → line_read true d.stage text ≡ Some l
-    → kind_said d (Some l) ≡ None
-    → first_fault number d (text ∷ more ∷ lines) ≡ first_fault (number + 1) (draft_with l d) (more ∷ lines)
-unfolding first_fault
-fault_passed number d l text more lines read said = rw (read, said) refl
-
-pub draft_passed : (d : Draft) (l : Line) (text more : List ℕ) (lines : List (List ℕ)) → line_read true d.stage text ≡ Some l
-    → draft_of d (text ∷ more ∷ lines) ≡ draft_of (draft_with l d) (more ∷ lines)
-unfolding draft_of
-draft_passed d l text more lines read = rw read refl
-
-line_part : (l : Line) (rest : List ℕ) → parts_at 10 (line l ++ rest) ≡ line_text l ∷ parts_at 10 rest
+line_part : (l : Line) (rest : List ℕ) → lines_of (line l ++ rest) ≡ line_text l ∷ lines_of rest
 unfolding line
-line_part l rest = ap (parts_at 10) (append_assoc (line_text l) (10 ∷ []) rest) ∙ parts_first 10 (line_text l) rest (is_one_line l)
+line_part l rest = ap lines_of (append_assoc (line_text l) (10 ∷ []) rest) ∙ line_first (line_text l) rest (is_one_line l)
 
 one_line : (d : Draft) (l : Line) (rest : List ℕ) → line_read true d.stage (line_text l) ≡ Some l → kind_said d (Some l) ≡ None
     → Goes d (line l ++ rest) (draft_with l d) rest
-one_line d l rest read said =
-    let p = first_part 10 rest in
-    let shape : parts_at 10 (line l ++ rest) ≡ line_text l ∷ p.0 ∷ p.1 =
-    line_part l rest ∙ ap (λ (x : List (List ℕ)). line_text l ∷ x) p.2 in
-    record {
-      fault =
-          λ number. (
-            number + 1,
-            ap (first_fault number d) shape ∙ fault_passed number d l (line_text l) p.0 p.1 read said
-                ∙ ap (first_fault (number + 1) (draft_with l d)) (sym p.2),
-          );
-      draft = ap (draft_of d) shape ∙ draft_passed d l (line_text l) p.0 p.1 read ∙ ap (draft_of (draft_with l d)) (sym p.2);
-    }
+one_line d l rest read said = record {
+  pass =
+      λ cut lines number h. (
+        number + 1,
+        said_passed cut lines number d l (line_text l) (lines_of (line l ++ rest)) (lines_of rest) h (line_part l rest) read said,
+      );
+}
 
 -- ---- the lists of the head, and the entries
 
@@ -392,26 +391,35 @@ journal_passes v c es ns h m =
     text_is blank over (text_of v c es ns) _ [] (regrouped v c es ns)
     (goes_on blank (in_head AtBudgets v (counts c)) over _ budgets [] p1 a2)
 
--- behind the last line nothing is left: no fault
-pub nothing_left : (number : ℕ) (v : Version) (c : Setup) (es : List Entry) (ns : List ℕ)
-    → first_fault number (draft_at AtEnd v c es ns) (parts_at 10 []) ≡ None
-unfolding first_fault parts_at
-nothing_left number v c es ns = refl
-
--- and nothing more is said
-pub nothing_more : (v : Version) (c : Setup) (es : List Entry) (ns : List ℕ)
-    → draft_of (draft_at AtEnd v c es ns) (parts_at 10 []) ≡ draft_at AtEnd v c es ns
-unfolding draft_of parts_at
-nothing_more v c es ns = refl
+-- its last line ends with LF, and nothing is cut off
+ends : (v : Version) (c : Setup) (es : List Entry) (ns : List ℕ) → (front : List ℕ) × (text_of v c es ns ≡ front ++ 10 ∷ [])
+unfolding text_of line
+ends v c es ns =
+    let last = line_text (End (length es)) in
+    (head_text v c ++ flat_map line (entry_lines es ns) ++ last, sym (append_assoc _ last (10 ∷ [])))
 
 -- a journal that is written has no fault, and is read again
+pub no_fault_again : (v : Version) (c : Setup) (es : List Entry) (ns : List ℕ) → HasJournal c es → AreCallsIn v es ns
+    → (text_fault (text_of v c es ns) ≡ None) × (draft_at AtEnd v c es ns ≡ journal_of (text_of v c es ns))
+unfolding text_fault journal_of
+no_fault_again v c es ns h m =
+    let text = text_of v c es ns in
+    let e = ends v c es ns in
+    let whole : ended_part text ≡ text = ap ended_part e.1 ∙ ended_whole e.0 ∙ sym e.1 in
+    let none : cut_off text ≡ [] = ap cut_off e.1 ∙ none_cut_off e.0 in
+    let rules = line_rules (cut_off text) in
+    let first : HasPassed rules blank (ended_lines text) 1 blank (lines_of text) =
+    subst (λ (x : List ℕ). HasPassed rules blank (ended_lines text) 1 blank (lines_of x)) whole (at_first rules blank (ended_lines text)) in
+    let last = (journal_passes v c es ns h m).pass (cut_off text) (ended_lines text) 1 first in
+    whole_at_end rules blank (ended_lines text) last.0 (draft_at AtEnd v c es ns) [] last.1 refl (rw none refl)
+
 pub no_fault : (v : Version) (c : Setup) (es : List Entry) (ns : List ℕ) → HasJournal c es → AreCallsIn v es ns
     → text_fault (text_of v c es ns) ≡ None
-no_fault v c es ns h m = let f = (journal_passes v c es ns h m).fault 1 in f.1 ∙ nothing_left f.0 v c es ns
+no_fault v c es ns h m = (no_fault_again v c es ns h m).0
 
 pub read_again : (v : Version) (c : Setup) (es : List Entry) (ns : List ℕ) → HasJournal c es → AreCallsIn v es ns
     → journal_of (text_of v c es ns) ≡ draft_at AtEnd v c es ns
-read_again v c es ns h m = (journal_passes v c es ns h m).draft ∙ nothing_more v c es ns
+read_again v c es ns h m = sym (no_fault_again v c es ns h m).1
 
 -- a text determines its version, configuration, entries and call numbers
 pub one_journal : (v w : Version) (c d : Setup) (es fs : List Entry) (ns ms : List ℕ) → HasJournal c es → AreCallsIn v es ns

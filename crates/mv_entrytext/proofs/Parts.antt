@@ -2,7 +2,7 @@
 use Rattle.std.proofs.Common.{◌≡◌, ℕ, zero, suc, ◌+◌, ◌/◌, ◌%◌, ◌<◌, Bool, true, false}
 use Rattle.std.proofs.Common.{cond, eqb, not, List, [], ◌∷◌, ◌++◌, decimal, refl, ◌∙◌, arith}
 use Rattle.std.specs.Fmt.{digits, digits_onto, digit_glyph}
-use Rattle.std.specs.List.{list_all, onto_first, join_with_byte}
+use Rattle.std.specs.List.{list_all, join_with_byte}
 use Rattle.std.proofs.lemmas.Bool.{eq-eqb, ne_eqb, and_parts, lt-ltb, not-true}
 use Rattle.std.proofs.lemmas.List.Folds.{list_all-append}
 use Rattle.std.proofs.lemmas.List.Splits.{join_with_byte-slice_split}
@@ -34,21 +34,6 @@ pub parts_last : (byte : ℕ) (part : List ℕ) → Lacks byte part → parts_at
 unfolding parts_at
 parts_last byte [] h = refl
 parts_last byte (b ∷ part) h = let o = other_first byte b part h in rw (o.0, parts_last byte part o.1) refl
-
-onto_some : (b : ℕ) (ps : List (List ℕ)) → (p : List ℕ) × (qs : List (List ℕ)) × (onto_first b ps ≡ p ∷ qs)
-onto_some b [] = (b ∷ [], [], refl)
-onto_some b (p ∷ ps) = (b ∷ p, ps, refl)
-
--- there is a first part
-pub first_part : (byte : ℕ) (text : List ℕ) → (p : List ℕ) × (qs : List (List ℕ)) × (parts_at byte text ≡ p ∷ qs)
-unfolding parts_at
-first_part byte [] = ([], [], refl)
-first_part byte (b ∷ text) =
-    elim (eqb b byte) as (λ t. (p : List ℕ) × (qs : List (List ℕ)) ×
-    (cond t ([] ∷ parts_at byte text) (onto_first b (parts_at byte text)) ≡ p ∷ qs)) [
-      | true ↦ ([], parts_at byte text, refl)
-      | false ↦ onto_some b (parts_at byte text)
-    ]
 
 -- ---- numbers lack each byte below their digits
 

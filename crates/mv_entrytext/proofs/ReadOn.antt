@@ -14,7 +14,7 @@ use Rattle.mv_entrytext.specs.Reader.{IsReadTo, IsReadNext}
 use Rattle.mv_entrytext.specs.Said.{entry_said}
 use Rattle.mv_entrytext.proofs.CallNumbers.{number_more, each_from_calls, calls_from_each}
 use Rattle.mv_entrytext.proofs.LinesTaken.{line_taken}
-use Rattle.mv_entrytext.proofs.Passes.{IsAtLine, at_next}
+use Rattle.mv_entrytext.proofs.Passes.{IsAtLine, next_at}
 
 -- a line that was read in the version of the reader was read in that of the text
 pub read_in : (v : Version) (bytes : List ℕ) (c : Setup) (es : List Entry) (ns text : List ℕ) (r : EntryReader) (l m : EntryLine)
@@ -33,7 +33,8 @@ entry_next {v = v} {es = es} {ns = ns} {text = text} {call = call} {e = e} behin
     record {
       read = record {
         version = h.version;
-        stands = at_next (EntryOf call e) here read refl;
+        cut = h.cut;
+        stands = next_at (EntryOf call e) here read refl;
         count = omega (arith, h.count, length-append es (e ∷ []));
         calls = calls_from_each v (es ++ e ∷ []) (with_call call ns) (number_more v es ns call e (each_from_calls v es ns h.calls) may.1);
         short = h.short;

@@ -1,20 +1,22 @@
 -- A text without fault is the text of the journal that it is read as.
 use Rattle.std.proofs.Common.{◌≡◌, ℕ, ◌+◌, ◌≤◌, Bool, true, false, cond, eqb, not, ◌||◌, List, [], ◌∷◌, ◌++◌, length, Option, Some}
 use Rattle.std.proofs.Common.{None, refl, sym, ap, subst, ◌∙◌, arith, append_assoc}
-use Rattle.std.specs.Prelude.{codes, is_some}
-use Rattle.std.specs.List.{flat_map, AllByRecursion, join_with_byte}
-use Rattle.std.proofs.lemmas.Bool.{eqb-true, false≢true, and_parts, not-false}
+use Rattle.std.specs.Prelude.{codes, fold, is_some}
+use Rattle.std.specs.List.{flat_map, AllByRecursion}
+use Rattle.std.proofs.lemmas.Bool.{eqb-true, false≢true, and_parts}
 use Rattle.std.proofs.lemmas.List.{append-nil, nil_from_length, flat_map_more}
 use Rattle.std.proofs.lemmas.List.Elements.{All-from_recursion}
 use Rattle.mv_machine.specs.declared.entry.Entry.{Entry}
 use Rattle.mv_machine.specs.declared.config.CheckRefusal.{CheckRefusal}
 use Rattle.mv_machine.specs.Check.{IsValid, refusal_of, or_else}
 use Rattle.mv_machine.specs.Setup.{Setup, SetupExit}
-use Rattle.mv_line.specs.Part.{parts_at}
+use Rattle.mv_line.specs.Fault.{faults_by_line, first_of_list}
+use Rattle.mv_line.specs.Line.{ended_part, ended_lines, cut_off}
+use Rattle.mv_line.proofs.Faults.{line_passed, no_kinds, no_fault_at_end}
+use Rattle.mv_line.proofs.Ended.{ended_text, ended_again, cut_again}
 use Rattle.mv_machine.proofs.Lists.{all_push}
 use Rattle.mv_entrytext.specs.declared.fault.Kind.{Kind}
-use Rattle.mv_entrytext.specs.declared.fault.Kind.TheVariants.{NoForm, BadNumber, BadConfig, WrongCount, Cut}
-use Rattle.mv_line.specs.declared.fault.TextFault.{TextFault}
+use Rattle.mv_entrytext.specs.declared.fault.Kind.TheVariants.{NoForm, BadNumber, BadConfig, WrongCount}
 use Rattle.mv_entrytext.specs.declared.version.Version.{Version}
 use Rattle.mv_entrytext.specs.Ranges.{highest_u32}
 use Rattle.mv_entrytext.specs.EntryText.{HasText}
@@ -22,11 +24,9 @@ use Rattle.mv_entrytext.specs.Journal.{Line, JournalOf, Callers, Elements, Volum
 use Rattle.mv_entrytext.specs.Journal.{EntryOf, End, line_text, line, entry_lines, counts_text, lists_text, head_text, text_of}
 use Rattle.mv_entrytext.specs.Lines.{Stage, AtVersion, AtCallers, AtElements, AtVolumes, AtLatches, AtQuota, AtBudgets, AtOwners}
 use Rattle.mv_entrytext.specs.Lines.{AtExits, AtEntries, AtEnd, line_read, Draft, blank, with_call, draft_with}
-use Rattle.mv_line.specs.Fault.{fault_at}
-use Rattle.mv_entrytext.specs.Fault.{kind_number, kind_said, kind_of, is_read, is_cut, is_ended, fault_or, draft_after, first_fault}
-use Rattle.mv_entrytext.specs.Fault.{text_fault, draft_of, journal_of, HasJournal, AreCallsIn}
+use Rattle.mv_entrytext.specs.Fault.{kind_said, kind_of, is_read, is_ended, listed, draft_after, with_line, line_rules}
+use Rattle.mv_entrytext.specs.Fault.{text_fault, journal_of, HasJournal, AreCallsIn}
 use Rattle.mv_entrytext.proofs.CallNumbers.{IsCallIn, AreEach, calls_from_each, no_numbers, number_more, lines_more}
-use Rattle.mv_entrytext.proofs.Parts.{first_part, joined_again}
 use Rattle.mv_entrytext.proofs.LinesTaken.{MayCome, line_taken}
 
 -- ---- the text of the lines so far
@@ -250,70 +250,53 @@ is_said d text e =
       go None r s f = absurd (false≢true s)
       go (Some l) r s f = record { said = l; read = r; fine = f }
 
-first_none : (number : ℕ) (kind : Option Kind) (behind : Option TextFault) → fault_or number kind behind ≡ None
-    → (kind ≡ None) × (behind ≡ None)
-first_none number None behind e = (refl, e)
-first_none number (Some k) behind e = absurd cc
-
--- the last piece is nothing behind END
-pub record IsOver (d : Draft) (last : List ℕ) : Type 0 where
-  pub stage : d.stage ≡ AtEnd
-  pub nothing : last ≡ []
-
 end_only : (s : Stage) → is_ended s ≡ true → s ≡ AtEnd
 end_only AtEnd e = refl
 end_only s e = absurd (false≢true e)
 
-not_cut : (b : Bool) (f : TextFault) → cond b (Some f) None ≡ None → b ≡ false
-not_cut true f e = absurd cc
-not_cut false f e = refl
-
-is_over : (number : ℕ) (d : Draft) (last : List ℕ) → cond (is_cut d last) (Some (fault_at number (kind_number Cut))) None ≡ None
-    → IsOver d last
-is_over number d last e =
-    let whole = not_cut (is_cut d last) (fault_at number (kind_number Cut)) e in
-    let both = and_parts (is_ended d.stage) (eqb (length last) 0) (not-false _ whole) in
-    record { stage = end_only d.stage both.0; nothing = nil_from_length last (eqb-true (length last) 0 both.1) }
+nothing_listed : (kind : Option Kind) → listed kind ≡ [] → kind ≡ None
+nothing_listed None e = refl
+nothing_listed (Some k) e = absurd cc
 
 abbrev SoFarD : Draft → List ℕ → Type 0
 SoFarD d front = SoFar d.stage d.version d.setup d.entries d.calls front
 
-pub record IsRead (d : Draft) (text : List ℕ) : Type 0 where
+-- where lines have no fault, what they have said is all, nothing is cut off, and they are its text
+pub record AreRead (cut : List ℕ) (d : Draft) (text : List ℕ) : Type 0 where
   pub stage : d.stage ≡ AtEnd
+  pub none : cut ≡ []
   pub so_far : SoFarD d text
-
-front_more : (front p rest : List ℕ) → front ++ (p ++ 10 ∷ rest) ≡ (front ++ (p ++ codes "\n")) ++ rest
-front_more front p rest = simp append_assoc
 
 line_is : (l : Line) → line_text l ++ codes "\n" ≡ line l
 unfolding line
 line_is l = refl
 
-lines_read : (text : List ℕ) (more : List (List ℕ)) (number : ℕ) (d : Draft) (front : List ℕ) → first_fault number d (text ∷ more) ≡ None
-    → SoFarD d front → IsRead (draft_of d (text ∷ more)) (front ++ join_with_byte 10 (text ∷ more))
-unfolding first_fault draft_of
-lines_read last [] number d front e h =
-    let o = is_over number d last e in
+lines_read : (cut : List ℕ) (lines : List (List ℕ)) (number : ℕ) (d : Draft) (front : List ℕ)
+    → first_of_list (faults_by_line (line_rules cut) number d lines) ≡ None → SoFarD d front
+    → AreRead cut (fold with_line d lines) (front ++ ended_text lines)
+lines_read cut [] number d front e h =
+    let both = and_parts (is_ended d.stage) (eqb (length cut) 0) (no_fault_at_end (line_rules cut) number d e) in
     record {
-      stage = o.stage;
-      so_far = subst (λ (x : List ℕ). SoFarD d (front ++ x)) (sym o.nothing)
-          (subst (λ (x : List ℕ). SoFarD d x) (sym (append-nil front)) h);
+      stage = end_only d.stage both.0;
+      none = nil_from_length cut (eqb-true (length cut) 0 both.1);
+      so_far = subst (λ (x : List ℕ). SoFarD d x) (sym (append-nil front)) h;
     }
-lines_read text (next ∷ more) number d front e h =
-    let f = first_none number (kind_of d text) (first_fault (number + 1) (draft_after d (line_read true d.stage text)) (next ∷ more)) e in
-    let s = is_said d text f.0 in
+lines_read cut (text ∷ lines) number d front e h =
+    let rules = line_rules cut in
+    let none = no_kinds rules number d text lines e in
+    let s = is_said d text (nothing_listed (kind_of d text) none) in
     let t = line_taken d.stage text s.said s.read in
     let one = one_line d.stage d.version d.setup d.entries d.calls front s.said h t.1 s.fine in
-    let rest : first_fault (number + 1) (draft_with s.said d) (next ∷ more) ≡ None =
-    sym (ap (λ (o : Option Line). first_fault (number + 1) (draft_after d o) (next ∷ more)) s.read) ∙ f.1 in
-    let ih = lines_read next more (number + 1) (draft_with s.said d) (front ++ line s.said) rest one in
-    let text_is : front ++ join_with_byte 10 (text ∷ next ∷ more) ≡ (front ++ line s.said) ++ join_with_byte 10 (next ∷ more) =
-    front_more front text (join_with_byte 10 (next ∷ more))
-    ∙ ap (λ (x : List ℕ). (front ++ (x ++ codes "\n")) ++ join_with_byte 10 (next ∷ more)) t.0
-    ∙ ap (λ (x : List ℕ). (front ++ x) ++ join_with_byte 10 (next ∷ more)) (line_is s.said) in
-    subst (λ (o : Option Line). IsRead (draft_of (draft_after d o) (next ∷ more)) (front ++ join_with_byte 10 (text ∷ next ∷ more)))
-    (sym s.read)
-    (subst (λ (x : List ℕ). IsRead (draft_of (draft_with s.said d) (next ∷ more)) x) (sym text_is) ih)
+    let next : with_line d text ≡ draft_with s.said d = ap (draft_after d) s.read in
+    let rest : first_of_list (faults_by_line rules (number + 1) (draft_with s.said d) lines) ≡ None =
+    ap (λ (x : Draft). first_of_list (faults_by_line rules (number + 1) x lines)) (sym next)
+    ∙ ap first_of_list (sym (line_passed rules number d text lines none)) ∙ e in
+    let ih = lines_read cut lines (number + 1) (draft_with s.said d) (front ++ line s.said) rest one in
+    let text_is : front ++ ended_text (text ∷ lines) ≡ (front ++ line s.said) ++ ended_text lines =
+    ap (λ (x : List ℕ). front ++ (x ++ 10 ∷ [] ++ ended_text lines)) t.0
+    ∙ ap (λ (x : List ℕ). front ++ (x ++ ended_text lines)) (line_is s.said) ∙ sym (append_assoc front (line s.said) (ended_text lines)) in
+    subst (λ (x : Draft). AreRead cut (fold with_line x lines) (front ++ ended_text (text ∷ lines))) (sym next)
+    (subst (λ (x : List ℕ). AreRead cut (fold with_line (draft_with s.said d) lines) x) (sym text_is) ih)
 
 all_lines : (v : Version) (c : Setup) (es : List Entry) (ns : List ℕ)
     → up_to_entries v c es ns ++ line (End (length es)) ≡ text_of v c es ns
@@ -328,16 +311,18 @@ pub record IsTextOf (bytes : List ℕ) (d : Draft) : Type 0 where
 
 -- a text without fault is the text of what it is read as
 pub is_read_whole : (bytes : List ℕ) → text_fault bytes ≡ None → IsTextOf bytes (journal_of bytes)
+unfolding text_fault journal_of
 is_read_whole bytes e =
-    let f = first_part 10 bytes in
-    let ih = lines_read f.0 f.1 1 blank [] (sym (ap (first_fault 1 blank) f.2) ∙ e)
+    let all = lines_read (cut_off bytes) (ended_lines bytes) 1 blank [] e
     (refl, record { budgets = refl; owners = refl; exits = refl; none = record { entries = refl; calls = refl } }) in
-    let all = subst (λ (x : List (List ℕ)). IsRead (draft_of blank x) (join_with_byte 10 x)) (sym f.2) ih in
     let d = journal_of bytes in
     let last =
-    subst (λ (s : Stage). SoFar s d.version d.setup d.entries d.calls (join_with_byte 10 (parts_at 10 bytes))) all.stage all.so_far in
+    subst (λ (s : Stage). SoFar s d.version d.setup d.entries d.calls (ended_text (ended_lines bytes))) all.stage all.so_far in
+    let is : bytes ≡ ended_text (ended_lines bytes) =
+    sym (cut_again bytes) ∙ ap (λ (x : List ℕ). ended_part bytes ++ x) all.none ∙ append-nil (ended_part bytes)
+    ∙ sym (ended_again bytes) in
     record {
-      text = sym (joined_again 10 bytes) ∙ last.text ∙ all_lines d.version d.setup d.entries d.calls;
+      text = is ∙ last.text ∙ all_lines d.version d.setup d.entries d.calls;
       journal = last.journal;
       calls = last.calls;
     }

@@ -1,26 +1,20 @@
 -- Where the reader of journals is, and what it tells.
-use Rattle.std.specs.Prelude.{◌∷◌, ◌==◌, ◌≡◌, ℕ, ◌+◌, ◌≤◌, List, [], length, Option, Some, None, is_some}
+use Rattle.std.specs.Prelude.{◌≡◌, ℕ, ◌+◌, ◌≤◌, List, [], length, Option, Some, None, is_some}
 use Rattle.std.specs.Prelude.{if◌then◌else◌}
 use Rattle.mv_machine.specs.Check.{refusal_of}
 use Rattle.mv_machine.specs.Config.{setup_of}
 use Rattle.mv_machine.specs.Setup.{Setup}
 use Rattle.mv_machine.specs.declared.entry.Entry.{Entry}
-use Rattle.mv_line.specs.declared.fault.LineRefusal.{LineRefusal}
-use Rattle.mv_line.specs.declared.fault.LineRefusal.TheVariants.{Has, NoMemory}
-use Rattle.mv_line.specs.Part.{parts_at}
+use Rattle.mv_line.specs.Fault.{HasPassed}
+use Rattle.mv_line.specs.Line.{lines_of, ended_lines, cut_off}
 use Rattle.mv_entrytext.specs.declared.fault.Kind.{Kind}
-use Rattle.mv_entrytext.specs.declared.fault.Kind.TheVariants.{NoForm, BadConfig, Cut}
+use Rattle.mv_entrytext.specs.declared.fault.Kind.TheVariants.{BadConfig}
 use Rattle.mv_entrytext.specs.declared.head.HeadDraft.{HeadDraft}
 use Rattle.mv_entrytext.specs.declared.version.Version.{Version}
 use Rattle.mv_entrytext.specs.Lines.{Stage, AtVersion, AtCallers, AtElements, AtVolumes, AtLatches, AtQuota, AtBudgets, AtOwners}
-use Rattle.mv_entrytext.specs.Lines.{AtExits, AtEntries, AtEnd, Draft}
-use Rattle.mv_entrytext.specs.Fault.{first_fault, text_fault, draft_of, journal_of}
+use Rattle.mv_entrytext.specs.Lines.{AtExits, AtEntries, AtEnd, Draft, blank}
+use Rattle.mv_entrytext.specs.Fault.{line_rules}
 use Rattle.mv_entrytext.specs.Said.{stage_of}
-
--- the kind that is told is the first
-abbrev pub TellsKind : LineRefusal Kind → Option Kind → Type 0
-TellsKind (Has k) kind = kind ≡ Some k
-TellsKind NoMemory kind = Unit {0}
 
 -- the kind of the line that ends the head
 abbrev pub kind_of_config : Setup → Option Kind
@@ -53,15 +47,8 @@ first_line_at AtEnd = 9
 abbrev pub line_behind : Draft → ℕ
 line_behind d = first_line_at d.stage + length d.setup.budgets + length d.setup.owners + length d.setup.exits + length d.entries
 
--- the reader stands before the rest of a text: what is left decides as the whole does
+-- the reader stands before the rest of the lines of a text, and those before it have said this
 pub record IsAt (bytes rest : List ℕ) (number : ℕ) (d : Draft) : Type 0 where
-  pub fault : first_fault number d (parts_at 10 rest) ≡ text_fault bytes
-  pub draft : draft_of d (parts_at 10 rest) ≡ journal_of bytes
+  pub passed : HasPassed (line_rules (cut_off bytes)) blank (ended_lines bytes) number d (lines_of rest)
   pub count : number + length rest ≤ length bytes + 1
   pub line : number ≡ line_behind d
-
--- the kind of what stands behind END: a line is none that may stand there, and anything else is cut off
-abbrev pub kind_at_end : List (List ℕ) → Option Kind
-kind_at_end [] = None
-kind_at_end (last ∷ []) = if length last == 0 then None else Some Cut
-kind_at_end (line ∷ more) = Some NoForm

@@ -1,13 +1,13 @@
 -- The faults of a text: one test for each kind of fault that a line can have, and which fault is the first.
-use Rattle.std.specs.Prelude.{◌≡◌, ℕ, ◌+◌, ◌≤◌, ◌==◌, Bool, true, false, ◌&&◌, ◌||◌, not, List, [], ◌∷◌, length, All, Option, Some}
-use Rattle.std.specs.Prelude.{None, is_some, if◌then◌else◌}
+use Rattle.std.specs.Prelude.{◌≡◌, ℕ, ◌≤◌, ◌==◌, Bool, true, false, ◌&&◌, ◌||◌, not, List, [], length, fold, All, Option, Some}
+use Rattle.std.specs.Prelude.{None, is_some, option_map, option_to_list, if◌then◌else◌}
 use Rattle.mv_machine.specs.declared.entry.Entry.{Entry}
 use Rattle.mv_machine.specs.Check.{IsValid, or_else, refusal_of}
 use Rattle.mv_machine.specs.Setup.{Setup}
 use Rattle.mv_line.specs.declared.fault.TextFault.{TextFault}
-use Rattle.mv_line.specs.Fault.{fault_at}
+use Rattle.mv_line.specs.Fault.{LineRules, first_fault}
 pub use Rattle.mv_line.specs.Fault.{TellsFirst}
-use Rattle.mv_line.specs.Part.{parts_at}
+use Rattle.mv_line.specs.Line.{ended_lines, cut_off}
 use Rattle.mv_entrytext.specs.declared.fault.Kind.{Kind}
 use Rattle.mv_entrytext.specs.declared.fault.Kind.TheVariants.{NoForm, BadNumber, BadConfig, WrongCount, Cut}
 use Rattle.mv_entrytext.specs.declared.version.Version.{Version}
@@ -59,49 +59,41 @@ kind_said d (Some l) = if has_bad_config d l then Some BadConfig else if has_wro
 abbrev pub kind_of : Draft → List ℕ → Option Kind
 kind_of d line = or_else (kind_of_form d.stage line) (kind_said d (line_read true d.stage line))
 
--- what stands behind the last LF is cut off, unless it is nothing and the last line was END
-abbrev pub is_ended : Stage → Bool
-is_ended AtEnd = true
-is_ended _ = false
+-- the number of a kind, as a list: of a line the first kind is told alone
+abbrev pub listed : Option Kind → List ℕ
+listed kind = option_to_list (option_map kind_number kind)
 
--- the text ends in this line, or before its end line
-abbrev pub is_cut : Draft → List ℕ → Bool
-is_cut d line = not (is_ended d.stage && length line == 0)
-
--- ---- the first fault of a text
+-- ---- all lines
 
 -- what the lines have said with this one
 abbrev pub draft_after : Draft → Option Line → Draft
 draft_after d None = d
 draft_after d (Some l) = draft_with l d
 
--- a fault of this line, or else the first one behind it
-abbrev pub fault_or : ℕ → Option Kind → Option TextFault → Option TextFault
-fault_or number (Some kind) behind = Some (fault_at number (kind_number kind))
-fault_or number None behind = behind
+abbrev pub with_line : Draft → List ℕ → Draft
+with_line d line = draft_after d (line_read true d.stage line)
 
--- The first fault of lines that are numbered from here on, behind the lines so far. The last of them has no LF.
-unfoldable pub first_fault : ℕ → Draft → List (List ℕ) → Option TextFault
-first_fault number d [] = None
-first_fault number d (last ∷ []) = if is_cut d last then Some (fault_at number (kind_number Cut)) else None
-first_fault number d (line ∷ more ∷ lines) =
-    fault_or number (kind_of d line) (first_fault (number + 1) (draft_after d (line_read true d.stage line)) (more ∷ lines))
+-- the last line was END
+abbrev pub is_ended : Stage → Bool
+is_ended AtEnd = true
+is_ended _ = false
+
+-- The rules of a journal's lines: it ends with END, and behind the LF of its last line nothing is cut off.
+abbrev pub line_rules : List ℕ → LineRules Draft
+line_rules cut = record {
+  with_line = with_line;
+  kinds_of = λ d line. listed (kind_of d line);
+  is_whole = λ d. is_ended d.stage && length cut == 0;
+  cut_short = kind_number Cut;
+}
 
 -- the first fault of a text, if it has one
-abbrev pub text_fault : List ℕ → Option TextFault
-text_fault bytes = first_fault 1 blank (parts_at 10 bytes)
+unfoldable pub text_fault : List ℕ → Option TextFault
+text_fault bytes = first_fault (line_rules (cut_off bytes)) blank (ended_lines bytes)
 
--- ---- what a text says
-
--- what the lines of a text have said
-unfoldable pub draft_of : Draft → List (List ℕ) → Draft
-draft_of d [] = d
-draft_of d (last ∷ []) = d
-draft_of d (line ∷ more ∷ lines) = draft_of (draft_after d (line_read true d.stage line)) (more ∷ lines)
-
--- the version, the configuration, the entries and their call numbers of a text without fault
-abbrev pub journal_of : List ℕ → Draft
-journal_of bytes = draft_of blank (parts_at 10 bytes)
+-- what a text says: the version, the configuration, the entries and their call numbers of one without fault
+unfoldable pub journal_of : List ℕ → Draft
+journal_of bytes = fold with_line blank (ended_lines bytes)
 
 -- ---- which configurations and entries have a text
 

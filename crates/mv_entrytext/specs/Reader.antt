@@ -2,6 +2,7 @@
 use Rattle.std.specs.Prelude.{◌≡◌, ℕ, ◌<◌, ◌-◌, ◌^◌, List, [], ◌∷◌, ◌++◌, length, Option, Some, None}
 use Rattle.mv_machine.specs.declared.entry.Entry.{Entry}
 use Rattle.mv_machine.specs.Setup.{Setup}
+use Rattle.mv_line.specs.Line.{cut_off}
 use Rattle.mv_entrytext.specs.declared.reader.EntryReader.{EntryReader}
 use Rattle.mv_entrytext.specs.declared.version.Version.{Version}
 use Rattle.mv_entrytext.specs.EntryText.{HasText}
@@ -18,6 +19,7 @@ left_in r = length r.rest.now
 -- numbers: what is left decides as the whole does.
 pub record IsReadTo (v : Version) (bytes : List ℕ) (c : Setup) (es : List Entry) (ns : List ℕ) (r : EntryReader) : Type 0 where
   pub version : r.version ≡ v
+  pub cut : r.cut.now ≡ cut_off bytes
   pub stands : IsAt bytes r.rest.now r.line (draft_at (AtEntries v) v c es ns)
   pub count : r.count ≡ length es
   pub calls : AreCallsIn v es ns

@@ -1,19 +1,21 @@
 //! The head of a journal, read to its end: `specs/Lines.antt`, `specs/Draft.antt` and `specs/Fault.antt`.
 
 ghost use Rattle.std.specs.Prelude.{◌≡◌, ◌≢◌, ◌<◌, ◌-◌, ◌^◌, [], true, Some, length, OnOk, MatchResult};
+ghost use Rattle.mv_line.specs.Fault.{TellsLowest};
+ghost use Rattle.mv_line.specs.Line.{cut_off};
 ghost use Rattle.mv_machine.specs.Check.{IsValid};
 ghost use Rattle.mv_machine.specs.Config.{setup_of};
 ghost use Rattle.mv_entrytext.specs.Journal.{Events};
 ghost use Rattle.mv_entrytext.specs.Lines.{AtEntries, blank, draft_with, line_read};
-ghost use Rattle.mv_entrytext.specs.Fault.{TellsFirst, kind_of_form, text_fault};
+ghost use Rattle.mv_entrytext.specs.Fault.{TellsFirst, kind_number, kind_of_form, listed, text_fault};
 ghost use Rattle.mv_entrytext.specs.Said.{said, stage_of};
-ghost use Rattle.mv_entrytext.specs.Draft.{TellsKind, kind_of_config, draft_at, head_seen, IsAt};
+ghost use Rattle.mv_entrytext.specs.Draft.{kind_of_config, draft_at, head_seen, IsAt};
 
 use crate::fault::Kind;
 use crate::line::{Line, Stage, read_line};
 use crate::version::Version;
 use mv_io::NoMemory;
-use mv_line::{FaultKind, LineRefusal, TextRefusal, split_part};
+use mv_line::{FaultKind, LineRefusal, TextRefusal, split_cut_off, split_line};
 use mv_machine::{CheckRefusal, Config, ValidConfig};
 use std::alloc::Global;
 
@@ -99,7 +101,7 @@ impl HeadDraft {
 fn line_or_kind(alloc: Global, stage: Stage, text: &[u8]) -> Result<Line, LineRefusal<Kind>>
     ensures { MatchResult result
         (λ l. line_read true (stage_of stage) text.now ≡ Some (said l))
-        (λ e. TellsKind e (kind_of_form (stage_of stage) text.now)) }
+        (λ e. TellsLowest kind_number e (listed (kind_of_form (stage_of stage) text.now))) }
 {
     let Ok(strict) = read_line(alloc, true, stage, text) else {
         return Err(LineRefusal::NoMemory);
@@ -118,7 +120,7 @@ fn line_or_kind(alloc: Global, stage: Stage, text: &[u8]) -> Result<Line, LineRe
 fn checked(alloc: Global, config: Config) -> Result<ValidConfig, LineRefusal<Kind>>
     ensures { MatchResult result
         (λ v. (v ≡ setup_of config) × IsValid (setup_of config))
-        (λ e. TellsKind e (kind_of_config (setup_of config))) }
+        (λ e. TellsLowest kind_number e (listed (kind_of_config (setup_of config)))) }
 {
     match config.check(alloc) {
         Ok(valid) => Ok(valid),
@@ -127,12 +129,13 @@ fn checked(alloc: Global, config: Config) -> Result<ValidConfig, LineRefusal<Kin
     }
 }
 
-/// A head that was read: its version, its configuration, what stands behind it, and the number of the line there.
+/// A head that was read: its version, its configuration, the lines behind it, what is cut off behind these, and the number of the first.
 #[derive(Drop)]
 pub(crate) struct Head<'a> {
     pub(crate) version: Version,
     pub(crate) config: ValidConfig,
     pub(crate) rest: &'a [u8],
+    pub(crate) cut: &'a [u8],
     pub(crate) line: u32,
 }
 
@@ -140,17 +143,16 @@ pub(crate) struct Head<'a> {
 pub(crate) fn read_head(alloc: Global, bytes: &[u8]) -> Result<Head<'_>, TextRefusal>
     requires { length bytes.now < 2 ^ 32 - 1 }
     ensures { MatchResult result
-        (λ h. IsAt bytes.now h.rest.now h.line (draft_at (AtEntries h.version) h.version h.config [] []))
+        (λ h. IsAt bytes.now h.rest.now h.line (draft_at (AtEntries h.version) h.version h.config [] [])
+        × (h.cut.now ≡ cut_off bytes.now))
         (λ e. TellsFirst e (text_fault bytes.now)) }
 {
+    let (ended, cut) = split_cut_off(bytes);
     let mut draft = HeadDraft::new(alloc);
-    let mut rest = bytes;
+    let mut rest = ended;
     let mut number = 1;
-    'lines: loop {
-        let (text, behind) = split_part(rest, b'\n');
-        let Some(behind) = behind else {
-            return Err(TextRefusal::Fault(Kind::Cut.at(number)));
-        };
+    'lines: while !rest.is_empty() {
+        let (text, behind) = split_line(rest);
         let line = match line_or_kind(alloc, draft.stage, text) {
             Ok(line) => line,
             Err(refusal) => return Err(refusal.at(number)),
@@ -162,6 +164,7 @@ pub(crate) fn read_head(alloc: Global, bytes: &[u8]) -> Result<Head<'_>, TextRef
                     version,
                     config,
                     rest: behind,
+                    cut,
                     line: number + 1,
                 }),
                 Err(refusal) => Err(refusal.at(number)),
@@ -173,4 +176,5 @@ pub(crate) fn read_head(alloc: Global, bytes: &[u8]) -> Result<Head<'_>, TextRef
         rest = behind;
         number += 1;
     }
+    Err(TextRefusal::Fault(Kind::Cut.at(number)))
 }

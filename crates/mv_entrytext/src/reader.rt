@@ -2,7 +2,6 @@
 //! `specs/Journal.antt`, `specs/Fault.antt` and `specs/Draft.antt`.
 
 ghost use Rattle.std.specs.Prelude.{◌≡◌, ◌+◌, ◌<◌, ◌-◌, ◌^◌, [], ◌∷◌, true, Some, ℕ, List, length, IfOk, IfSome, MatchResult};
-ghost use Rattle.mv_line.specs.Part.{parts_at};
 ghost use Rattle.mv_machine.specs.declared.entry.Entry.{Entry as AnyEntry};
 ghost use Rattle.mv_machine.specs.Setup.{Setup};
 ghost use Rattle.mv_entrytext.specs.declared.version.Version.{Version as AnyVersion};
@@ -11,7 +10,6 @@ ghost use Rattle.mv_entrytext.specs.Lines.{AtEntries, line_read};
 ghost use Rattle.mv_entrytext.specs.Fault.{TellsFirst, kind_of_form, text_fault};
 ghost use Rattle.mv_entrytext.specs.Journal.{first_line};
 ghost use Rattle.mv_entrytext.specs.Said.{entry_said};
-ghost use Rattle.mv_entrytext.specs.Draft.{kind_at_end};
 ghost use Rattle.mv_entrytext.specs.Reader.{left_in, IsReadTo, IsNextOf};
 
 use crate::entry::read_entry;
@@ -19,7 +17,7 @@ use crate::fault::Kind;
 use crate::head::read_head;
 use crate::line::{EntryLine, read_entry_line};
 use crate::version::Version;
-use mv_line::{FaultKind, TextFault, TextRefusal, split_part};
+use mv_line::{FaultKind, TextFault, TextRefusal, split_line};
 use mv_machine::{Entry, ValidConfig};
 use std::alloc::Global;
 
@@ -27,7 +25,9 @@ use std::alloc::Global;
 #[derive(Drop)]
 pub struct EntryReader<'a> {
     version: Version,
+    // The lines that are left, and what is cut off behind them.
     rest: &'a [u8],
+    cut: &'a [u8],
     // The number of the line there, counted from 1, and how many entries stand before it.
     line: u32,
     count: u32,
@@ -68,19 +68,6 @@ fn entry_line_or_kind(version: Version, text: &[u8]) -> Result<EntryLine, Kind>
     }
 }
 
-// Nothing may stand behind the last line.
-fn nothing_behind(rest: &[u8]) -> Result<(), Kind>
-    ensures { MatchResult result
-        (λ _. rest.now ≡ [])
-        (λ k. kind_at_end (parts_at 10 rest.now) ≡ Some k) }
-{
-    match split_part(rest, b'\n') {
-        (_, Some(_)) => Err(Kind::NoForm),
-        (last, None) if last.is_empty() => Ok(()),
-        _ => Err(Kind::Cut),
-    }
-}
-
 /// Reads the head of a journal, of either version of the text.
 ///
 /// # Errors
@@ -99,6 +86,7 @@ pub fn open_journal(alloc: Global, bytes: &[u8]) -> Result<OpenJournal<'_>, Text
         entries: EntryReader {
             version: head.version,
             rest: head.rest,
+            cut: head.cut,
             line: head.line,
             count: 0,
         },
@@ -165,10 +153,10 @@ impl EntryReader<'_> {
             (λ f. text_fault bytes ≡ Some f) }
         ensures shorter { IfOk result (λ found. IfSome found (λ _. left_in self.new < left_in self.old)) }
     {
-        let (text, behind) = split_part(self.rest, b'\n');
-        let Some(behind) = behind else {
+        if self.rest.is_empty() {
             return Err(Kind::Cut.at(self.line));
-        };
+        }
+        let (text, behind) = split_line(self.rest);
         match entry_line_or_kind(self.version, text) {
             Ok(EntryLine::Entry(call, entry)) => {
                 self.rest = behind;
@@ -180,10 +168,13 @@ impl EntryReader<'_> {
                 if count != self.count {
                     return Err(Kind::WrongCount.at(self.line));
                 }
-                match nothing_behind(behind) {
-                    Ok(()) => Ok(None),
-                    Err(kind) => Err(kind.at(self.line + 1)),
+                if !behind.is_empty() {
+                    return Err(Kind::NoForm.at(self.line + 1));
                 }
+                if !self.cut.is_empty() {
+                    return Err(Kind::Cut.at(self.line + 1));
+                }
+                Ok(None)
             }
             Err(kind) => Err(kind.at(self.line)),
         }
