@@ -232,5 +232,6 @@ pub fn run_polled<R: Wait, O: Order>(
 {
     let config = spool_config(alloc, deck, initiators)?;
     let left = run_tasks(rt, alloc, config, &deck.jobs, initiators, order)?;
-    spool_run(alloc, deck, initiators, left.closed, left.brought)
+    let run = spool_run(alloc, deck, initiators, left.closed, left.brought)?;
+    Ok(run)
 }

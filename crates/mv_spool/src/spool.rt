@@ -117,5 +117,6 @@ pub fn run_deck<R: Threads + Wait + Sync, G: Gate + Sync>(
 {
     let config = spool_config(alloc, deck, initiators)?;
     let left = run_station(rt, alloc, config, &deck.jobs, initiators, gate)?;
-    spool_run(alloc, deck, initiators, left.closed, left.brought)
+    let run = spool_run(alloc, deck, initiators, left.closed, left.brought)?;
+    Ok(run)
 }

@@ -223,19 +223,21 @@ module _ (deck : List JobData) (i : ℕ) (b : BoardFace) (works : List SpoolWork
       let count : length front ≡ length works - 1 = length-take-le (length works - 1) works (omega arith) in record {
         config = own ∙ config;
         whole = whole;
-        run = record { follow = follows; done = λ k lt. (answered i k (work k), done_at k lt) };
         few = few;
-        volumes = subst (λ (c : Setup). AreHeld c (after c es) closed.volumes) config held;
-        records = record {
-          count = ap (λ (rs : List (List JobRecord)). length rs) noted ∙ length-drop 2 (map records front)
-              ∙ ap (λ n. n - 2) (length-map front records) ∙ (let e : length front - 2 ≡ i = omega arith in e);
-          each = λ m lt. records_said m lt ∙ ap (λ (rs : List JobRecord). Done rs)
-              (sym (ap (λ (rs : List (List JobRecord)). get_or rs m []) noted ∙ get_or-drop 2 (map records front) m []
-              ∙ get_or-map records front (2 + m) first_work [] (omega arith)
-              ∙ ap records (get_or-take (length works - 1) works (2 + m) first_work (omega arith))
-              ∙ ap (λ k. records (get_or works k first_work)) (let e : 2 + m ≡ initiator m = omega arith in e)));
+        of_run = record {
+          run = record { follow = follows; done = λ k lt. (answered i k (work k), done_at k lt) };
+          volumes = subst (λ (c : Setup). AreHeld c (after c es) closed.volumes) config held;
+          records = record {
+            count = ap (λ (rs : List (List JobRecord)). length rs) noted ∙ length-drop 2 (map records front)
+                ∙ ap (λ n. n - 2) (length-map front records) ∙ (let e : length front - 2 ≡ i = omega arith in e);
+            each = λ m lt. records_said m lt ∙ ap (λ (rs : List JobRecord). Done rs)
+                (sym (ap (λ (rs : List (List JobRecord)). get_or rs m []) noted ∙ get_or-drop 2 (map records front) m []
+                ∙ get_or-map records front (2 + m) first_work [] (omega arith)
+                ∙ ap records (get_or-take (length works - 1) works (2 + m) first_work (omega arith))
+                ∙ ap (λ k. records (get_or works k first_work)) (let e : 2 + m ≡ initiator m = omega arith in e)));
+          };
+          ends = done_at (writer i) (omega arith) ∙ ap (λ (es : List ℕ). Done es) (writer_answered i (work (writer i))
+              ∙ sym (ends first_work ∙ ap (λ k. ends_found (get_or works k first_work))
+              (let e : length works - 1 ≡ writer i = omega arith in e)));
         };
-        ends = done_at (writer i) (omega arith) ∙ ap (λ (es : List ℕ). Done es) (writer_answered i (work (writer i))
-            ∙ sym (ends first_work ∙ ap (λ k. ends_found (get_or works k first_work))
-            (let e : length works - 1 ≡ writer i = omega arith in e)));
       }

@@ -64,16 +64,20 @@ pub record AreBrought (deck : List JobData) (initiators : ℕ) (es : List Entry)
 abbrev pub all_records : List (List JobRecord) → List JobRecord
 all_records records = flat_map (λ rs. rs) records
 
--- what a closed run of the deck left, and what its tasks brought back: what the initiators noted, and which ends the writer found
-pub record IsLeft (deck : List JobData) (initiators : ℕ) (closed : Closed) (brought : Brought) : Type 0 where
-  pub config : closed.history.config ≡ spool_setup deck initiators
-  pub whole : closed.history.past ≡ []
+-- what is left, and what tasks brought back, are of one run of the deck: what the initiators noted, and which ends the writer found
+pub record AreOfRun (deck : List JobData) (initiators : ℕ) (closed : Closed) (brought : Brought) : Type 0 where
   pub run : IsRun deck initiators closed.history.coming
-  pub few : length closed.history.coming ≤ events_limit
   pub volumes : AreHeld (spool_setup deck initiators) (after (spool_setup deck initiators) closed.history.coming) closed.volumes
   pub records : AreBrought deck initiators closed.history.coming (map (λ r. r.jobs) brought.records.items)
   pub ends : left_in (spool_setup deck initiators) (task_program deck initiators) (writer initiators) closed.history.coming
       ≡ Done brought.ends.items
+
+-- what a closed run of the deck left, and what its tasks brought back
+pub record IsLeft (deck : List JobData) (initiators : ℕ) (closed : Closed) (brought : Brought) : Type 0 where
+  pub config : closed.history.config ≡ spool_setup deck initiators
+  pub whole : closed.history.past ≡ []
+  pub few : length closed.history.coming ≤ events_limit
+  pub of_run : AreOfRun deck initiators closed brought
 
 -- ---- the lines that records give
 

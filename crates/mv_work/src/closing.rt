@@ -1,18 +1,17 @@
 //! What a run came to, made of what its tasks brought back, and of what its board left. Clauses cite `specs/Recording.antt`.
 
-ghost use Rattle.std.specs.Prelude.{◌≡◌, ◌≤◌, [], All, length, map, slice_index, IfOk};
+ghost use Rattle.std.specs.Prelude.{◌≡◌, ◌≤◌, map, slice_index, IfOk};
 ghost use Rattle.std.specs.List.{range_with_len};
 ghost use Rattle.mv_calls.specs.Program.{Done};
 ghost use Rattle.mv_calls.specs.Runs.{left_in};
 ghost use Rattle.mv_deck.specs.Deck.{deck_data};
 ghost use Rattle.mv_deck.specs.Operand.{volume_count};
 ghost use Rattle.mv_deck.specs.Sound.{IsSound};
-ghost use Rattle.mv_machine.specs.Limits.{events_limit, highest_place};
 ghost use Rattle.mv_plan.specs.SpoolRun.{IsRun};
 ghost use Rattle.mv_plan.specs.SpoolSetup.{spool_setup, writer};
 ghost use Rattle.mv_plan.specs.SpoolTasks.{task_program};
 ghost use Rattle.mv_report.specs.Outcome.{ends as ends_of_deck, lines as lines_of_deck, totals};
-ghost use Rattle.mv_work.specs.Recording.{AreBrought, IsLeft, all_records, lines_recorded as lines_of_records};
+ghost use Rattle.mv_work.specs.Recording.{AreBrought, AreOfRun, all_records, lines_recorded as lines_of_records};
 
 use crate::bringing::Brought;
 use crate::records::InitiatorRecord;
@@ -74,13 +73,9 @@ pub fn spool_run(
 ) -> Result<SpoolRun, NoMemory>
     requires some { 1 ≤ initiators }
     requires sound { IsSound (deck_data deck.now) initiators }
-    requires left { IsLeft (deck_data deck.now) initiators closed brought }
+    requires run { AreOfRun (deck_data deck.now) initiators closed brought }
     ensures history { IfOk result (λ run. run.history ≡ closed.history) }
-    ensures config { IfOk result (λ run. run.history.config ≡ spool_setup (deck_data deck.now) initiators) }
-    ensures whole { IfOk result (λ run. run.history.past ≡ []) }
     ensures run { IfOk result (λ run. IsRun (deck_data deck.now) initiators run.history.coming) }
-    ensures few { IfOk result (λ run. length run.history.coming ≤ events_limit) }
-    ensures places { IfOk result (λ run. All (λ e. e.place ≤ highest_place) run.history.coming) }
     ensures records { IfOk result (λ run. run.records.items ≡ brought.records.items) }
     ensures brought { IfOk result (λ run. AreBrought (deck_data deck.now) initiators run.history.coming
         (map (λ r. r.jobs) run.records.items)) }
