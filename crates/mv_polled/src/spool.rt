@@ -185,8 +185,8 @@ fn run_tasks<R: Wait, O: Order>(
     requires config { config ≡ spool_setup (jobs_of deck.now) initiators }
     ensures left { IfOk result (λ left. IsLeft (jobs_of deck.now) initiators left.closed left.brought) }
 {
+    let room = room_for(alloc, initiators as usize + 3)?;
     let (station, tasks) = Station::open(alloc, config)?;
-    let room = room_for(alloc, tasks.len())?;
     let polled = all_polled(alloc, tasks, deck, initiators)?;
     let polled = poll_all(rt, &station, deck, initiators, order, polled);
     let (tasks, works, records) = parted(polled, room);

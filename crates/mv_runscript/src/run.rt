@@ -80,9 +80,9 @@ fn run_station<R: Threads + Wait + Sync>(
     ensures few { IfOk result (λ run. length run.history.coming ≤ events_limit) }
     ensures places { IfOk result (λ run. All (λ e. e.place ≤ highest_place) run.history.coming) }
 {
-    let (station, new) = Station::open(alloc, config)?;
     let lists = Vec::with_capacity(alloc, tasks.len())?;
     let rooms = rooms_for(alloc, tasks)?;
+    let (station, new) = Station::open(alloc, config)?;
     let making = Making { table, tasks };
     let (ended, rooms) = run_tasks(rt, alloc, &station, &making, new, rooms)?;
     let closed = station.close(ended);
