@@ -91,7 +91,7 @@ abbrev pub wake_posted : {A : Type 0} → Setup → Option ℕ → ℕ → Kept 
 wake_posted c None code kept last = last
 wake_posted c (Some e) code kept last = and_then (post c e code kept) (λ p. last)
 
--- the posts of these wakes in order, and then the rest
+-- the posts of these wakes in order, and then what follows
 abbrev pub wakes_posted : {A : Type 0} → Setup → List Wake → Kept → Program A → Program A
 wakes_posted c [] kept last = last
 wakes_posted c (w ∷ ws) kept last = wake_posted c w.ecb w.code kept (wakes_posted c ws kept last)

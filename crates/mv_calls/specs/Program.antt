@@ -121,7 +121,7 @@ unless_refused (Some why) p = Done (Err why)
 abbrev pub Call : Type 0 → Type 0
 Call A = Kept → Program A
 
--- the rest of a program that was begun with this kept, and the call that follows it by its answer
+-- what is left of a program that was begun with this kept, and the call that follows it by its answer
 abbrev pub going_on : {A B : Type 0} → Kept → Program A → (A → Call B) → Program B
 going_on kept (Do o op next) f = Do o op (λ h. going_on (kept_after kept o op h.entry.reply) (next h) f)
 going_on kept (Done a) f = f a kept

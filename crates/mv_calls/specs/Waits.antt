@@ -57,7 +57,7 @@ armed p ecb_reply.Armed = p
 armed p (ecb_reply.Complete c) = p
 armed p reply = Wrong
 
--- each block is armed, and then the rest
+-- each block is armed, and then what follows
 abbrev pub arm_all : {A : Type 0} → List ℕ → Program A → Program A
 arm_all [] p = p
 arm_all (e ∷ es) p = Do (Ecb e) (op_on.Ecb ecb_op.Arm) (λ h. on_ecb h.entry.reply (armed (arm_all es p)))
@@ -68,7 +68,7 @@ settled f (ecb_reply.Complete c) = f (Some c)
 settled f ecb_reply.Open = f None
 settled f reply = Wrong
 
--- each block is settled, and then the rest by what was found of these and of those before
+-- each block is settled, and then what follows by what was found of these and of those before
 abbrev pub settle_all : {A : Type 0} → List ℕ → List (Option ℕ) → (List (Option ℕ) → Program A) → Program A
 settle_all [] found f = f found
 settle_all (e ∷ es) found f = Do (Ecb e) (op_on.Ecb ecb_op.Settle)
