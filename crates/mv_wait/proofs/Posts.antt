@@ -85,21 +85,21 @@ module _ (c : Setup) (code : ℕ) where
       (ends a f.answer (g ∷ fs) e parts.1)
 
   -- the next block's post, and what is to be posted after it
-  pub record Next (a : Posting) (e : ℕ) (rest : List ℕ) (fs : List Frame) : Type 0 where
+  pub record Next (a : Posting) (e : ℕ) (later : List ℕ) (fs : List Frame) : Type 0 where
     pub depth : ℕ
     pub deep : (length c.owners ≤ e + suc depth) × (e < length c.owners)
     pub frames : List Frame
-    pub flat_is : flat frames ≡ rest
+    pub flat_is : flat frames ≡ later
     pub all_deep : AllDeep frames
     pub ends_in : EndsIn a frames
     pub same : (x : Posting) → behind (Done x) fs ≡ behind (post_within (suc depth) c code e) frames
 
-  next_in : (a : Posting) (depth e : ℕ) (es rest : List ℕ) (answer : Posting) (fs : List Frame)
+  next_in : (a : Posting) (depth e : ℕ) (es later : List ℕ) (answer : Posting) (fs : List Frame)
       → EndsIn a (record { depth = depth; blocks = e ∷ es; answer = answer } ∷ fs)
-      → AllDeep (record { depth = depth; blocks = e ∷ es; answer = answer } ∷ fs) → es ++ flat fs ≡ rest
-      → Next a e rest (record { depth = depth; blocks = e ∷ es; answer = answer } ∷ fs)
-  next_in a zero e es rest answer fs ending deep is = let d = deep.0.0 in absurd (omega arith)
-  next_in a (suc depth) e es rest answer fs ending deep is = record {
+      → AllDeep (record { depth = depth; blocks = e ∷ es; answer = answer } ∷ fs) → es ++ flat fs ≡ later
+      → Next a e later (record { depth = depth; blocks = e ∷ es; answer = answer } ∷ fs)
+  next_in a zero e es later answer fs ending deep is = let d = deep.0.0 in absurd (omega arith)
+  next_in a (suc depth) e es later answer fs ending deep is = record {
     depth = depth;
     deep = deep.0.0;
     frames = record { depth = suc depth; blocks = es; answer = answer } ∷ fs;
@@ -113,11 +113,11 @@ module _ (c : Setup) (code : ℕ) where
     same_end [] x = x
     same_end (g ∷ gs) x = x
 
-  in_frame : (a : Posting) (e : ℕ) (rest : List ℕ) (f : Frame) (fs : List Frame) (es : List ℕ) → f.blocks ≡ es → EndsIn a (f ∷ fs)
-      → AllDeep (f ∷ fs) → es ++ flat fs ≡ e ∷ rest
-      → (EndsIn a fs → AllDeep fs → flat fs ≡ e ∷ rest → Next a e rest fs) → Next a e rest (f ∷ fs)
-  in_frame a e rest f [] [] is ending deep flat_is later = absurd (cc flat_is)
-  in_frame a e rest f (g ∷ fs) [] is ending deep flat_is later =
+  in_frame : (a : Posting) (e : ℕ) (others : List ℕ) (f : Frame) (fs : List Frame) (es : List ℕ) → f.blocks ≡ es → EndsIn a (f ∷ fs)
+      → AllDeep (f ∷ fs) → es ++ flat fs ≡ e ∷ others
+      → (EndsIn a fs → AllDeep fs → flat fs ≡ e ∷ others → Next a e others fs) → Next a e others (f ∷ fs)
+  in_frame a e others f [] [] is ending deep flat_is later = absurd (cc flat_is)
+  in_frame a e others f (g ∷ fs) [] is ending deep flat_is later =
       let n = later ending deep.1 flat_is in record {
         depth = n.depth;
         deep = n.deep;
@@ -128,18 +128,19 @@ module _ (c : Setup) (code : ℕ) where
         same = λ x. subst (λ (es : List ℕ). behind (and_then (Done x) (λ p. each_posted (post_within f.depth c code) es f.answer))
             (g ∷ fs) ≡ behind (post_within (suc n.depth) c code e) n.frames) (sym is) (n.same f.answer);
       }
-  in_frame a e rest f fs (m ∷ es) is ending deep flat_is later =
+  in_frame a e others f fs (m ∷ es) is ending deep flat_is later =
       let same : m ≡ e = cc flat_is in
-      let tail : es ++ flat fs ≡ rest = cc flat_is in
+      let tail : es ++ flat fs ≡ others = cc flat_is in
       let frame : f ≡ record { depth = f.depth; blocks = e ∷ es; answer = f.answer } =
       (λ i. record { depth = f.depth; blocks = (is ∙ ap (λ n. n ∷ es) same) i; answer = f.answer }) in
-      subst (λ (g : Frame). Next a e rest (g ∷ fs)) (sym frame)
-      (next_in a f.depth e es rest f.answer fs (subst (λ (g : Frame). EndsIn a (g ∷ fs)) frame ending)
+      subst (λ (g : Frame). Next a e others (g ∷ fs)) (sym frame)
+      (next_in a f.depth e es others f.answer fs (subst (λ (g : Frame). EndsIn a (g ∷ fs)) frame ending)
       (subst (λ (g : Frame). AllDeep (g ∷ fs)) frame deep) tail)
 
-  pub next_of : (a : Posting) (e : ℕ) (rest : List ℕ) (fs : List Frame) → EndsIn a fs → AllDeep fs → flat fs ≡ e ∷ rest → Next a e rest fs
-  next_of a e rest [] ending deep is = absurd ending
-  next_of a e rest (f ∷ fs) ending deep is = in_frame a e rest f fs f.blocks refl ending deep is (λ x y z. next_of a e rest fs x y z)
+  pub next_of : (a : Posting) (e : ℕ) (later : List ℕ) (fs : List Frame) → EndsIn a fs → AllDeep fs → flat fs ≡ e ∷ later
+      → Next a e later fs
+  next_of a e later [] ending deep is = absurd ending
+  next_of a e later (f ∷ fs) ending deep is = in_frame a e later f fs f.blocks refl ending deep is (λ x y z. next_of a e later fs x y z)
 
   -- ---- one post
 
@@ -185,8 +186,8 @@ module _ (c : Setup) (code : ℕ) where
 
   deep_below : (depth : ℕ) (es : List ℕ) (more : List ℕ) → AreDeep depth es → AllByRecursion (λ e. e < length c.owners) more
       → AllByRecursion (λ e. e < length c.owners) (es ++ more)
-  deep_below depth [] more all rest = rest
-  deep_below depth (e ∷ es) more all rest = (all.0.1, deep_below depth es more all.1 rest)
+  deep_below depth [] more all later = later
+  deep_below depth (e ∷ es) more all later = (all.0.1, deep_below depth es more all.1 later)
 
   pub all_below : (fs : List Frame) → AllDeep fs → AllByRecursion (λ e. e < length c.owners) (flat fs)
   all_below [] all = tt

@@ -28,10 +28,10 @@ second_none : (a b : Option Refusal) → or_else a b ≡ None → b ≡ None
 second_none None b e = e
 second_none (Some x) b e = absurd (cc e)
 
-one_nowhere : (why : ℕ → Refusal) (p : ℕ) (b : Bool) (rest : Option Refusal) → cond b (Some (why p)) rest ≡ None
-    → (b ≡ false) × (rest ≡ None)
-one_nowhere why p true rest e = absurd (cc e)
-one_nowhere why p false rest e = (refl, e)
+one_nowhere : (why : ℕ → Refusal) (p : ℕ) (b : Bool) (later : Option Refusal) → cond b (Some (why p)) later ≡ None
+    → (b ≡ false) × (later ≡ None)
+one_nowhere why p true later e = absurd (cc e)
+one_nowhere why p false later e = (refl, e)
 
 pub nowhere_back : (why : ℕ → Refusal) (test : ℕ → Bool) (p : ℕ) (es : List ℕ) → refused_at why test p es ≡ None
     → AllByRecursion (λ e. test e ≡ false) es
@@ -44,22 +44,22 @@ not_last : (before : List ℕ) (e m : ℕ) → list_any (λ b. b == m) (before +
 not_last [] e m q = (refl, λ s. false≢true (sym (or_parts (e == m) false q).0 ∙ eq-eqb e m (sym s)))
 not_last (x ∷ before) e m q =
     let one = or_parts (x == m) (list_any (λ b. b == m) (before ++ e ∷ [])) q in
-    let rest = not_last before e m one.1 in (rw (one.0) rest.0, rest.1)
+    let later = not_last before e m one.1 in (rw (one.0) later.0, later.1)
 
 all_apart : (before : List ℕ) (e : ℕ) (es : List ℕ) → AllByRecursion (λ m. list_any (λ b. b == m) (before ++ e ∷ []) ≡ false) es
     → AllByRecursion (λ m. list_any (λ b. b == m) before ≡ false) es × AllByRecursion (λ m. m ≡ e → ⊥) es
 all_apart before e [] all = (tt, tt)
 all_apart before e (x ∷ es) all =
     let one = not_last before e x all.0 in
-    let rest = all_apart before e es all.1 in ((one.0, rest.0), (one.1, rest.1))
+    let later = all_apart before e es all.1 in ((one.0, later.0), (one.1, later.1))
 
 pub undoubled : (before : List ℕ) (p : ℕ) (es : List ℕ) → doubled_at before p es ≡ None
     → AllByRecursion (λ m. list_any (λ b. b == m) before ≡ false) es × AreDistinct es
 undoubled before p [] e = (tt, tt)
 undoubled before p (x ∷ es) e =
     let one = one_nowhere Doubled p (list_any (λ b. b == x) before) (doubled_at (before ++ x ∷ []) (p + 1) es) e in
-    let rest = undoubled (before ++ x ∷ []) (p + 1) es one.1 in
-    let parts = all_apart before x es rest.0 in ((one.0, parts.0), (parts.1, rest.1))
+    let later = undoubled (before ++ x ∷ []) (p + 1) es one.1 in
+    let parts = all_apart before x es later.0 in ((one.0, parts.0), (parts.1, later.1))
 
 -- what the parts of a wait that is not refused ask for
 pub record IsAccepted (c : Setup) (k : ℕ) (kept : Kept) (es : List ℕ) : Type 0 where
@@ -93,9 +93,9 @@ not_fewer n count false is e = ltb-false n count is
 pub accepted_count : (c : Setup) (count : ℕ) (es : List ℕ) (kept : Kept) → wait_refusal c count es kept ≡ None → count ≤ length es
 accepted_count c count es kept e =
     let a = refused_if (nat_lt (length es) count) TooMany in
-    let rest = or_else (doubled_at [] 0 es) (or_else (refused_at NotOwnerAt (is_others_block c kept) 0 es)
+    let later = or_else (doubled_at [] 0 es) (or_else (refused_at NotOwnerAt (is_others_block c kept) 0 es)
     (refused_at ExtendedAt kept.extended 0 es)) in
-    not_fewer (length es) count (nat_lt (length es) count) refl (first_none a rest e)
+    not_fewer (length es) count (nat_lt (length es) count) refl (first_none a later e)
 
 pub both_own : (c : Setup) (k : ℕ) (es : List ℕ) → AllByRecursion (λ e. e < length c.owners) es
     → AllByRecursion (λ e. owner_of c e ≡ k) es → AreOwn c k es

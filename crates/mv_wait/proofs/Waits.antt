@@ -37,10 +37,10 @@ use Rattle.mv_wait.proofs.Runs.{entry_of, runs_word}
 
 -- ---- lists
 
-pub distinct_rest : (i : ℕ) (es : List ℕ) → AreDistinct es → AreDistinct (drop i es)
-distinct_rest zero es d = d
-distinct_rest (suc i) [] d = tt
-distinct_rest (suc i) (e ∷ es) d = distinct_rest i es d.1
+pub distinct_later : (i : ℕ) (es : List ℕ) → AreDistinct es → AreDistinct (drop i es)
+distinct_later zero es d = d
+distinct_later (suc i) [] d = tt
+distinct_later (suc i) (e ∷ es) d = distinct_later i es d.1
 
 -- ---- listed watches
 
@@ -69,8 +69,8 @@ count_one ws e es = go (is_listed ws e) refl where
 -- ---- an event on a block takes its own watch off, and no other block's
 off_block : (ws : List Watch) (m e n : ℕ) (op : Op) → n ≢ e → (b : Bool) → (m == e) ≡ b → is_listed (off (Ecb e) op ws) n ≡ is_listed ws n
     → is_listed (cond (not b) (watch.Ecb m ∷ off (Ecb e) op ws) (off (Ecb e) op ws)) n ≡ ((m == n) || is_listed ws n)
-off_block ws m e n op differ true is rest = rest ∙ sym (ap (λ b. b || is_listed ws n) (ne_eqb m n (λ q. differ (sym q ∙ eqb-true m e is))))
-off_block ws m e n op differ false is rest = ap (λ b. (m == n) || b) rest
+off_block ws m e n op differ true is same = same ∙ sym (ap (λ b. b || is_listed ws n) (ne_eqb m n (λ q. differ (sym q ∙ eqb-true m e is))))
+off_block ws m e n op differ false is same = ap (λ b. (m == n) || b) same
 
 off_other : (ws : List Watch) (e n : ℕ) (op : Op) → n ≢ e → is_listed (off (Ecb e) op ws) n ≡ is_listed ws n
 off_other [] e n op differ = refl
@@ -216,7 +216,7 @@ settle_step t u e slot es found f h =
 
 complete_last : (xs : List (Option ℕ)) (s : Option ℕ) → complete_count (xs ++ s ∷ []) ≡ complete_count xs + complete_count (s ∷ [])
 complete_last [] s = omega arith
-complete_last (Some code ∷ xs) s = let rest = complete_last xs s in omega arith
+complete_last (Some code ∷ xs) s = let later = complete_last xs s in omega arith
 complete_last (None ∷ xs) s = complete_last xs s
 
 slots-append : (xs ys : List WaitSlot) → slots_of (xs ++ ys) ≡ slots_of xs ++ slots_of ys
@@ -233,7 +233,7 @@ listed_complete true (slot.Complete code) f = omega arith
 listed_complete true slot.Open f = let w = f refl in absurd (cc w.1)
 listed_complete false s f = omega arith
 
--- what is listed of the rest, and what was found complete, are still enough
+-- what is listed of those behind it, and what was found complete, are still enough
 pub enough_still : (count i e : ℕ) (es : List ℕ) (ready : List Watch) (xs : List (Option ℕ)) (s : WaitSlot)
     → AllByRecursion (λ m. m ≡ e → ⊥) es
     → (is_listed ready e ≡ true → IsComplete s) → count ≤ complete_count xs + listed_count ready (e ∷ es)

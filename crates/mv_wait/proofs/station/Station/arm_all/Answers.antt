@@ -10,7 +10,7 @@ use Rattle.mv_wait.proofs.Admits.{may_arm}
 use Rattle.mv_wait.proofs.Answering.{armed_reply}
 use Rattle.mv_wait.proofs.Parts.{still_of, own_one, one_of}
 use Rattle.mv_wait.proofs.Runs.{runs_none, runs_then, runs_within}
-use Rattle.mv_wait.proofs.Waits.{AreIdle, rest_is_none, idle_at_rest, idle_after, armed_more, event_keeps, arm_step, distinct_rest}
+use Rattle.mv_wait.proofs.Waits.{AreIdle, rest_is_none, idle_at_rest, idle_after, armed_more, event_keeps, arm_step, distinct_later}
 use Rattle.mv_wait.proofs.station.Station.arm_all.Goals as goal
 
 pub loop-ecb-init : goal.loop-ecb-init
@@ -49,14 +49,14 @@ loop-ecb-preserved g c =
     let e = get_or es i 0 in
     let own = own_one c.args.self.now.config c.args.self.now.config t.number c.args.task.now.number es i
     refl went.same.number c.requires.own below in
-    let rest : drop i es ≡ e ∷ drop (i + 1) es = drop_more es i 0 below in
-    let distinct : AreDistinct (e ∷ drop (i + 1) es) = subst AreDistinct rest (distinct_rest i es c.requires.distinct) in
-    let idle : AreIdle t.log (e ∷ drop (i + 1) es) = subst (AreIdle t.log) rest since.idle in
+    let parts : drop i es ≡ e ∷ drop (i + 1) es = drop_more es i 0 below in
+    let distinct : AreDistinct (e ∷ drop (i + 1) es) = subst AreDistinct parts (distinct_later i es c.requires.distinct) in
+    let idle : AreIdle t.log (e ∷ drop (i + 1) es) = subst (AreIdle t.log) parts since.idle in
     let reply = armed_reply c.args.self.now.config t u e c.event.result c.event.ensures.event c.event.ensures.possible own.1 idle.0
     (one_of (λ n. (kept_of t.number t.log).extended n ≡ false) es i 0 since.plain below) in
     let h = c.event.ensures.event.1 in record {
       runs = λ p. runs_then i 1 (arm_all es p) (arm_all (drop i es) p) (arm_all (drop (i + 1) es) p) c.args.task.now t u (since.runs p)
-          (subst (λ ns. Runs 1 (arm_all ns p) (arm_all (drop (i + 1) es) p) t u) (sym rest)
+          (subst (λ ns. Runs 1 (arm_all ns p) (arm_all (drop (i + 1) es) p) t u) (sym parts)
           (arm_step t u e c.event.result (drop (i + 1) es) p c.event.ensures.event reply));
       waits = subst (λ ns. IsArmedFor ns u.log) (sym (take_more es i 0 below))
           (subst (IsArmedFor (take i es ++ e ∷ [])) (sym h.logged)

@@ -44,8 +44,8 @@ length_zero [] e = refl
 length_zero (x ∷ xs) e = absurd (omega arith)
 
 -- what was pending, the next block first
-next_first : (pending rest : List ℕ) (n : ℕ) → pending ≡ rest ++ n ∷ [] → reverse pending ≡ n ∷ reverse rest
-next_first pending rest n is = ap reverse is ∙ reverse-append rest (n ∷ [])
+next_first : (pending later : List ℕ) (n : ℕ) → pending ≡ later ++ n ∷ [] → reverse pending ≡ n ∷ reverse later
+next_first pending later n is = ap reverse is ∙ reverse-append later (n ∷ [])
 
 -- the next block is one of the configuration's, and so is each behind it
 are_blocks : (g : bound.Over) (c : In-Some g)
@@ -69,18 +69,18 @@ loop-next-preserved g c =
     let one = c.post_one.ensures.posted in
     let less = one.event.1.left in
     let room = c.loop-next.invariant.room in
-    let rest = c.pop.new.self.items in
-    let work = next_first c.loop-next.task-inside.pending.items rest c.in-Some.next c.in-Some.ensures.items in
+    let later = c.pop.new.self.items in
+    let work = next_first c.loop-next.task-inside.pending.items later c.in-Some.next c.in-Some.ensures.items in
     let w = subst (Underway config c.args.code c.args.ecb c.args.task.now u.0 c.loop-next.task-inside.caller) work u.2 in
-    let more : posted_next config one.posted ++ reverse rest ≡ reverse c.post_one.new.pending.items =
+    let more : posted_next config one.posted ++ reverse later ≡ reverse c.post_one.new.pending.items =
     sym (ap reverse one.pending
-    ∙ (reverse-append rest (reverse (posted_next config one.posted))
-    ∙ ap (λ xs. xs ++ reverse rest) (reverse-reverse (posted_next config one.posted)))) in record {
+    ∙ (reverse-append later (reverse (posted_next config one.posted))
+    ∙ ap (λ xs. xs ++ reverse later) (reverse-reverse (posted_next config one.posted)))) in record {
       underway = (
         u.0,
         u.1,
         subst (Underway config c.args.code c.args.ecb c.args.task.now u.0 c.post_one.new.caller) more
-            (going config c.args.code c.args.ecb c.args.task.now u.0 c.loop-next.task-inside.caller c.in-Some.next (reverse rest)
+            (going config c.args.code c.args.ecb c.args.task.now u.0 c.loop-next.task-inside.caller c.in-Some.next (reverse later)
             c.post_one.new.caller
             one.posted w one.event one.leads one.few),
       );

@@ -15,7 +15,7 @@ use Rattle.mv_wait.specs.Run.{Runs}
 use Rattle.mv_wait.specs.Waiting.{IsArmedFor, settle_reply, HasLowCode}
 use Rattle.mv_wait.proofs.Parts.{still_of, own_one, one_of}
 use Rattle.mv_wait.proofs.Runs.{runs_none, runs_then, runs_within}
-use Rattle.mv_wait.proofs.Waits.{settled_less, event_keeps, settle_step, slots_more, enough_still, distinct_rest, none_is_rest}
+use Rattle.mv_wait.proofs.Waits.{settled_less, event_keeps, settle_step, slots_more, enough_still, distinct_later, none_is_rest}
 use Rattle.mv_wait.proofs.station.Station.settle_wait.Goals as goal
 
 pub loop-i-init : goal.loop-i-init
@@ -61,20 +61,20 @@ loop-i-preserved g c =
     let s = c.settle.result in
     let e = get_or es i 0 in
     let size = since.size in
-    let rest : drop i es ≡ e ∷ drop (i + 1) es = drop_more es i 0 below in
-    let distinct : AreDistinct (e ∷ drop (i + 1) es) = subst AreDistinct rest (distinct_rest i es c.requires.distinct) in
+    let parts : drop i es ≡ e ∷ drop (i + 1) es = drop_more es i 0 below in
+    let distinct : AreDistinct (e ∷ drop (i + 1) es) = subst AreDistinct parts (distinct_later i es c.requires.distinct) in
     let place = c.settle.ensures.settled.0 in
     let h = c.settle.ensures.settled.1 in
     let more : slots_of (take (i + 1) (set out i s)) ≡ slots_of (take i out) ++ slot_of s ∷ [] = slots_more i out s (omega arith) in
-    let waits : IsArmedFor (e ∷ drop (i + 1) es) t.log = subst (λ ns. IsArmedFor ns t.log) rest since.waits in
+    let waits : IsArmedFor (e ∷ drop (i + 1) es) t.log = subst (λ ns. IsArmedFor ns t.log) parts since.waits in
     let enough : c.args.count ≤ complete_count (slots_of (take i out)) + listed_count t.ready (e ∷ drop (i + 1) es) =
-    subst (λ ns. c.args.count ≤ complete_count (slots_of (take i out)) + listed_count t.ready ns) rest since.enough in record {
+    subst (λ ns. c.args.count ≤ complete_count (slots_of (take i out)) + listed_count t.ready ns) parts since.enough in record {
       runs = λ found f.
           runs_then i 1 (settle_all es found f) (settle_all (drop i es) (found ++ slots_of (take i out)) f)
           (settle_all (drop (i + 1) es) (found ++ slots_of (take (i + 1) (set out i s))) f)
           c.args.task.now t u (since.runs found f)
           (subst (λ ns. Runs 1 (settle_all ns (found ++ slots_of (take i out)) f)
-          (settle_all (drop (i + 1) es) (found ++ slots_of (take (i + 1) (set out i s))) f) t u) (sym rest)
+          (settle_all (drop (i + 1) es) (found ++ slots_of (take (i + 1) (set out i s))) f) t u) (sym parts)
           (subst (λ xs. Runs 1 (settle_all (e ∷ drop (i + 1) es) (found ++ slots_of (take i out)) f) (settle_all (drop (i + 1) es) xs f)
           t u)
           (append_assoc found (slots_of (take i out)) (slot_of s ∷ []) ∙ ap (λ xs. found ++ xs) (sym more))
