@@ -27,56 +27,56 @@ steps_events steps = sum_by step_events steps
 -- ---- the reader: one event for each job
 
 -- what the reader may still do
-abbrev pub reader_rest : Point ReaderAt → ℕ
-reader_rest (At (Entering j more)) = suc more
-reader_rest p = 0
+abbrev pub reader_events : Point ReaderAt → ℕ
+reader_events (At (Entering j more)) = suc more
+reader_events p = 0
 
 -- where it begins
-pub entering_rest : (j more : ℕ) → reader_rest (entering_from j more) ≤ more
-entering_rest j x = grind (arith, common_steps)
+pub entering_few : (j more : ℕ) → reader_events (entering_from j more) ≤ more
+entering_few j x = grind (arith, common_steps)
 
 -- each event takes one
-pub reader_pays : (x : ReaderAt) (r : Reply) → suc (reader_rest (reader_goes x r)) ≤ reader_rest (At x)
+pub reader_pays : (x : ReaderAt) (r : Reply) → suc (reader_events (reader_goes x r)) ≤ reader_events (At x)
 reader_pays (Entering j more) r = grind (arith, common_steps)
 
 -- ---- the writer: two events for each job
 
 -- what the writer may still do
-abbrev pub writer_rest : Point WriterAt → ℕ
-writer_rest (At (Keeping j more ends (Arming e todo))) = suc (length todo) + suc (2 * more)
-writer_rest (At (Keeping j more ends (Settling e todo found))) = suc (length todo) + 2 * more
-writer_rest p = 0
+abbrev pub writer_events : Point WriterAt → ℕ
+writer_events (At (Keeping j more ends (Arming e todo))) = suc (length todo) + suc (2 * more)
+writer_events (At (Keeping j more ends (Settling e todo found))) = suc (length todo) + 2 * more
+writer_events p = 0
 
 module _ (n : ℕ) where
   -- where it begins with a job
-  pub writing_rest : (j more : ℕ) (ends : List ℕ) → writer_rest (writing_from n j more ends) ≤ 2 * more
-  writing_rest j x ends = grind (arith, common_steps)
+  pub writing_few : (j more : ℕ) (ends : List ℕ) → writer_events (writing_from n j more ends) ≤ 2 * more
+  writing_few j x ends = grind (arith, common_steps)
 
   -- where it has found an end, or ended too soon
-  end_rest : (j more : ℕ) (ends : List ℕ) (found : List (Option ℕ)) → writer_rest (end_found n j more ends found) ≤ 2 * more
-  end_rest j more ends found = elim (nat_le 1 (complete_count found)) as
-      (λ b. writer_rest (cond b (lowest_at (λ p end. writing_from n (j + 1) more (ends ++ end ∷ [])) 0 found) TooSoon) ≤ 2 * more) [
-        | true ↦ lowest_keeps (λ p. writer_rest p ≤ 2 * more) (λ p end. writing_from n (j + 1) more (ends ++ end ∷ [])) 0 found
-            (λ i end. writing_rest (j + 1) more (ends ++ end ∷ [])) (omega arith)
+  end_few : (j more : ℕ) (ends : List ℕ) (found : List (Option ℕ)) → writer_events (end_found n j more ends found) ≤ 2 * more
+  end_few j more ends found = elim (nat_le 1 (complete_count found)) as
+      (λ b. writer_events (cond b (lowest_at (λ p end. writing_from n (j + 1) more (ends ++ end ∷ [])) 0 found) TooSoon) ≤ 2 * more) [
+        | true ↦ lowest_keeps (λ p. writer_events p ≤ 2 * more) (λ p end. writing_from n (j + 1) more (ends ++ end ∷ [])) 0 found
+            (λ i end. writing_few (j + 1) more (ends ++ end ∷ [])) (omega arith)
         | false ↦ omega arith
       ]
 
   -- each event takes one
-  pub writer_pays : (x : WriterAt) (r : Reply) → suc (writer_rest (writer_goes n x r)) ≤ writer_rest (At x)
-  writer_pays x r = search (rules, on_settled_keeps, end_rest)
+  pub writer_pays : (x : WriterAt) (r : Reply) → suc (writer_events (writer_goes n x r)) ≤ writer_events (At x)
+  writer_pays x r = search (rules, on_settled_keeps, end_few)
 
 -- ---- the scheduler
 
 module _ (n initiators : ℕ) where
   -- what the jobs that are still to be handed out take
-  abbrev pub jobs_rest : List JobData → ℕ
-  jobs_rest [] = 0
-  jobs_rest (job ∷ jobs) = 5 + 2 * initiators + 2 * length job.after + jobs_rest jobs
+  abbrev pub jobs_events : List JobData → ℕ
+  jobs_events [] = 0
+  jobs_events (job ∷ jobs) = 5 + 2 * initiators + 2 * length job.after + jobs_events jobs
 
   -- what a stage takes
-  abbrev pub stage_rest : Stage → ℕ
-  stage_rest (Dispatching j jobs) = jobs_rest jobs + 4 * initiators
-  stage_rest (Dismissing i more) = 4 * more
+  abbrev pub stage_events : Stage → ℕ
+  stage_events (Dispatching j jobs) = jobs_events jobs + 4 * initiators
+  stage_events (Dismissing i more) = 4 * more
 
   -- how many blocks are waited for, and what comes behind the wait
   abbrev block_count : Awaited → ℕ
@@ -87,69 +87,69 @@ module _ (n initiators : ℕ) where
 
   -- what comes behind a wait
   abbrev behind_wait : Awaited → ℕ
-  behind_wait (ForEntry j job jobs) = 2 * length job.after + (3 + 2 * initiators + (jobs_rest jobs + 4 * initiators))
-  behind_wait (ForEnds j job jobs) = 3 + 2 * initiators + (jobs_rest jobs + 4 * initiators)
-  behind_wait (ForIdle j job jobs skipped) = 2 + (jobs_rest jobs + 4 * initiators)
+  behind_wait (ForEntry j job jobs) = 2 * length job.after + (3 + 2 * initiators + (jobs_events jobs + 4 * initiators))
+  behind_wait (ForEnds j job jobs) = 3 + 2 * initiators + (jobs_events jobs + 4 * initiators)
+  behind_wait (ForIdle j job jobs skipped) = 2 + (jobs_events jobs + 4 * initiators)
   behind_wait (ToDismiss i more) = 2 + 4 * more
 
   -- what the scheduler may still do
-  abbrev pub scheduler_rest : Point SchedulerAt → ℕ
-  scheduler_rest (At (Waits a (Arming e todo))) = suc (length todo) + (block_count a + behind_wait a)
-  scheduler_rest (At (Waits a (Settling e todo found))) = suc (length todo) + behind_wait a
-  scheduler_rest (At (Extends j job jobs skipped)) = 3 + 2 * initiators + (jobs_rest jobs + 4 * initiators)
-  scheduler_rest (At (Clears i g code after)) = 2 + stage_rest after
-  scheduler_rest (At (Releases i g code after)) = 1 + stage_rest after
-  scheduler_rest p = 0
+  abbrev pub scheduler_events : Point SchedulerAt → ℕ
+  scheduler_events (At (Waits a (Arming e todo))) = suc (length todo) + (block_count a + behind_wait a)
+  scheduler_events (At (Waits a (Settling e todo found))) = suc (length todo) + behind_wait a
+  scheduler_events (At (Extends j job jobs skipped)) = 3 + 2 * initiators + (jobs_events jobs + 4 * initiators)
+  scheduler_events (At (Clears i g code after)) = 2 + stage_events after
+  scheduler_events (At (Releases i g code after)) = 1 + stage_events after
+  scheduler_events p = 0
 
   -- so many blocks are waited for
   blocks : (a : Awaited) → length (awaited_blocks n initiators a) ≡ block_count a
   blocks a = grind (arith, common_steps, length-map, length-map-range_with_len)
 
   -- where it begins a stage
-  pub stage_starts : (after : Stage) → scheduler_rest (stage_at n initiators after) ≤ stage_rest after
+  pub stage_starts : (after : Stage) → scheduler_events (stage_at n initiators after) ≤ stage_events after
   stage_starts x = grind (arith, common_steps)
 
   -- where a job was entered
-  ends_rest : (j : ℕ) (name : List ℕ) (after : List After) (steps : List Step) (jobs : List JobData)
-      → scheduler_rest (ends_at n j (record { name = name; after = after; steps = steps }) jobs)
-      ≤ 2 * length after + (3 + 2 * initiators + (jobs_rest jobs + 4 * initiators))
-  ends_rest j name x steps jobs = grind (arith, common_steps)
+  ends_few : (j : ℕ) (name : List ℕ) (after : List After) (steps : List Step) (jobs : List JobData)
+      → scheduler_events (ends_at n j (record { name = name; after = after; steps = steps }) jobs)
+      ≤ 2 * length after + (3 + 2 * initiators + (jobs_events jobs + 4 * initiators))
+  ends_few j name x steps jobs = grind (arith, common_steps)
 
   -- where a wait has found enough
-  found_rest : (a : Awaited) (found : List (Option ℕ)) → scheduler_rest (found_at n a found) ≤ behind_wait a
-  found_rest (ForEntry j job jobs) found =
-      lowest_keeps (λ p. scheduler_rest p ≤ behind_wait (ForEntry j job jobs)) (λ p code. ends_at n j job jobs) 0 found
-      (λ p code. ends_rest j job.name job.after job.steps jobs) (omega arith)
-  found_rest (ForEnds j job jobs) found = omega arith
-  found_rest (ForIdle j job jobs skipped) found =
-      lowest_keeps (λ p. scheduler_rest p ≤ behind_wait (ForIdle j job jobs skipped)) _ 0 found (λ i g. omega arith) (omega arith)
-  found_rest (ToDismiss i more) found =
-      lowest_keeps (λ p. scheduler_rest p ≤ behind_wait (ToDismiss i more)) _ 0 found (λ p g. omega arith) (omega arith)
+  found_few : (a : Awaited) (found : List (Option ℕ)) → scheduler_events (found_at n a found) ≤ behind_wait a
+  found_few (ForEntry j job jobs) found =
+      lowest_keeps (λ p. scheduler_events p ≤ behind_wait (ForEntry j job jobs)) (λ p code. ends_at n j job jobs) 0 found
+      (λ p code. ends_few j job.name job.after job.steps jobs) (omega arith)
+  found_few (ForEnds j job jobs) found = omega arith
+  found_few (ForIdle j job jobs skipped) found =
+      lowest_keeps (λ p. scheduler_events p ≤ behind_wait (ForIdle j job jobs skipped)) _ 0 found (λ i g. omega arith) (omega arith)
+  found_few (ToDismiss i more) found =
+      lowest_keeps (λ p. scheduler_events p ≤ behind_wait (ToDismiss i more)) _ 0 found (λ p g. omega arith) (omega arith)
 
   -- where blocks are still to be settled
-  settling_rest : (a : Awaited) (es : List ℕ) (found : List (Option ℕ))
-      → scheduler_rest (settling_from n a es found) ≤ length es + behind_wait a
-  settling_rest a es found = grind (arith, common_steps, found_rest)
+  settling_few : (a : Awaited) (es : List ℕ) (found : List (Option ℕ))
+      → scheduler_events (settling_from n a es found) ≤ length es + behind_wait a
+  settling_few a es found = grind (arith, common_steps, found_few)
 
   -- where blocks are still to be armed
-  arming_rest : (a : Awaited) (es : List ℕ) → scheduler_rest (arming_from n initiators a es) ≤ length es + (block_count a + behind_wait a)
-  arming_rest a es = grind (arith, common_steps, settling_rest, blocks)
+  arming_few : (a : Awaited) (es : List ℕ) → scheduler_events (arming_from n initiators a es) ≤ length es + (block_count a + behind_wait a)
+  arming_few a es = grind (arith, common_steps, settling_few, blocks)
 
   -- where a wait begins
-  first_rest : (a : Awaited) (es : List ℕ) → scheduler_rest (arming_first a es) ≤ length es + (block_count a + behind_wait a)
-  first_rest a x = grind (arith, common_steps)
+  first_few : (a : Awaited) (es : List ℕ) → scheduler_events (arming_first a es) ≤ length es + (block_count a + behind_wait a)
+  first_few a x = grind (arith, common_steps)
 
   -- each event takes one
-  pub scheduler_pays : (x : SchedulerAt) (r : Reply) → suc (scheduler_rest (scheduler_goes n initiators x r)) ≤ scheduler_rest (At x)
-  scheduler_pays (Waits a (Arming e todo)) r = grind (arith, common_steps, on_armed_keeps, initiators, arming_rest)
-  scheduler_pays (Waits a (Settling e todo found)) r = grind (arith, common_steps, on_settled_keeps, settling_rest)
-  scheduler_pays (Extends j job jobs skipped) (Reply.Ecb EcbReply.Armed) = search (rules, ForIdle, initiators, first_rest, blocks)
+  pub scheduler_pays : (x : SchedulerAt) (r : Reply) → suc (scheduler_events (scheduler_goes n initiators x r)) ≤ scheduler_events (At x)
+  scheduler_pays (Waits a (Arming e todo)) r = grind (arith, common_steps, on_armed_keeps, initiators, arming_few)
+  scheduler_pays (Waits a (Settling e todo found)) r = grind (arith, common_steps, on_settled_keeps, settling_few)
+  scheduler_pays (Extends j job jobs skipped) (Reply.Ecb EcbReply.Armed) = search (rules, ForIdle, initiators, first_few, blocks)
   scheduler_pays x r = grind (arith, common_steps)
 
   -- all jobs together
-  pub jobs_rest_is : (jobs : List JobData) → jobs_rest jobs ≡ 5 * length jobs + 2 * length jobs * initiators + 2 * after_parts jobs
-  jobs_rest_is [] = omega arith
-  jobs_rest_is (job ∷ jobs) = grind (arith, common_steps, jobs_rest_is jobs, sum_by-cons)
+  pub jobs_events_is : (jobs : List JobData) → jobs_events jobs ≡ 5 * length jobs + 2 * length jobs * initiators + 2 * after_parts jobs
+  jobs_events_is [] = omega arith
+  jobs_events_is (job ∷ jobs) = grind (arith, common_steps, jobs_events_is jobs, sum_by-cons)
 
 -- ---- jobs that were not named before
 
@@ -200,52 +200,52 @@ module _ (deck : List JobData) where
   behind_job run = 4 + rounds_to_come deck (run.before ++ run.job ∷ [])
 
   -- what an initiator may still do
-  abbrev pub initiator_rest : Point InitiatorAt → ℕ
-  initiator_rest (At Opening) = 5 + rounds_to_come deck []
-  initiator_rest (At (Offering more before g)) = 4 + rounds_to_come deck before
-  initiator_rest (At (Pausing more before g)) = 3 + rounds_to_come deck before
-  initiator_rest (At (Resuming more before g)) = 2 + rounds_to_come deck before
-  initiator_rest (At (InJob run (Obtaining hand latch mode steps))) = 6 + (steps_events steps + behind_job run)
-  initiator_rest (At (InJob run (Confirming hand latch mode id steps))) = 5 + (steps_events steps + behind_job run)
-  initiator_rest (At (InJob run (Freeing hand latch id steps))) = 5 + (steps_events steps + behind_job run)
-  initiator_rest (At (InJob run (Writing hand volume amount number steps))) = 5 + (steps_events steps + behind_job run)
-  initiator_rest (At (InJob run (Reading hand volume (ToAdd amount) steps))) = 6 + (steps_events steps + behind_job run)
-  initiator_rest (At (InJob run (Reading hand volume ToCompare steps))) = 6 + (steps_events steps + behind_job run)
-  initiator_rest (At (InJob run (Reading hand volume (Compares number) steps))) = 5 + (steps_events steps + behind_job run)
-  initiator_rest (At (InJob run (Purging hand code))) = 4 + behind_job run
-  initiator_rest (At (InJob run (Ending OfJob code counts))) = 3 + behind_job run
-  initiator_rest (At (InJob run (Ending ForScheduler code counts))) = 2 + behind_job run
-  initiator_rest (At (InJob run (Ending ForWriter code counts))) = 1 + behind_job run
-  initiator_rest (At (Closing g)) = 1
-  initiator_rest p = 0
+  abbrev pub initiator_events : Point InitiatorAt → ℕ
+  initiator_events (At Opening) = 5 + rounds_to_come deck []
+  initiator_events (At (Offering more before g)) = 4 + rounds_to_come deck before
+  initiator_events (At (Pausing more before g)) = 3 + rounds_to_come deck before
+  initiator_events (At (Resuming more before g)) = 2 + rounds_to_come deck before
+  initiator_events (At (InJob run (Obtaining hand latch mode steps))) = 6 + (steps_events steps + behind_job run)
+  initiator_events (At (InJob run (Confirming hand latch mode id steps))) = 5 + (steps_events steps + behind_job run)
+  initiator_events (At (InJob run (Freeing hand latch id steps))) = 5 + (steps_events steps + behind_job run)
+  initiator_events (At (InJob run (Writing hand volume amount number steps))) = 5 + (steps_events steps + behind_job run)
+  initiator_events (At (InJob run (Reading hand volume (ToAdd amount) steps))) = 6 + (steps_events steps + behind_job run)
+  initiator_events (At (InJob run (Reading hand volume ToCompare steps))) = 6 + (steps_events steps + behind_job run)
+  initiator_events (At (InJob run (Reading hand volume (Compares number) steps))) = 5 + (steps_events steps + behind_job run)
+  initiator_events (At (InJob run (Purging hand code))) = 4 + behind_job run
+  initiator_events (At (InJob run (Ending OfJob code counts))) = 3 + behind_job run
+  initiator_events (At (InJob run (Ending ForScheduler code counts))) = 2 + behind_job run
+  initiator_events (At (InJob run (Ending ForWriter code counts))) = 1 + behind_job run
+  initiator_events (At (Closing g)) = 1
+  initiator_events p = 0
 
   -- where a round begins
-  rounds_rest : (more : ℕ) (before : List ℕ) (g : ℕ) → initiator_rest (rounds_from more before g) ≤ 4 + rounds_to_come deck before
-  rounds_rest more before g = grind (arith, common_steps)
+  rounds_few : (more : ℕ) (before : List ℕ) (g : ℕ) → initiator_events (rounds_from more before g) ≤ 4 + rounds_to_come deck before
+  rounds_few more before g = grind (arith, common_steps)
 
   -- where a job's steps are to be done
-  steps_rest : (run : Running) (hand : Hand) (steps : List Step)
-      → initiator_rest (steps_at run hand steps) ≤ 4 + (steps_events steps + behind_job run)
-  steps_rest run hand [] = grind (arith, common_steps)
-  steps_rest run hand (first ∷ steps) = grind (arith, common_steps, sum_by-cons, steps_rest run hand steps)
+  steps_few : (run : Running) (hand : Hand) (steps : List Step)
+      → initiator_events (steps_at run hand steps) ≤ 4 + (steps_events steps + behind_job run)
+  steps_few run hand [] = grind (arith, common_steps)
+  steps_few run hand (first ∷ steps) = grind (arith, common_steps, sum_by-cons, steps_few run hand steps)
 
   -- where a job begins
-  start_rest : (skipped : Bool) (run : Running) (job : JobData)
-      → initiator_rest (job_start skipped run job) ≤ 4 + (steps_events job.steps + behind_job run)
-  start_rest skipped run job = grind (arith, common_steps, steps_rest)
+  start_few : (skipped : Bool) (run : Running) (job : JobData)
+      → initiator_events (job_start skipped run job) ≤ 4 + (steps_events job.steps + behind_job run)
+  start_few skipped run job = grind (arith, common_steps, steps_few)
 
   -- where a code was given
-  given_rest : (more : ℕ) (before : List ℕ) (code g : ℕ)
-      → initiator_rest (given_at deck more before code g) ≤ 1 + rounds_to_come deck before
-  given_rest more before code g =
-      given_lands (λ p. initiator_rest p ≤ 1 + rounds_to_come deck before) (omega arith) deck more before code g (λ z. omega arith)
+  code_few : (more : ℕ) (before : List ℕ) (code g : ℕ)
+      → initiator_events (given_at deck more before code g) ≤ 1 + rounds_to_come deck before
+  code_few more before code g =
+      given_lands (λ p. initiator_events p ≤ 1 + rounds_to_come deck before) (omega arith) deck more before code g (λ z. omega arith)
       (λ named left e t m.
-      let le = start_rest named.skipped (running named before (suc left) g) (job_at deck named.job) in
+      let le = start_few named.skipped (running named before (suc left) g) (job_at deck named.job) in
       let taken = round_taken deck before named.job (named_is (length deck) code named e).0 t in omega arith)
 
   -- each event takes one
-  pub initiator_pays : (x : InitiatorAt) (r : Reply) → suc (initiator_rest (initiator_goes deck x r)) ≤ initiator_rest (At x)
-  initiator_pays x r = grind (arith, common_steps, rounds_rest, given_rest, steps_rest)
+  pub initiator_pays : (x : InitiatorAt) (r : Reply) → suc (initiator_events (initiator_goes deck x r)) ≤ initiator_events (At x)
+  initiator_pays x r = grind (arith, common_steps, rounds_few, code_few, steps_few)
 
 -- ---- how a caller's part grows by an entry
 
@@ -255,14 +255,14 @@ paid : (k b : ℕ) (past : List Entry) (e : Entry) (before after : ℕ) → e.ca
 paid k b past e before after same pays le = grind (arith, common_steps)
 
 -- an entry of another caller takes nothing
-kept : (k b : ℕ) (past : List Entry) (e : Entry) (rest : ℕ) → (e.caller ≡ k → ⊥)
-    → length (of k past) + rest ≤ b → length (of k (past ++ e ∷ [])) + rest ≤ b
-kept k b past e rest other le = grind (arith, common_steps)
+kept : (k b : ℕ) (past : List Entry) (e : Entry) (left : ℕ) → (e.caller ≡ k → ⊥)
+    → length (of k past) + left ≤ b → length (of k (past ++ e ∷ [])) + left ≤ b
+kept k b past e left other le = grind (arith, common_steps)
 
 -- what a task's program says is said at a point, where it may still do something
-one_left : {X : Type 0} (f : X → Program (List ℕ)) (rest : Point X → ℕ) (q : Program (List ℕ)) (p : Point X) (o : Object) (op : Op)
-    → q ≡ program_at f p → asks q ≡ Some (o, op) → ((x : X) → 1 ≤ rest (At x)) → 1 ≤ rest p
-one_left f rest q p o op e a some = grind (arith, common_steps)
+one_left : {X : Type 0} (f : X → Program (List ℕ)) (events : Point X → ℕ) (q : Program (List ℕ)) (p : Point X) (o : Object) (op : Op)
+    → q ≡ program_at f p → asks q ≡ Some (o, op) → ((x : X) → 1 ≤ events (At x)) → 1 ≤ events p
+one_left f events q p o op e a some = grind (arith, common_steps)
 
 -- ---- what each task has made and may still make is within its budget
 
@@ -278,39 +278,39 @@ module _ (deck : List JobData) (initiators : ℕ) where
   budget_is k w = grind (arith, common_steps)
 
   -- what each may still do
-  abbrev rest_of : Points → {k : ℕ} → Who initiators k → ℕ
-  rest_of t (is_reader e) = reader_rest t.reader
-  rest_of t (is_scheduler e) = scheduler_rest (length deck) initiators t.scheduler
-  rest_of t (is_initiator i lt e) = initiator_rest deck (t.initiators i)
-  rest_of t (is_writer e) = writer_rest t.writer
+  abbrev events_of : Points → {k : ℕ} → Who initiators k → ℕ
+  events_of t (is_reader e) = reader_events t.reader
+  events_of t (is_scheduler e) = scheduler_events (length deck) initiators t.scheduler
+  events_of t (is_initiator i lt e) = initiator_events deck (t.initiators i)
+  events_of t (is_writer e) = writer_events t.writer
 
   abbrev pub Within : Points → List Entry → Type 0
-  Within t past = (k : ℕ) (w : Who initiators k) → length (of k past) + rest_of t w ≤ budget_of w
+  Within t past = (k : ℕ) (w : Who initiators k) → length (of k past) + events_of t w ≤ budget_of w
 
   -- before the first event
   within_start : Within (start_points deck initiators) []
-  within_start k (is_reader e) = let le = entering_rest 0 (length deck) in omega arith
+  within_start k (is_reader e) = let le = entering_few 0 (length deck) in omega arith
   within_start k (is_scheduler e) =
       let le = stage_starts (length deck) initiators (Dispatching 0 deck) in
-      omega (arith, jobs_rest_is (length deck) initiators deck)
+      omega (arith, jobs_events_is (length deck) initiators deck)
   within_start k (is_initiator i lt e) = omega (arith, all_rounds deck)
-  within_start k (is_writer e) = let le = writing_rest (length deck) 0 (length deck) [] in omega arith
+  within_start k (is_writer e) = let le = writing_few (length deck) 0 (length deck) [] in omega arith
 
   -- each event takes one of what its caller may still do, and none of what the others may
   pays : (t u : Points) (e : Entry) → Move deck initiators t e u → (k : ℕ) (w : Who initiators k) → e.caller ≡ k
-      → suc (rest_of u w) ≤ rest_of t w
+      → suc (events_of u w) ≤ events_of t w
   pays t u e m k w same =
       grind (arith, common_steps, reads, reader_pays, schedules, scheduler_pays, initiates, initiator_pays, writes, writer_pays)
 
   stays : (t u : Points) (e : Entry) → Move deck initiators t e u → (k : ℕ) (w : Who initiators k) → (e.caller ≡ k → ⊥)
-      → rest_of u w ≡ rest_of t w
+      → events_of u w ≡ events_of t w
   stays t u e m k w other = grind (arith, common_steps)
 
   -- and behind each
   within_next : (t u : Points) (past : List Entry) (e : Entry) → Move deck initiators t e u → Within t past → Within u (past ++ e ∷ [])
   within_next t u past e m h k w = elim (cases_eq e.caller k) [
-    | inl same ↦ paid k (budget_of w) past e (rest_of t w) (rest_of u w) same (pays t u e m k w same) (h k w)
-    | inr other ↦ kept k (budget_of w) past e (rest_of u w) other
+    | inl same ↦ paid k (budget_of w) past e (events_of t w) (events_of u w) same (pays t u e m k w same) (h k w)
+    | inr other ↦ kept k (budget_of w) past e (events_of u w) other
         (subst (λ n. length (of k past) + n ≤ budget_of w) (sym (stays t u e m k w other)) (h k w))
   ]
 
@@ -330,18 +330,18 @@ module _ (deck : List JobData) (initiators : ℕ) where
     abbrev says : ℕ → Program (List ℕ)
     says k = left_in (spool_setup deck initiators) (task_program deck initiators) k es
 
-    some_rest : (k : ℕ) (o : Object) (op : Op) (w : Who initiators k) → asks (says k) ≡ Some (o, op) → 1 ≤ rest_of st.points w
-    some_rest k o op (is_reader e) a = grind (arith, common_steps, one_left, st, kept, reader_pays)
-    some_rest k o op (is_scheduler e) a = grind (arith, common_steps, one_left, st, kept, scheduler_pays)
-    some_rest k o op (is_initiator i lt e) a =
-        one_left (initiator_program (spool_setup deck initiators) deck i (st.kept (initiator i))) (initiator_rest deck)
+    some_event : (k : ℕ) (o : Object) (op : Op) (w : Who initiators k) → asks (says k) ≡ Some (o, op) → 1 ≤ events_of st.points w
+    some_event k o op (is_reader e) a = grind (arith, common_steps, one_left, st, kept, reader_pays)
+    some_event k o op (is_scheduler e) a = grind (arith, common_steps, one_left, st, kept, scheduler_pays)
+    some_event k o op (is_initiator i lt e) a =
+        one_left (initiator_program (spool_setup deck initiators) deck i (st.kept (initiator i))) (initiator_events deck)
         (says (initiator i)) (st.points.initiators i) o op (st.tasks.at_initiator i lt) (subst (λ k. asks (says k) ≡ Some (o, op)) e a)
         (λ x. let p = initiator_pays deck x some_reply in omega arith)
-    some_rest k o op (is_writer e) a = grind (arith, common_steps, one_left, st, kept, writer_pays)
+    some_event k o op (is_writer e) a = grind (arith, common_steps, one_left, st, kept, writer_pays)
 
     pub within_budgets : IsWithinBudgets deck initiators es
     within_budgets = record {
       made = λ k lt. omega (arith, within k (who initiators k lt), budget_is k (who initiators k lt));
       next = λ k o op lt a. omega
-          (arith, within k (who initiators k lt), budget_is k (who initiators k lt), some_rest k o op (who initiators k lt) a);
+          (arith, within k (who initiators k lt), budget_is k (who initiators k lt), some_event k o op (who initiators k lt) a);
     }
