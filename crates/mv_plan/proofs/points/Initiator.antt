@@ -16,7 +16,7 @@ use Rattle.mv_plan.proofs.points.Points.{Opening, Offering, Pausing, Resuming, O
 use Rattle.mv_plan.proofs.points.Points.{Compares, Purging, Ending, initiator_asks, initiator_goes, rounds_after, steps_at, running, InJob}
 use Rattle.mv_plan.proofs.points.Points.{job_start, given_at, Astray, empty_hand, ToCompare, OfJob, Closing, rounds_from, named_at}
 use Rattle.mv_plan.proofs.points.Points.{rounds_land, given_lands, ForScheduler, ForWriter}
-use Rattle.mv_plan.proofs.points.Programs.{keeps, program_at, rounds_rest, given_rest, ending, stepping, steps_rest, obtained_rest}
+use Rattle.mv_plan.proofs.points.Programs.{keeps, program_at, rounds_later, given_later, ending, stepping, steps_later, obtained_later}
 use Rattle.mv_plan.proofs.points.Programs.{initiator_program, post_is_now, IsPlainPost}
 use Rattle.mv_calls.specs.LatchCalls.{obtain_refusal}
 use Rattle.mv_calls.specs.Pauses.{gift_of, allocate}
@@ -358,12 +358,12 @@ module _ (c : Setup) (deck : List JobData) (initiators i : ℕ) (facts : Facts c
   kept_by kept x r = keeps kept (initiator_asks (length deck) i x) r
 
   rounds_enter : (more : ℕ) (before : List ℕ) (g : ℕ) (kept : Kept)
-      → rounds_rest c deck i more before g kept ≡ program_at (initiator_program c deck i kept) (rounds_from more before g)
+      → rounds_later c deck i more before g kept ≡ program_at (initiator_program c deck i kept) (rounds_from more before g)
   rounds_enter zero before g kept = refl
   rounds_enter (suc more) before g kept = search (rules, post_is_now, some_blocks)
 
   rounds_after_enter : (run : Running) (kept : Kept)
-      → rounds_rest c deck i run.more (run.before ++ run.job ∷ []) run.generation kept ≡ program_at (initiator_program c deck i kept)
+      → rounds_later c deck i run.more (run.before ++ run.job ∷ []) run.generation kept ≡ program_at (initiator_program c deck i kept)
       (rounds_after run)
   rounds_after_enter run kept = rounds_enter run.more (run.before ++ run.job ∷ []) run.generation kept
 
@@ -395,7 +395,7 @@ module _ (c : Setup) (deck : List JobData) (initiators i : ℕ) (facts : Facts c
   -- a job's steps
   steps_enter : (run : Running) (hand : Hand) (steps : List Step) (kept : Kept) → IsStepping deck run hand steps
       → InitiatorKept i (standing_of (initiator i) run.job hand.holding) kept
-      → stepping c deck i run kept (steps_rest c run hand steps kept) ≡ program_at (initiator_program c deck i kept)
+      → stepping c deck i run kept (steps_later c run hand steps kept) ≡ program_at (initiator_program c deck i kept)
       (steps_at run hand steps)
   steps_enter run hand (Print text ∷ steps) kept s k =
       steps_enter run hand steps kept (step_done deck run hand (Print text) steps tt s.sound s) k
@@ -404,7 +404,7 @@ module _ (c : Setup) (deck : List JobData) (initiators i : ℕ) (facts : Facts c
       (going_on kept (unless_refused r
       (Do Latches (Op.Latch (LatchOp.Obtain latch (run.job + 1) mode LatchForm.Waiting))
       (λ h. on_latch h.entry.reply (obtained latch LatchForm.Waiting))))
-      (unrefused (granted_as (obtained_rest c run hand latch steps))))) (obtain_is_free kept run hand latch mode steps s k)
+      (unrefused (granted_as (obtained_later c run hand latch steps))))) (obtain_is_free kept run hand latch mode steps s k)
   steps_enter run hand steps kept s k = grind (arith, common_steps)
 
   start_enters : (named : Named) (skipped : Bool) (before : List ℕ) (more g : ℕ) (kept : Kept) → named.skipped ≡ skipped
@@ -436,7 +436,7 @@ module _ (c : Setup) (deck : List JobData) (initiators i : ℕ) (facts : Facts c
   named_enters code more before g slot kept e round k = grind (arith, common_steps)
 
   given_enters : (more : ℕ) (before : List ℕ) (code g : ℕ) (kept : Kept) → IsRound (length deck) more before → InitiatorKept i [] kept
-      → given_rest c deck i more before (gift_of (initiator i) code g) kept ≡ program_at (initiator_program c deck i kept)
+      → given_later c deck i more before (gift_of (initiator i) code g) kept ≡ program_at (initiator_program c deck i kept)
       (given_at deck more before code g)
   given_enters more before code g kept round k =
       elim (code == 0) as (λ b. (if b then accepted (deallocate c (token_of (initiator i) g)) (λ closed. finished [])
@@ -479,7 +479,7 @@ module _ (c : Setup) (deck : List JobData) (initiators i : ℕ) (facts : Facts c
         steps_enter run (hand_with hand latch mode id) steps _ (obtained_stand deck run hand latch mode id steps s.0)
         (record { caller = s.1.caller; stand = s.1.stand })
     goes (InJob run (Freeing hand latch id steps)) (Reply.Latch (LatchReply.Released granted)) s f =
-        ap (λ p. stepping c deck i run now (going_on now p (unrefused (λ granted. steps_rest c run hand steps))))
+        ap (λ p. stepping c deck i run now (going_on now p (unrefused (λ granted. steps_later c run hand steps))))
         (nothing_posted c h.wakes kept (Done (Ok granted)) f) ∙ steps_enter run (hand_without hand latch) steps now
         (freed_stand deck run hand latch steps s.0.0) (freed_kept i kept run hand latch id s.0.0.holds s.0.1 s.1 refl refl) where
           now : Kept

@@ -42,11 +42,11 @@ posting_next c code e = post_within (suc (length c.owners - 2)) c code e
 
 -- ---- the reader, for any number of jobs
 
-abbrev pub reading_rest : Setup → ℕ → ℕ → Call (List ℕ)
-reading_rest c j more = for_each (range_with_len j more) (λ j. post c (entered j) 0) (finished [])
+abbrev pub reading_later : Setup → ℕ → ℕ → Call (List ℕ)
+reading_later c j more = for_each (range_with_len j more) (λ j. post c (entered j) 0) (finished [])
 
 abbrev pub reader_program : Setup → Kept → ReaderAt → Program (List ℕ)
-reader_program c kept (Entering j more) = going_on kept (posting_now c (entered j) 0) (λ posted. reading_rest c (j + 1) more)
+reader_program c kept (Entering j more) = going_on kept (posting_now c (entered j) 0) (λ posted. reading_later c (j + 1) more)
 
 -- ---- a wait
 
@@ -103,40 +103,40 @@ scheduler_program c n initiators kept (Releases i g code after) = staged c n ini
 
 -- ---- the writer
 
-abbrev pub writing_rest : Setup → ℕ → ℕ → ℕ → List ℕ → Call (List ℕ)
-writing_rest c n j more ends = ends_kept c n ends (range_with_len j more)
+abbrev pub writing_later : Setup → ℕ → ℕ → ℕ → List ℕ → Call (List ℕ)
+writing_later c n j more ends = ends_kept c n ends (range_with_len j more)
 
 abbrev pub writer_program : Setup → ℕ → Kept → WriterAt → Program (List ℕ)
 writer_program c n kept (Keeping j more ends w) =
     going_on kept (wait_program 1 (end_for_writer n j ∷ []) w)
-    (unrefused (lowest (λ position end. writing_rest c n (j + 1) more (ends ++ end ∷ [])) 0))
+    (unrefused (lowest (λ position end. writing_later c n (j + 1) more (ends ++ end ∷ [])) 0))
 
 -- ---- initiator i
 
-abbrev pub rounds_rest : Setup → List JobData → ℕ → ℕ → List ℕ → ℕ → Call (List ℕ)
-rounds_rest c deck i more before g = rounds c deck i more before (token_of (initiator i) g)
+abbrev pub rounds_later : Setup → List JobData → ℕ → ℕ → List ℕ → ℕ → Call (List ℕ)
+rounds_later c deck i more before g = rounds c deck i more before (token_of (initiator i) g)
 
 -- what follows a pause that was given a code
-abbrev pub given_rest : Setup → List JobData → ℕ → ℕ → List ℕ → Gift → Call (List ℕ)
-given_rest c deck i more before gift = if gift.code == 0 then accepted (deallocate c gift.next) (λ closed. finished [])
+abbrev pub given_later : Setup → List JobData → ℕ → ℕ → List ℕ → Gift → Call (List ℕ)
+given_later c deck i more before gift = if gift.code == 0 then accepted (deallocate c gift.next) (λ closed. finished [])
     else named_by (job_named (length deck) gift.code) before more (λ named.
     followed (run_job c deck named) (λ counts. rounds c deck i more (before ++ named.job ∷ []) gift.next))
 
--- the rest of a job's end, and then the rounds that are left
+-- what is left of a job's end, and then the rounds that are left
 abbrev pub ending : Setup → List JobData → ℕ → Running → Kept → Program Counts → Program (List ℕ)
-ending c deck i run kept p = going_on kept p (λ counts. rounds_rest c deck i run.more (run.before ++ run.job ∷ []) run.generation)
+ending c deck i run kept p = going_on kept p (λ counts. rounds_later c deck i run.more (run.before ++ run.job ∷ []) run.generation)
 
--- the rest of a job's steps, and then its end
+-- what is left of a job's steps, and then its end
 abbrev pub stepping : Setup → List JobData → ℕ → Running → Kept → Program ℕ → Program (List ℕ)
 stepping c deck i run kept p = ending c deck i run kept
     (going_on kept p (λ code. end_of_job c (run.job + 1) (done (length deck) run.job) code))
 
-abbrev pub steps_rest : Setup → Running → Hand → List Step → Call ℕ
-steps_rest c run hand steps = run_steps c (run.job + 1) hand.requests steps
+abbrev pub steps_later : Setup → Running → Hand → List Step → Call ℕ
+steps_later c run hand steps = run_steps c (run.job + 1) hand.requests steps
 
 -- what follows an obtain
-abbrev pub obtained_rest : Setup → Running → Hand → ℕ → List Step → ℕ → Call ℕ
-obtained_rest c run hand latch steps id = run_steps c (run.job + 1) (with_at hand.requests latch (Some id)) steps
+abbrev pub obtained_later : Setup → Running → Hand → ℕ → List Step → ℕ → Call ℕ
+obtained_later c run hand latch steps id = run_steps c (run.job + 1) (with_at hand.requests latch (Some id)) steps
 
 abbrev pub initiator_program : Setup → List JobData → ℕ → Kept → InitiatorAt → Program (List ℕ)
 initiator_program c deck i kept Opening =
@@ -144,35 +144,35 @@ initiator_program c deck i kept Opening =
     (unrefused (rounds c deck i (length deck + 1) []))
 initiator_program c deck i kept (Offering more before g) =
     going_on kept (posting_now c (idle (length deck) i) g)
-    (λ posted. accepted (pause c (token_of (initiator i) g)) (given_rest c deck i more before))
+    (λ posted. accepted (pause c (token_of (initiator i) g)) (given_later c deck i more before))
 initiator_program c deck i kept (Pausing more before g) =
     going_on kept (Do (Element (initiator i)) (Op.Element (ElementOp.Pause g))
-    (λ h. on_element h.entry.reply (paused (initiator i) g))) (unrefused (given_rest c deck i more before))
+    (λ h. on_element h.entry.reply (paused (initiator i) g))) (unrefused (given_later c deck i more before))
 initiator_program c deck i kept (Resuming more before g) =
     going_on kept (Do (Element (initiator i)) (Op.Element (ElementOp.Resume g))
-    (λ h. on_element h.entry.reply (resumed (initiator i)))) (unrefused (given_rest c deck i more before))
+    (λ h. on_element h.entry.reply (resumed (initiator i)))) (unrefused (given_later c deck i more before))
 initiator_program c deck i kept (InJob run (Obtaining hand latch mode steps)) = stepping c deck i run kept (going_on kept
     (Do Latches (Op.Latch (LatchOp.Obtain latch (run.job + 1) mode LatchForm.Waiting))
     (λ h. on_latch h.entry.reply (obtained latch LatchForm.Waiting)))
-    (unrefused (granted_as (obtained_rest c run hand latch steps))))
+    (unrefused (granted_as (obtained_later c run hand latch steps))))
 initiator_program c deck i kept (InJob run (Confirming hand latch mode id steps)) = stepping c deck i run kept (going_on kept
     (Do Latches (Op.Latch (LatchOp.Confirm latch id)) (λ h. on_latch h.entry.reply (confirmed id)))
-    (unrefused (granted_as (obtained_rest c run hand latch steps))))
+    (unrefused (granted_as (obtained_later c run hand latch steps))))
 initiator_program c deck i kept (InJob run (Freeing hand latch id steps)) = stepping c deck i run kept (going_on kept
     (Do Latches (Op.Latch (LatchOp.Release latch id false)) (λ h. on_latch h.entry.reply (let_go c false h.wakes kept)))
-    (unrefused (λ granted. steps_rest c run hand steps)))
+    (unrefused (λ granted. steps_later c run hand steps)))
 initiator_program c deck i kept (InJob run (Reading hand volume (ToAdd amount) steps)) = stepping c deck i run kept (going_on kept
     (Do (Volume volume) (Op.Volume VolumeOp.Read) (λ h. on_volume h.entry.reply the_value))
-    (counted volume amount (steps_rest c run hand steps)))
+    (counted volume amount (steps_later c run hand steps)))
 initiator_program c deck i kept (InJob run (Writing hand volume amount number steps)) = stepping c deck i run kept (going_on kept
     (Do (Volume volume) (Op.Volume (VolumeOp.Write (number + amount))) (λ h. on_volume h.entry.reply stored))
-    (λ stored. steps_rest c run hand steps))
+    (λ stored. steps_later c run hand steps))
 initiator_program c deck i kept (InJob run (Reading hand volume ToCompare steps)) = stepping c deck i run kept (going_on kept
     (Do (Volume volume) (Op.Volume VolumeOp.Read) (λ h. on_volume h.entry.reply the_value))
-    (λ once. followed (read_volume volume) (λ again. steps_rest c run hand steps)))
+    (λ once. followed (read_volume volume) (λ again. steps_later c run hand steps)))
 initiator_program c deck i kept (InJob run (Reading hand volume (Compares number) steps)) = stepping c deck i run kept (going_on kept
     (Do (Volume volume) (Op.Volume VolumeOp.Read) (λ h. on_volume h.entry.reply the_value))
-    (λ again. steps_rest c run hand steps))
+    (λ again. steps_later c run hand steps))
 initiator_program c deck i kept (InJob run (Purging hand code)) = ending c deck i run kept (and_then
     (Do Latches (Op.Latch (LatchOp.Purge (run.job + 1))) (λ h. on_latch h.entry.reply (purged c h.wakes kept)))
     (λ counts. wake_posted c (Some (done (length deck) run.job)) code kept (Done counts)))
@@ -261,10 +261,10 @@ keeps kept ask r = kept_after kept ask.0 ask.1 r
 -- ---- the reader, from point to point
 
 pub reader_enters : (c : Setup) (j more : ℕ) (kept : Kept) → 1 ≤ length c.owners
-    → reading_rest c j more kept ≡ program_at (reader_program c kept) (entering_from j more)
+    → reading_later c j more kept ≡ program_at (reader_program c kept) (entering_from j more)
 reader_enters c j zero kept le = refl
 reader_enters c j (suc more) kept le =
-    ap (λ p. going_on kept p (λ posted. reading_rest c (j + 1) more)) (post_is_now c (entered j) 0 kept le)
+    ap (λ p. going_on kept p (λ posted. reading_later c (j + 1) more)) (post_is_now c (entered j) 0 kept le)
 
 pub reader_says : (c : Setup) (kept : Kept) (x : ReaderAt) → asks (reader_program c kept x) ≡ Some (reader_asks x)
 reader_says c kept (Entering j more) = refl
@@ -294,7 +294,7 @@ IsWriterAt n p = Unit {0}
 
 pub writer_enters : (c : Setup) (n initiators j more : ℕ) (ends : List ℕ) (kept : Kept) → Facts c n initiators
     → WriterKept initiators kept → j + more ≡ n
-    → writing_rest c n j more ends kept ≡ program_at (writer_program c n kept) (writing_from n j more ends)
+    → writing_later c n j more ends kept ≡ program_at (writer_program c n kept) (writing_from n j more ends)
 writer_enters c n initiators j x ends kept facts w e = grind (arith, common_steps)
 
 pub writer_says : (c : Setup) (n : ℕ) (kept : Kept) (x : WriterAt) → asks (writer_program c n kept x) ≡ Some (writer_asks x)
