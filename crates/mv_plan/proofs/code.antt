@@ -16,7 +16,7 @@ use Rattle.mv_plan.proofs.deck.{length_ends}
 next_place : (i : ℕ) → suc (i + 1) ≡ suc i + 1
 next_place i = omega arith
 
--- the first of those that are left, and the rest
+-- the first of those that are left, and those behind it
 pub sum_left : {X : Type 0} (f : X → ℕ) (xs : List X) (i : ℕ) (d : X) → i < length xs
     → sum_by f (drop i xs) ≡ f (get_or xs i d) + sum_by f (drop (i + 1) xs)
 sum_left f (x ∷ xs) (suc i) d lt = sum_left f xs i d (omega arith) ∙ ap (λ k. f (get_or xs i d) + sum_by f (drop k (x ∷ xs))) (next_place i)

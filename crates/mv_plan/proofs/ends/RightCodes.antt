@@ -9,11 +9,11 @@ use Rattle.mv_plan.proofs.Words.{EcbOp, ElementOp}
 use Rattle.mv_plan.proofs.deck.{ArePlannedJobs, is_skipped, IsPlanned, end_by_mark}
 use Rattle.mv_plan.proofs.points.{Point, At, TooSoon, WaitAt, Arming, Settling, Stage, Dispatching, Dismissing, Awaited, ForEntry, ForEnds}
 use Rattle.mv_plan.proofs.points.{ForIdle, ToDismiss, SchedulerAt, Waits, Extends, Clears, Releases, awaited_blocks, awaited_count}
-use Rattle.mv_plan.proofs.points.{scheduler_goes, settling_from, found_at, ends_at, stage_at, lowest_keeps, IsRest, rest_below, rest_sound}
-use Rattle.mv_plan.proofs.points.{IsAwaited, IsWaitAt, IsSchedulerAt, Finished, ReaderAt, Entering, reader_asks, running, scheduler_asks}
-use Rattle.mv_plan.proofs.points.{WriterAt, Keeping, writing_from, end_found, writer_asks, writer_goes, Running, InitiatorAt}
-use Rattle.mv_plan.proofs.points.{initiator_asks, initiator_goes, IsReaderAt, IsWriterAt, IsInitiatorAt, IsEnding, OfRun, Starts, runs_goes}
-use Rattle.mv_plan.proofs.points.{code_held, ForScheduler, ForWriter}
+use Rattle.mv_plan.proofs.points.{scheduler_goes, settling_from, found_at, ends_at, stage_at, lowest_keeps, AreLater, later_below}
+use Rattle.mv_plan.proofs.points.{later_sound, IsAwaited, IsWaitAt, IsSchedulerAt, Finished, ReaderAt, Entering, reader_asks, running}
+use Rattle.mv_plan.proofs.points.{scheduler_asks, WriterAt, Keeping, writing_from, end_found, writer_asks, writer_goes, Running}
+use Rattle.mv_plan.proofs.points.{InitiatorAt, initiator_asks, initiator_goes, IsReaderAt, IsWriterAt, IsInitiatorAt, IsEnding, OfRun}
+use Rattle.mv_plan.proofs.points.{Starts, runs_goes, code_held, ForScheduler, ForWriter}
 use Rattle.mv_plan.proofs.lists.{all_map, all_with}
 use Rattle.mv_plan.proofs.walks.{Points, start_points, HasStanding, KeepsUnder, by_moves, entry_of, block, element, block_reply}
 use Rattle.mv_plan.proofs.ends.Blocks.{complete_moved, held_moved, settled_code, HasEnd, posts_run, posts_ending}
@@ -87,26 +87,26 @@ found_push deck n (part ∷ parts) (p ∷ past) e todo (Some code ∷ found) slo
 found_push deck n (part ∷ parts) (p ∷ past) e todo (None ∷ found) slot at count below f right =
     found_push deck n parts past e todo found slot (cc at) (omega arith) below.1 f right
 
--- ---- the deck's rest
+-- ---- the jobs that are left
 
-pub rest_job : (deck : List JobData) (j : ℕ) (job : JobData) (jobs : List JobData) → IsRest deck j (job ∷ jobs) → job_at deck j ≡ job
-rest_job deck j job jobs r = grind (arith, common_steps)
+pub later_job : (deck : List JobData) (j : ℕ) (job : JobData) (jobs : List JobData) → AreLater deck j (job ∷ jobs) → job_at deck j ≡ job
+later_job deck j job jobs r = grind (arith, common_steps)
 
-rest_skipped : (deck : List JobData) (j : ℕ) (job : JobData) (jobs : List JobData) → IsRest deck j (job ∷ jobs)
+later_skipped : (deck : List JobData) (j : ℕ) (job : JobData) (jobs : List JobData) → AreLater deck j (job ∷ jobs)
     → some_unaccepted (ends deck) job.after ≡ is_skipped deck j
-rest_skipped deck j job jobs r = ap (λ o. some_unaccepted (ends deck) o.after) (sym (rest_job deck j job jobs r))
+later_skipped deck j job jobs r = ap (λ o. some_unaccepted (ends deck) o.after) (sym (later_job deck j job jobs r))
 
-pub rest_parts : (deck : List JobData) (j : ℕ) (job : JobData) (jobs : List JobData) → ArePlannedJobs 0 deck → IsRest deck j (job ∷ jobs)
+pub later_parts : (deck : List JobData) (j : ℕ) (job : JobData) (jobs : List JobData) → ArePlannedJobs 0 deck → AreLater deck j (job ∷ jobs)
     → AllByRecursion (λ part. part.job < length deck) job.after
-rest_parts deck j job jobs sound r =
-    let lt = rest_below deck j job jobs r in
-    all_map (λ (part : After) (less : part.job < j). omega arith) job.after (rest_sound deck j job jobs sound r).earlier
+later_parts deck j job jobs sound r =
+    let lt = later_below deck j job jobs r in
+    all_map (λ (part : After) (less : part.job < j). omega arith) job.after (later_sound deck j job jobs sound r).earlier
 
 -- ---- each next point
 
 module _ (deck : List JobData) (initiators : ℕ) where
   ends_marked : (j : ℕ) (name : List ℕ) (after : List After) (steps : List Step) (jobs : List JobData)
-      → IsRest deck j (record { name = name; after = after; steps = steps } ∷ jobs)
+      → AreLater deck j (record { name = name; after = after; steps = steps } ∷ jobs)
       → IsMarked deck (ends_at (length deck) j (record { name = name; after = after; steps = steps }) jobs)
   ends_marked j name x steps jobs r = grind (arith, common_steps)
 
@@ -118,10 +118,10 @@ module _ (deck : List JobData) (initiators : ℕ) where
   found_marked (ForEntry j job jobs) found r f le =
       lowest_keeps (IsMarked deck) (λ p code. ends_at (length deck) j job jobs) 0 found
       (λ i code. ends_marked j job.name job.after job.steps jobs r) tt
-  found_marked (ForEnds j job jobs) found r f le = found_mark deck job.after found f le ∙ rest_skipped deck j job jobs r
+  found_marked (ForEnds j job jobs) found r f le = found_mark deck job.after found f le ∙ later_skipped deck j job jobs r
   found_marked (ForIdle j job jobs skipped) found r f le =
       lowest_keeps (IsMarked deck) (λ i g. At (Clears i g (code_of j skipped) (Dispatching (j + 1) jobs))) 0 found
-      (λ i code. (j, rest_below deck j job jobs r, refl, ap (λ b. code_of j b) f)) tt
+      (λ i code. (j, later_below deck j job jobs r, refl, ap (λ b. code_of j b) f)) tt
   found_marked (ToDismiss i more) found r f le =
       lowest_keeps (IsMarked deck) (λ p g. At (Clears i g 0 (Dismissing (i + 1) more))) 0 found (λ p code. refl) tt
 
@@ -134,7 +134,7 @@ module _ (deck : List JobData) (initiators : ℕ) where
       → IsAwaited deck initiators a → IsWaitAt (awaited_blocks (length deck) initiators a) (Settling e todo found)
       → MarkedWait deck a found → ((k : ℕ) → k < length deck → e ≡ end_for_scheduler (length deck) k → IsRight slot (end_of deck k))
       → MarkedWait deck a (found ++ slot ∷ [])
-  one_settled a e todo found slot sound s w f right = grind (arith, common_steps, found_push, rest_parts)
+  one_settled a e todo found slot sound s w f right = grind (arith, common_steps, found_push, later_parts)
 
   -- what a settle of a block with a job's end finds
   abbrev pub FindsEnds : SchedulerAt → Reply → Type 0
@@ -217,7 +217,7 @@ abbrev pub WriterFindsEnd : List JobData → WriterAt → Reply → Type 0
 WriterFindsEnd deck (Keeping j more kept (Settling e todo found)) (Reply.Ecb (EcbReply.Complete code)) = code ≡ end_of deck j
 WriterFindsEnd deck x r = Unit {0}
 
--- the rest of a wait for one block
+-- a wait for one block that found these
 settled_keeps : (deck : List JobData) (j more : ℕ) (kept rest : List ℕ) (code : ℕ) (found : List (Option ℕ)) → kept ++ rest ≡ ends deck
     → length kept ≡ j → j + suc more ≡ length deck → found ≡ [] → code ≡ end_of deck j
     → KeepsEnds deck (end_found (length deck) j more kept (found ++ Some code ∷ []))

@@ -9,7 +9,7 @@ use Rattle.mv_plan.proofs.deck.{naming_own, naming_other, naming_zero, released_
 use Rattle.mv_plan.proofs.points.{IsReaderAt, IsWriterAt, IsInitiatorAt, NoRelease, same_next, dispatched_next, dismissed_next, Point, At}
 use Rattle.mv_plan.proofs.points.{Stage, Dispatching, Dismissing, reader_asks, reader_goes, SchedulerAt, Releases, scheduler_asks, jobs_of}
 use Rattle.mv_plan.proofs.points.{scheduler_goes, writer_asks, writer_goes, InitiatorAt, initiator_asks, initiator_goes, IsSchedulerAt}
-use Rattle.mv_plan.proofs.points.{rest_count, no_release, reader_plain, writer_plain, Elsewhere, code_held, next_job, IsNotLost, stage_at}
+use Rattle.mv_plan.proofs.points.{later_count, no_release, reader_plain, writer_plain, Elsewhere, code_held, next_job, IsNotLost, stage_at}
 use Rattle.mv_plan.proofs.places.Deeds.{Deed, went_on, given, elsewhere_gave, initiator_did, element_code, Released, Ledger}
 use Rattle.mv_plan.proofs.standing.{Stance, Loses, stance, RowAt, hold_for, offer_of, element_of, row_at, Apart, apart, reader_low, Row}
 use Rattle.mv_plan.proofs.standing.{writer_low, rows_start, rows_next, Rows}
@@ -156,7 +156,7 @@ module _ (c : Setup) (deck : List JobData) (initiators : ℕ) (few : length deck
       released_then (Dispatching j jobs) at sound f m less =
           let k = sound.2.0 in
           let at_k : next_job n t.scheduler ≡ k = ap (next_job n) at ∙ (let e = sound.2.2 in omega arith) in
-          let whole : j + length jobs ≡ n = rest_count deck j jobs sound.1 in
+          let whole : j + length jobs ≡ n = later_count deck j jobs sound.1 in
           subst (λ z. Released z m (released_codes m (past ++ release ∷ [])))
           (sym (dispatched_next n initiators j jobs r whole f ∙ sound.2.2))
           (released_more n k m sound.2.1 past release few less (let e = sound.2.2 in omega arith) (ap Some sound.2.3)

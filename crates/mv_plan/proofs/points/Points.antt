@@ -180,7 +180,7 @@ writing_from n j (suc more) ends = At (Keeping j more ends (Arming (end_for_writ
 abbrev pub writer_asks : WriterAt → Object × Op
 writer_asks (Keeping j more ends w) = wait_asks w
 
--- the rest of a wait for one block
+-- a wait for one block that found these
 abbrev pub end_found : ℕ → ℕ → ℕ → List ℕ → List (Option ℕ) → Point WriterAt
 end_found n j more ends found = if_enough 1 found (lowest_at (λ p end. writing_from n (j + 1) more (ends ++ end ∷ [])) 0 found)
 
@@ -463,7 +463,7 @@ jobs_of p = []
 pub data Errand : Type 0 where
   Dispatches : (j : ℕ) → Errand
   Dismisses : (i : ℕ) → Errand
-  Rests : Errand
+  Finishes : Errand
 
 abbrev pub errand_awaited : Awaited → Errand
 errand_awaited (ForEntry j job jobs) = Dispatches j
@@ -480,13 +480,13 @@ errand (At (Waits a w)) = errand_awaited a
 errand (At (Extends j job jobs skipped)) = Dispatches j
 errand (At (Clears i g code after)) = errand_in after
 errand (At (Releases i g code after)) = errand_in after
-errand p = Rests
+errand p = Finishes
 
 -- the job that is handed out next, where there are n: every job below was released
 abbrev pub next_of : ℕ → Errand → ℕ
 next_of n (Dispatches j) = j
 next_of n (Dismisses i) = n
-next_of n Rests = n
+next_of n Finishes = n
 
 abbrev pub next_job : ℕ → Point SchedulerAt → ℕ
 next_job n p = next_of n (errand p)

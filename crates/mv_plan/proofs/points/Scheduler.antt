@@ -10,8 +10,8 @@ use Rattle.mv_plan.proofs.deck.{IsPlannedJob, ArePlannedJobs, Facts}
 use Rattle.mv_plan.proofs.points.Points.{Point, At, WaitAt, Arming, Settling, Stage, Dispatching, Dismissing, Awaited, ForEntry, ForEnds}
 use Rattle.mv_plan.proofs.points.Points.{ForIdle, ToDismiss, SchedulerAt, Waits, Extends, Clears, Releases, awaited_blocks, scheduler_asks}
 use Rattle.mv_plan.proofs.points.Points.{scheduler_goes, arming_from, settling_from, found_at, ends_at, lowest_at, awaited_count, stage_at}
-use Rattle.mv_plan.proofs.points.Points.{arming_first, TooSoon, Astray, on_released, next_job, Errand, Dispatches, Dismisses, Rests, errand}
-use Rattle.mv_plan.proofs.points.Points.{next_of, IsNotLost}
+use Rattle.mv_plan.proofs.points.Points.{arming_first, TooSoon, Astray, on_released, next_job, Errand, Dispatches, Dismisses, Finishes}
+use Rattle.mv_plan.proofs.points.Points.{errand, next_of, IsNotLost}
 use Rattle.mv_plan.proofs.points.Programs.{on_armed_keeps, on_settled_keeps, armed_goes, settled_goes, lowest_goes, enough_goes, keeps}
 use Rattle.mv_plan.proofs.points.Programs.{program_at, stage_call, staged, awaited_then, awaited_stage, scheduler_program, handing}
 use Rattle.mv_plan.proofs.points.Programs.{extending, lowest_keeps}
@@ -20,34 +20,35 @@ use Rattle.mv_calls.proofs.Unrefused.{IsFree}
 use Rattle.mv_calls.specs.Pauses.{released}
 
 -- the deck's jobs from number j on
-pub record IsRest (deck : List JobData) (j : ℕ) (jobs : List JobData) : Type 0 where
+pub record AreLater (deck : List JobData) (j : ℕ) (jobs : List JobData) : Type 0 where
   pub front : List JobData
   pub whole : front ++ jobs ≡ deck
   pub count : length front ≡ j
 
-pub rest_all : (deck : List JobData) → IsRest deck 0 deck
-rest_all deck = record { front = []; whole = refl; count = refl }
+pub later_all : (deck : List JobData) → AreLater deck 0 deck
+later_all deck = record { front = []; whole = refl; count = refl }
 
-pub rest_next : (deck : List JobData) (j : ℕ) (job : JobData) (jobs : List JobData) → IsRest deck j (job ∷ jobs) → IsRest deck (j + 1) jobs
-rest_next deck j job jobs r = record {
+pub one_later : (deck : List JobData) (j : ℕ) (job : JobData) (jobs : List JobData) → AreLater deck j (job ∷ jobs)
+    → AreLater deck (j + 1) jobs
+one_later deck j job jobs r = record {
   front = r.front ++ job ∷ [];
   whole = append_assoc r.front (job ∷ []) jobs ∙ r.whole;
   count = length-append r.front (job ∷ []) ∙ ap (λ k. k + 1) r.count;
 }
 
-pub rest_count : (deck : List JobData) (j : ℕ) (jobs : List JobData) → IsRest deck j jobs → j + length jobs ≡ length deck
-rest_count deck j jobs r = ap (λ k. k + length jobs) (sym r.count) ∙ sym (length-append r.front jobs) ∙ ap (λ l. length l) r.whole
+pub later_count : (deck : List JobData) (j : ℕ) (jobs : List JobData) → AreLater deck j jobs → j + length jobs ≡ length deck
+later_count deck j jobs r = ap (λ k. k + length jobs) (sym r.count) ∙ sym (length-append r.front jobs) ∙ ap (λ l. length l) r.whole
 
-pub rest_below : (deck : List JobData) (j : ℕ) (job : JobData) (jobs : List JobData) → IsRest deck j (job ∷ jobs) → j < length deck
-rest_below deck j job jobs r = let e = rest_count deck j (job ∷ jobs) r in omega arith
+pub later_below : (deck : List JobData) (j : ℕ) (job : JobData) (jobs : List JobData) → AreLater deck j (job ∷ jobs) → j < length deck
+later_below deck j job jobs r = let e = later_count deck j (job ∷ jobs) r in omega arith
 
 sound_from : (j : ℕ) (front jobs : List JobData) → ArePlannedJobs j (front ++ jobs) → ArePlannedJobs (j + length front) jobs
 sound_from j [] jobs s = subst (λ k. ArePlannedJobs k jobs) (omega arith) s
 sound_from j (f ∷ front) jobs s = grind (arith, common_steps, sound_from (j + 1) front jobs s.1)
 
-pub rest_sound : (deck : List JobData) (j : ℕ) (job : JobData) (jobs : List JobData) → ArePlannedJobs 0 deck → IsRest deck j (job ∷ jobs)
+pub later_sound : (deck : List JobData) (j : ℕ) (job : JobData) (jobs : List JobData) → ArePlannedJobs 0 deck → AreLater deck j (job ∷ jobs)
     → IsPlannedJob j job
-rest_sound deck j job jobs s r = grind (arith, common_steps, zero-add, sound_from)
+later_sound deck j job jobs s r = grind (arith, common_steps, zero-add, sound_from)
 
 -- how far a wait for these blocks is
 abbrev pub IsWaitAt : List ℕ → WaitAt → Type 0
@@ -55,13 +56,13 @@ IsWaitAt blocks (Arming e todo) = (past : List ℕ) × (past ++ e ∷ todo ≡ b
 IsWaitAt blocks (Settling e todo found) = (past : List ℕ) × (past ++ e ∷ todo ≡ blocks) × (length past ≡ length found)
 
 abbrev pub IsAwaited : List JobData → ℕ → Awaited → Type 0
-IsAwaited deck initiators (ForEntry j job jobs) = IsRest deck j (job ∷ jobs)
-IsAwaited deck initiators (ForEnds j job jobs) = IsRest deck j (job ∷ jobs)
-IsAwaited deck initiators (ForIdle j job jobs skipped) = IsRest deck j (job ∷ jobs)
+IsAwaited deck initiators (ForEntry j job jobs) = AreLater deck j (job ∷ jobs)
+IsAwaited deck initiators (ForEnds j job jobs) = AreLater deck j (job ∷ jobs)
+IsAwaited deck initiators (ForIdle j job jobs skipped) = AreLater deck j (job ∷ jobs)
 IsAwaited deck initiators (ToDismiss i more) = i + suc more ≡ initiators
 
 abbrev pub IsStage : List JobData → ℕ → Stage → Type 0
-IsStage deck initiators (Dispatching j jobs) = IsRest deck j jobs
+IsStage deck initiators (Dispatching j jobs) = AreLater deck j jobs
 IsStage deck initiators (Dismissing i more) = i + more ≡ initiators
 
 -- initiator i gets this code before the stage: that of the job in front of it, or 0 where it is dismissed
@@ -71,7 +72,7 @@ IsHanded i code (Dismissing m more) = (m ≡ i + 1) × (code ≡ 0)
 
 abbrev pub IsSchedulerAt : List JobData → ℕ → Point SchedulerAt → Type 0
 IsSchedulerAt deck initiators (At (Waits a w)) = IsAwaited deck initiators a × IsWaitAt (awaited_blocks (length deck) initiators a) w
-IsSchedulerAt deck initiators (At (Extends j job jobs skipped)) = IsRest deck j (job ∷ jobs)
+IsSchedulerAt deck initiators (At (Extends j job jobs skipped)) = AreLater deck j (job ∷ jobs)
 IsSchedulerAt deck initiators (At (Clears i g code after)) = (i < initiators) × IsStage deck initiators after × IsHanded i code after
 IsSchedulerAt deck initiators (At (Releases i g code after)) = (i < initiators) × IsStage deck initiators after × IsHanded i code after
 IsSchedulerAt deck initiators p = Unit {0}
@@ -113,7 +114,7 @@ module _ (deck : List JobData) (initiators : ℕ) (kept : Kept) where
   lowest_stands f p bound found le each = grind (arith, common_steps)
 
   ends_stands : (j : ℕ) (name : List ℕ) (after : List After) (steps : List Step) (jobs : List JobData)
-      → IsRest deck j (record { name = name; after = after; steps = steps } ∷ jobs) → SchedulerKept (length deck) j kept
+      → AreLater deck j (record { name = name; after = after; steps = steps } ∷ jobs) → SchedulerKept (length deck) j kept
       → SchedulerStands deck initiators kept (ends_at (length deck) j (record { name = name; after = after; steps = steps }) jobs)
   ends_stands j name x steps jobs r k = grind (arith, common_steps)
 
@@ -121,7 +122,7 @@ module _ (deck : List JobData) (initiators : ℕ) (kept : Kept) where
       → SchedulerKept (length deck) (awaited_extended (length deck) a) kept
       → length found ≤ length (awaited_blocks (length deck) initiators a)
       → SchedulerStands deck initiators kept (found_at (length deck) a found)
-  found_stands a found r k le = grind (arith, common_steps, lowest_stands, ends_stands, length-map-range_with_len, rest_next)
+  found_stands a found r k le = grind (arith, common_steps, lowest_stands, ends_stands, length-map-range_with_len, one_later)
 
   settling_stands : (a : Awaited) (past es : List ℕ) (found : List (Option ℕ)) → IsAwaited deck initiators a
       → SchedulerKept (length deck) (awaited_extended (length deck) a) kept
@@ -218,7 +219,7 @@ module _ (c : Setup) (deck : List JobData) (initiators : ℕ) (facts : Facts c (
       ≡ program kept (arming_first a bs)
   wait_enters a kept x free same some = search rules
 
-  extend_enters : (j : ℕ) (job : JobData) (jobs : List JobData) (skipped : Bool) (kept : Kept) → IsRest deck j (job ∷ jobs)
+  extend_enters : (j : ℕ) (job : JobData) (jobs : List JobData) (skipped : Bool) (kept : Kept) → AreLater deck j (job ∷ jobs)
       → SchedulerKept n j kept
       → stage (Dispatching (j + 1) jobs) kept (extending c n initiators j skipped kept) ≡ program kept (At (Extends j job jobs skipped))
   extend_enters j job jobs skipped kept r k = grind (arith, common_steps)
@@ -228,24 +229,24 @@ module _ (c : Setup) (deck : List JobData) (initiators : ℕ) (facts : Facts c (
   clear_enters i g code count after kept lt k = grind (arith, common_steps)
 
   ends_enter : (j : ℕ) (name : List ℕ) (after : List After) (steps : List Step) (jobs : List JobData) (kept : Kept)
-      → IsRest deck j (record { name = name; after = after; steps = steps } ∷ jobs) → SchedulerKept n j kept
+      → AreLater deck j (record { name = name; after = after; steps = steps } ∷ jobs) → SchedulerKept n j kept
       → stage (Dispatching (j + 1) jobs) kept (ends_awaited c n after (extending c n initiators j) kept)
       ≡ program kept (ends_at n j (record { name = name; after = after; steps = steps }) jobs)
   ends_enter j name [] steps jobs kept r k = extend_enters j (record { name = name; after = []; steps = steps }) jobs false kept r k
   ends_enter j name (part ∷ parts) steps jobs kept r k = let job : JobData = record { name = name; after = part ∷ parts; steps = steps } in
-      let s = rest_sound deck j job jobs sound r in
-      let lt = rest_below deck j job jobs r in wait_enters (ForEnds j job jobs) kept (ends_of n (part ∷ parts))
+      let s = later_sound deck j job jobs sound r in
+      let lt = later_below deck j job jobs r in wait_enters (ForEnds j job jobs) kept (ends_of n (part ∷ parts))
       (wait_unrefused c (length (part ∷ parts)) (ends_of n (part ∷ parts)) kept
       (omega (arith, length-map (part ∷ parts) (λ (p : After). end_for_scheduler n p.job))) (ends_distinct n (part ∷ parts) s.distinct)
       (ends_free j j kept (part ∷ parts) k (omega arith) (omega arith) s.earlier)) refl (omega arith)
 
-  idle_enters : (j : ℕ) (job : JobData) (jobs : List JobData) (skipped : Bool) (kept : Kept) → IsRest deck j (job ∷ jobs)
+  idle_enters : (j : ℕ) (job : JobData) (jobs : List JobData) (skipped : Bool) (kept : Kept) → AreLater deck j (job ∷ jobs)
       → SchedulerKept n (j + 1) kept
       → stage (Dispatching (j + 1) jobs) kept (handing c n initiators j skipped kept)
       ≡ program kept (arming_first (ForIdle j job jobs skipped) idles)
   idle_enters j job jobs skipped kept r k =
       let l = length-map-range_with_len (idle n) 0 initiators in
-      let lt = rest_below deck j job jobs r in
+      let lt = later_below deck j job jobs r in
       let some = facts.some in wait_enters (ForIdle j job jobs skipped) kept idles
       (wait_unrefused c 1 idles kept (omega arith) (idles_distinct n 0 initiators)
       (idles_free (j + 1) 0 initiators kept k (omega arith) (omega arith))) refl (omega arith)
@@ -382,7 +383,7 @@ NoRelease x = Unit {0}
 
 -- the errand behind a release
 abbrev pub after_dismissals : ℕ → ℕ → Errand
-after_dismissals m zero = Rests
+after_dismissals m zero = Finishes
 after_dismissals m (suc more) = Dismisses m
 
 abbrev pub after_release : ℕ → Stage → Errand

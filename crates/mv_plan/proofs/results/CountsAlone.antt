@@ -6,8 +6,9 @@ use Rattle.mv_plan.proofs.Words.{AreHandedOut, ArePurged, JobData, total, IsRun,
 use Rattle.mv_plan.specs.Purging.{obtains}
 use Rattle.mv_plan.specs.CountingAlone.{AreCountedAlone, IsCountedBy, CountsStandAlone, ScansAreSteady}
 use Rattle.mv_plan.proofs.deck.{IsPlanned, few_jobs, facts}
-use Rattle.mv_plan.proofs.walks.{Always, NoneLost, always_now, always_next, always_rest, walk_rest, Stood, stood, AreFinished, run_finished}
-use Rattle.mv_plan.proofs.walks.{Mover, who_moved, Points, start_points, Move, WalkTo, walk-parts, none_lost_along, none_lost_at_end}
+use Rattle.mv_plan.proofs.walks.{Always, NoneLost, always_now, always_next, always_later, walk_later, Stood, stood, AreFinished}
+use Rattle.mv_plan.proofs.walks.{run_finished, Mover, who_moved, Points, start_points, Move, WalkTo, walk-parts, none_lost_along}
+use Rattle.mv_plan.proofs.walks.{none_lost_at_end}
 use Rattle.mv_plan.proofs.volumes.{CountMoments, mover, quiet_point, due, count_apart, scan_steady, adds_total}
 use Rattle.mv_plan.proofs.latches.{works, grip, OwnsBy, IsKnown}
 use Rattle.mv_plan.proofs.points.{At, InitiatorAt, Opening, initiator_asks}
@@ -81,7 +82,7 @@ module _ (deck : List JobData) (initiators : ℕ) (some : 1 ≤ initiators) (sou
       (λ s t u past e now then_now n m w. served_next c deck initiators s t u past e (few_jobs deck initiators sound) now n m w)
       (served_start c deck initiators) xs v w
       (none_lost_along c deck initiators (after_from (opening c) xs) v u ys
-      (walk_rest c deck initiators (opening c) (start_points deck initiators) v u xs ys (walk_of (xs ++ ys) (is ∙ q)) w) none)
+      (walk_later c deck initiators (opening c) (start_points deck initiators) v u xs ys (walk_of (xs ++ ys) (is ∙ q)) w) none)
 
   moments : (l : List Entry) → es ≡ l → AtEach (CountMoments c deck initiators) l
   moments l is xs ys v q w = let m = known l is xs ys v q w in
@@ -182,7 +183,7 @@ module _ (deck : List JobData) (initiators : ℕ) (some : 1 ≤ initiators) (sou
       no_more j (next (after_from (opening c) front) e) (parts.2).0 u (([] ++ front) ++ e ∷ []) rest lt (parts.2).3
       (always_next c deck initiators Known (after_from (opening c) front) parts.0 (parts.2).0 ([] ++ front) e rest (parts.2).1
       (parts.2).2
-      (always_rest c deck initiators Known (opening c) (start_points deck initiators) parts.0 [] front (e ∷ rest) parts.1
+      (always_later c deck initiators Known (opening c) (start_points deck initiators) parts.0 [] front (e ∷ rest) parts.1
       (known _ q)))
       (let m : length (purges (j + 1) (front ++ e ∷ [])) ≡ length (purges (j + 1) front) + one_if (purged_by (j + 1) e.op) = purges-push
       (j + 1) front e in

@@ -8,7 +8,7 @@ use Rattle.mv_plan.proofs.Words.{Bool, if◌then◌else◌, eq-eqb, eqb-true, gi
 use Rattle.mv_plan.proofs.Words.{given_codes, IsRun, spool_setup, code_of, true, admitted, AreHandedOut, end_of, not_run, false≢true, rules}
 use Rattle.mv_plan.proofs.points.{same_errand, Point, At, Stage, Dispatching, SchedulerAt, Releases, scheduler_asks}
 use Rattle.mv_plan.proofs.points.{scheduler_goes, stage_at, IsSchedulerAt, reader_plain, writer_plain, no_release, wait_no_release, Errand}
-use Rattle.mv_plan.proofs.points.{Dismisses, Rests, errand, IsNotLost, code_held, next_job, Dispatches}
+use Rattle.mv_plan.proofs.points.{Dismisses, Finishes, errand, IsNotLost, code_held, next_job, Dispatches}
 use Rattle.mv_plan.proofs.walks.{Stand, Points, Move, entry_of, Each, of_move, Stood, stood, AreFinished, run_finished, none_lost_at_end}
 use Rattle.mv_plan.proofs.walks.{NoneLost}
 use Rattle.mv_machine.specs.Elements.{ElementEvent, as_element_event, accepted_code, givens, releases}
@@ -29,7 +29,7 @@ use Rattle.mv_plan.proofs.volumes.{with_code}
 abbrev pub dismissed_by : ℕ → Errand → ℕ
 dismissed_by initiators (Dispatches j) = 0
 dismissed_by initiators (Dismisses i) = i
-dismissed_by initiators Rests = initiators
+dismissed_by initiators Finishes = initiators
 
 -- the releases so far, where so many initiators were dismissed
 pub record Closes (n initiators : ℕ) (past : List Entry) (dismissed : ℕ) : Type 0 where

@@ -10,7 +10,7 @@ use Rattle.mv_plan.proofs.points.{Point, At, TooSoon, Astray, Stage, Dispatching
 use Rattle.mv_plan.proofs.points.{ToDismiss, WaitAt, Settling, SchedulerAt, Waits, Clears, awaited_blocks, scheduler_asks, scheduler_goes}
 use Rattle.mv_plan.proofs.points.{on_settled, settling_from, found_at, ends_at, lowest_at, IsWaitAt, NoClear, lowest_keeps, IsWriterAt}
 use Rattle.mv_plan.proofs.points.{on_armed_keeps, Arming, arming_from, on_armed, WriterAt, Keeping, writer_asks, writer_goes, IsAwaited}
-use Rattle.mv_plan.proofs.points.{IsSchedulerAt, rest_below, rest_sound, ends_distinct, idles_distinct, NoArm, no_arm, IsNotLost}
+use Rattle.mv_plan.proofs.points.{IsSchedulerAt, later_below, later_sound, ends_distinct, idles_distinct, NoArm, no_arm, IsNotLost}
 use Rattle.mv_ecb.specs.Word.{Waiting}
 use Rattle.mv_plan.proofs.deck.{ArePlannedJobs, Facts}
 use Rattle.mv_plan.proofs.walks.{NoneLost, Stand, Points, Move, Each, of_move}
@@ -133,9 +133,9 @@ pub in_middle : (past : List ℕ) (e : ℕ) (todo : List ℕ) → In (past ++ e 
 in_middle [] e todo = inl refl
 in_middle (x ∷ past) e todo = inr (in_middle past e todo)
 
-distinct_rest : (past rest : List ℕ) → AreDistinct (past ++ rest) → AreDistinct rest
-distinct_rest [] rest d = d
-distinct_rest (x ∷ past) rest d = distinct_rest past rest d.1
+distinct_behind : (past later : List ℕ) → AreDistinct (past ++ later) → AreDistinct later
+distinct_behind [] later d = d
+distinct_behind (x ∷ past) later d = distinct_behind past later d.1
 
 not_in : (e : ℕ) (todo : List ℕ) → AllByRecursion (λ m. m ≡ e → ⊥) todo → In todo e → ⊥
 not_in e [] d i = grind (arith, common_steps)
@@ -149,7 +149,7 @@ in_all x (first ∷ bs) b w i = grind (arith, common_steps, in_all x bs)
 
 pub awaited_distinct : (deck : List JobData) (initiators : ℕ) (a : Awaited) → ArePlannedJobs 0 deck → IsAwaited deck initiators a
     → AreDistinct (awaited_blocks (length deck) initiators a)
-awaited_distinct deck initiators a sound s = grind (arith, common_steps, ends_distinct, rest_sound, idles_distinct)
+awaited_distinct deck initiators a sound s = grind (arith, common_steps, ends_distinct, later_sound, idles_distinct)
 
 -- a block that is no done block
 abbrev pub IsNoDone : ℕ → ℕ → Type 0
@@ -165,7 +165,7 @@ idles_no_done n from (suc count) = (inr (omega arith), idles_no_done n (from + 1
 
 pub awaited_no_done : (deck : List JobData) (initiators : ℕ) (a : Awaited) → IsAwaited deck initiators a
     → AllByRecursion (IsNoDone (length deck)) (awaited_blocks (length deck) initiators a)
-awaited_no_done deck initiators a s = grind (arith, common_steps, rest_below, ends_no_done, idles_no_done)
+awaited_no_done deck initiators a s = grind (arith, common_steps, later_below, ends_no_done, idles_no_done)
 
 -- so not that which a wait arms or settles
 pub wait_no_done : (deck : List JobData) (initiators : ℕ) (a : Awaited) (past : List ℕ) (e : ℕ) (todo : List ℕ)
@@ -231,7 +231,7 @@ module _ (c : Setup) (deck : List JobData) (initiators : ℕ) (facts : Facts c (
       → ArmedThen s (At x) w → ArmedThen (moved s scheduler (scheduler_asks n x).0 (scheduler_asks n x).1)
       (scheduler_goes n initiators x r) w
   scheduled s x r w st adm f armed b q =
-      grind (arith, common_steps, found_armed, cases_eq, distinct_rest, awaited_distinct, arm_owner, arming_arms, in_middle, not_in)
+      grind (arith, common_steps, found_armed, cases_eq, distinct_behind, awaited_distinct, arm_owner, arming_arms, in_middle, not_in)
 
   -- the writer
   written : (s : System) (x : WriterAt) (r : Reply) (y : Point SchedulerAt) → IsWriterAt n (At x)

@@ -12,7 +12,7 @@ use Rattle.mv_plan.proofs.points.{IsInitiatorAt, Point, At, Running, Hand, empty
 use Rattle.mv_plan.proofs.points.{Confirming, Freeing, Reading, ToAdd, Writing, ToCompare, Compares, initiator_asks, initiator_goes}
 use Rattle.mv_plan.proofs.points.{rounds_from, steps_at, running, job_start, given_at, InJob, IsSignal, freeing_lands, given_lands}
 use Rattle.mv_plan.proofs.walks.{who_moved, mover_asked, Points, Move, Always, always_now, always_next, AreSound, Mover, mover_else}
-use Rattle.mv_plan.proofs.walks.{start_points, WalkTo, always_rest, always_front, mover_goes, walk-parts}
+use Rattle.mv_plan.proofs.walks.{start_points, WalkTo, always_later, always_front, mover_goes, walk-parts}
 use Rattle.mv_plan.proofs.lists.{with_at-same, with_at-other, all_but}
 use Rattle.mv_plan.specs.CountingAlone.{IsCountedBy}
 
@@ -322,7 +322,7 @@ module _ (c : Setup) (deck : List JobData) (initiators : ℕ) (s : System) (t u 
   between = always_front c deck initiators (CountMoments c deck initiators) (next before r) second.0 (([] ++ xs) ++ r ∷ []) mid (w ∷ zs)
       (always_next c deck initiators (CountMoments c deck initiators) before here second.0 ([] ++ xs) r
       (mid ++ w ∷ zs) second.1 second.2
-      (always_rest c deck initiators (CountMoments c deck initiators) s t here [] xs (r ∷ (mid ++ w ∷ zs)) first.1 moments))
+      (always_later c deck initiators (CountMoments c deck initiators) s t here [] xs (r ∷ (mid ++ w ∷ zs)) first.1 moments))
 
   -- the initiator of the two
   module _ (v : ℕ) (on : w.object ≡ Volume v) where

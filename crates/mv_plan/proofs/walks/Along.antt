@@ -130,11 +130,11 @@ walk_same c deck initiators s t u v (e ∷ es) w z =
     walk_same c deck initiators (next s e) w.0 u v es w.3
     (subst (λ p. WalkTo c deck initiators (next s e) p es v) (move_same deck initiators t z.0 w.0 e z.2 w.2) z.3)
 
--- wherever a front of a walk's entries leads, the rest of the walk leads on from there
-pub walk_rest : (c : Setup) (deck : List JobData) (initiators : ℕ) (s : System) (t v u : Points) (xs ys : List Entry)
+-- wherever a front of a walk's entries leads, what is left of the walk leads on from there
+pub walk_later : (c : Setup) (deck : List JobData) (initiators : ℕ) (s : System) (t v u : Points) (xs ys : List Entry)
     → WalkTo c deck initiators s t (xs ++ ys) u → WalkTo c deck initiators s t xs v
     → WalkTo c deck initiators (after_from s xs) v ys u
-walk_rest c deck initiators s t v u xs ys w z = grind (arith, common_steps, walk-parts, walk_same)
+walk_later c deck initiators s t v u xs ys w z = grind (arith, common_steps, walk-parts, walk_same)
 
 -- ---- what holds at each moment of a walk
 
@@ -155,9 +155,9 @@ module _ (c : Setup) (deck : List JobData) (initiators : ℕ) where
       λ xs ys z q w. subst (Q (after_from (next s e) xs) z) (sym (append_assoc past (e ∷ []) xs))
       (a (e ∷ xs) ys z (ap (λ l. e ∷ l) q) (v, n, m, w))
 
-  pub always_rest : (Q : System → Points → List Entry → Type 0) (s : System) (t v : Points) (past xs ys : List Entry)
+  pub always_later : (Q : System → Points → List Entry → Type 0) (s : System) (t v : Points) (past xs ys : List Entry)
       → WalkTo c deck initiators s t xs v → Always Q s t past (xs ++ ys) → Always Q (after_from s xs) v (past ++ xs) ys
-  always_rest Q s t v past xs ys w a = λ zs rest z q x.
+  always_later Q s t v past xs ys w a = λ zs rest z q x.
       subst (λ u. Q u z ((past ++ xs) ++ zs)) (after_from-append s xs zs)
       (subst (Q (after_from s (xs ++ zs)) z) (sym (append_assoc past xs zs))
       (a (xs ++ zs) rest z (ap (λ l. xs ++ l) q ∙ sym (append_assoc xs zs rest)) (walk-append c deck initiators s t v z xs zs w x)))

@@ -8,7 +8,7 @@ use Rattle.mv_plan.specs.SpoolTasks.{reading, scheduling, writing, initiating}
 use Rattle.mv_plan.proofs.deck.{IsPlanned, facts}
 use Rattle.mv_plan.proofs.points.{Point, Finished, TooSoon, Astray, Dispatching, reader_asks, scheduler_asks, writer_asks, initiator_asks}
 use Rattle.mv_plan.proofs.points.{program_at, reader_enters, reader_says, writer_enters, writer_says, initiator_says, opening_enters}
-use Rattle.mv_plan.proofs.points.{scheduler_says, stage_enters, rest_all}
+use Rattle.mv_plan.proofs.points.{scheduler_says, stage_enters, later_all}
 use Rattle.mv_plan.proofs.walks.Stands.{fits_opening, Stand, stand_start}
 use Rattle.mv_plan.proofs.walks.Following.{TasksAt, walk_from}
 use Rattle.mv_plan.proofs.walks.Walks.{Points, start_points, WalkTo, AllTasks}
@@ -25,7 +25,7 @@ module _ (deck : List JobData) (initiators : ℕ) (some : 1 ≤ initiators) (sou
   tasks_start = record {
     at_reader = reader_enters c 0 (length deck) (nothing_kept reader) blocks;
     at_scheduler = stage_enters c deck initiators (facts deck initiators some) sound.jobs
-        (Dispatching 0 deck) (nothing_kept scheduler) (rest_all deck) (record { caller = refl; within = λ e held. absurd (cc held) });
+        (Dispatching 0 deck) (nothing_kept scheduler) (later_all deck) (record { caller = refl; within = λ e held. absurd (cc held) });
     at_initiator = λ i lt. task_of i lt ∙ opening_enters c deck initiators i (facts deck initiators some) sound.jobs;
     at_writer = writer_task ∙ writer_enters c (length deck) initiators 0 (length deck) []
         (nothing_kept (writer initiators)) (facts deck initiators some) (stand_start deck initiators).writer_kept (omega arith);

@@ -83,7 +83,7 @@ pub walk-append : (c : Setup) (deck : List JobData) (initiators : ℕ) (s : Syst
 walk-append c deck initiators s t u v [] ys w z = subst (λ p. WalkTo c deck initiators s p ys v) (sym w) z
 walk-append c deck initiators s t u v (x ∷ xs) ys w z = (w.0, w.1, w.2, walk-append c deck initiators (next s x) w.0 u v xs ys w.3 z)
 
--- a front and the rest of a walk
+-- a front of a walk, and what is left of it
 pub walk-parts : (c : Setup) (deck : List JobData) (initiators : ℕ) (s : System) (t v : Points) (xs ys : List Entry)
     → WalkTo c deck initiators s t (xs ++ ys) v
     → (u : Points) × WalkTo c deck initiators s t xs u × WalkTo c deck initiators (after_from s xs) u ys v
