@@ -37,8 +37,8 @@ posts_apart c (w ∷ ws) kept last = go w.ecb (posts_apart c ws kept last) where
   go : (e : Option ℕ) → wakes_posted c ws kept last ≡ and_then (wakes_posted c ws kept all_posted) (λ a. last)
       → wake_posted c e w.code kept (wakes_posted c ws kept last)
       ≡ and_then (wake_posted c e w.code kept (wakes_posted c ws kept all_posted)) (λ a. last)
-  go None rest = rest
-  go (Some e) rest = ap (λ q. and_then (post c e w.code kept) (λ p. q)) rest
+  go None same = same
+  go (Some e) same = ap (λ q. and_then (post c e w.code kept) (λ p. q)) same
       ∙ sym (and_then_twice (post c e w.code kept) (λ p. wakes_posted c ws kept all_posted) (λ a. last))
 
 -- posts that were made, and the program that follows them
@@ -59,15 +59,15 @@ posts_one c w e Is t u is served = λ kept. subst
     (λ o. Runs (total (reach c) (blocks_of (record w { ecb = o } ∷ []))) (wake_posted c o w.code kept all_posted) all_posted t u)
     (sym is) (post_within_call c e w.code 0 kept Is all_posted all_posted t u u served (runs_none all_posted u))
 
--- ---- the first of some wakes, and the rest
+-- ---- the first of some wakes, and those behind it
 
 blocks-append : (xs ys : List Wake) → blocks_of (xs ++ ys) ≡ blocks_of xs ++ blocks_of ys
 blocks-append [] ys = refl
 blocks-append (w ∷ xs) ys = go w.ecb (blocks-append xs ys) where
   go : (e : Option ℕ) → blocks_of (xs ++ ys) ≡ blocks_of xs ++ blocks_of ys
       → blocks_of (record w { ecb = e } ∷ (xs ++ ys)) ≡ blocks_of (record w { ecb = e } ∷ xs) ++ blocks_of ys
-  go None rest = rest
-  go (Some e) rest = ap (λ es. e ∷ es) rest
+  go None same = same
+  go (Some e) same = ap (λ es. e ∷ es) same
 
 -- what the posts of two lists of wakes cost
 cost-append : (c : Setup) (xs ys : List Wake)
@@ -122,13 +122,13 @@ one_posted c ws i w t u v next so_far one =
     let less = any.went.left in
     let few = any.few in record {
       runs = λ kept.
-          let rest = wakes_posted c (drop (i + 1) ws) kept all_posted in
-          subst (λ n. Runs n (wakes_posted c ws kept all_posted) rest t v)
+          let later = wakes_posted c (drop (i + 1) ws) kept all_posted in
+          subst (λ n. Runs n (wakes_posted c ws kept all_posted) later t v)
           (sym (ap (λ xs. total (reach c) (blocks_of xs)) next.front ∙ cost))
           (runs_then (total (reach c) (blocks_of (take i ws))) (total (reach c) (blocks_of (w ∷ [])))
-          (wakes_posted c ws kept all_posted) (wakes_posted c (drop i ws) kept all_posted) rest t u v (so_far.runs kept)
-          (subst (λ xs. Runs (total (reach c) (blocks_of (w ∷ []))) (wakes_posted c xs kept all_posted) rest u v) (sym next.back)
-          (posts_then c (w ∷ []) kept rest u v one)));
+          (wakes_posted c ws kept all_posted) (wakes_posted c (drop i ws) kept all_posted) later t u v (so_far.runs kept)
+          (subst (λ xs. Runs (total (reach c) (blocks_of (w ∷ []))) (wakes_posted c xs kept all_posted) later u v) (sym next.back)
+          (posts_then c (w ∷ []) kept later u v one)));
       left = omega arith;
     }
 
