@@ -120,9 +120,9 @@ close_fits first a b t u lt so_far enough is =
     let less = any.went.left in
     let few = any.few in
     let all = so_far.few in
-    let rest = used_between t (a + 1) b in
-    let here : used_between t a b ≡ a ∷ rest =
-    used_at t a b lt ∙ ap (λ (d : Bool). cond d (a ∷ rest) rest) (sym (so_far.used a (omega arith)) ∙ is) in
+    let later = used_between t (a + 1) b in
+    let here : used_between t a b ≡ a ∷ later =
+    used_at t a b lt ∙ ap (λ (d : Bool). cond d (a ∷ later) later) (sym (so_far.used a (omega arith)) ∙ is) in
     let size = ap (λ (xs : List ℕ). length xs) here in
     omega arith
 
@@ -131,21 +131,21 @@ pub one_closed : (first a b : ℕ) (t u v : CallerFace) → a < b → Closing fi
     → Closing first (a + 1) b t v
 one_closed first a b t u v lt so_far one others =
     let all = used_between t first b in
-    let rest = used_between t (a + 1) b in
+    let later = used_between t (a + 1) b in
     let then = (keeps t).in_use a in
     let now = (keeps u).in_use a in
     let same : now ≡ then = so_far.used a (omega arith) in
     let most = length (cond now (a ∷ []) []) in
-    let count = one_counts a rest then now same in
+    let count = one_counts a later then now same in
     let size = ap (λ (xs : List ℕ). length xs) (used_at t a b lt) in
     let few = so_far.few in record {
       made = so_far.made + most;
       few = omega (arith, count, size, few);
       runs = λ p.
-          let last = close_all (keeps t) rest p in
+          let last = close_all (keeps t) later p in
           runs_then so_far.made most (close_all (keeps t) all p) (close_all (keeps t) (used_between t a b) p) last t u v (so_far.runs p)
           (subst (λ q. Runs most q last u v)
-          (one_more (keeps t) (keeps u) a rest p then now same (so_far.generation a (omega arith))
+          (one_more (keeps t) (keeps u) a later p then now same (so_far.generation a (omega arith))
           ∙ ap (λ xs. close_all (keeps t) xs p) (sym (used_at t a b lt)))
           (one last));
       used = λ m le. let other : m ≢ a = (λ e. absurd (omega arith)) in

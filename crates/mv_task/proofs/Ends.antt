@@ -29,8 +29,8 @@ wakes_same c [] kept other last = refl
 wakes_same c (w ∷ ws) kept other last = go w.ecb (wakes_same c ws kept other last) where
   go : (e : Option ℕ) → wakes_posted c ws kept last ≡ wakes_posted c ws other last
       → wake_posted c e w.code kept (wakes_posted c ws kept last) ≡ wake_posted c e w.code other (wakes_posted c ws other last)
-  go None rest = rest
-  go (Some e) rest = ap (λ q. and_then (post c e w.code kept) (λ p. q)) rest
+  go None same = same
+  go (Some e) same = ap (λ q. and_then (post c e w.code kept) (λ p. q)) same
 
 purged_same : (c : Setup) (ws : List Wake) (kept other : Kept) (r : LatchReply) → purged c ws kept r ≡ purged c ws other r
 purged_same c ws kept other (Purged removed granted) =
@@ -63,7 +63,7 @@ job_served c requestor e code Is IsPost t v u x y =
 
 -- ---- the end of a task
 
--- its own elements were closed, and then the rest was done
+-- its own elements were closed, and then what follows was done
 module _ (c : Setup) (requestor code : ℕ) (Is : Counts → Type 0) (t v u : CallerFace) where
   with_closes : (most : ℕ) (mother : Option ℕ) (a : Counts) → ClosesAll c t v → IsAtRest t.log
       → Runs most (and_then (purge c requestor (keeps t)) (λ counts. wake_posted c mother code (keeps t) (Done counts))) (Done a) v u
