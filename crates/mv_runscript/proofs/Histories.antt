@@ -102,10 +102,10 @@ module _ (script : ScriptData) (moves : Moves) (es : List Entry) (k : ℕ) (answ
       (λ past. past ≡ past_with (take i answers) r.had)
       t r.before s in
       let own = call_went script.setup script.table r.call shown.0 r.had r.got r.before r.behind r.own in
-      let rest = went_then own.0 r.later r.before r.behind u own.1 r.went in
+      let later = went_then own.0 r.later r.before r.behind u own.1 r.went in
       let heard : heard_in script.setup k es ≡ first.events ++ (own.0 ++ r.later) =
       heard_went (first.events ++ (own.0 ++ r.later))
-      (went_then first.events (own.0 ++ r.later) t r.before u first.went rest) in
+      (went_then first.events (own.0 ++ r.later) t r.before u first.went later) in
       let entries_is : entries_before script moves es k i ≡ length first.events =
       ap (λ hs. taken (made_all script.setup (named_table script.table) (moves k) no_past (take i (calls_at script k)) (nothing_kept k))
       hs) heard

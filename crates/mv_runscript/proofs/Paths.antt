@@ -51,8 +51,8 @@ path_went c table [] (a ∷ answers) old new t u p = absurd p
 path_went c table (d ∷ calls) [] old new t u p = absurd p
 path_went c table (d ∷ calls) (a ∷ answers) old new t u p =
     let first = call_went c table d a old p.0 t p.1 p.2 in
-    let rest = path_went c table calls answers p.0 new p.1 u p.3 in
-    (first.0 ++ rest.0, went_then first.0 rest.0 t p.1 u first.1 rest.1)
+    let later = path_went c table calls answers p.0 new p.1 u p.3 in
+    (first.0 ++ later.0, went_then first.0 later.0 t p.1 u first.1 later.1)
 
 -- these are the words that these answers show, from place n on
 abbrev pub Agree : (ℕ → Option ℕ) → ℕ → List Answer → Type 0
@@ -84,7 +84,7 @@ path_served c table moved (d ∷ calls) (a ∷ answers) before old new t u agree
     subst (λ m. IsServed (cost c d) (made c (named_table table) m (past_with before old) d)
     (λ past. past ≡ past_with (before ++ a ∷ []) p.0) t p.1)
     (sym word) (p.2.served before) in
-    let rest = path_served c table moved calls answers (before ++ a ∷ []) p.0 new p.1 u
+    let later = path_served c table moved calls answers (before ++ a ∷ []) p.0 new p.1 u
     (λ j lt. ap moved (let n = length-append before (a ∷ []) in
     let e : length (before ++ a ∷ []) + j ≡ length before + suc j = omega arith in e) ∙ agree (suc j) (omega arith))
     first.made.rest p.3 in
@@ -95,7 +95,7 @@ path_served c table moved (d ∷ calls) (a ∷ answers) before old new t u agree
     (λ past is. is ∙ ap (λ xs. past_with xs new) (append_assoc before (a ∷ []) answers))
     (served_followed (cost c d) (costs_of c calls) (made c (named_table table) (moved (length before)) (past_with before old) d)
     (λ next. made_all c (named_table table) moved next calls) (past_with (before ++ a ∷ []) p.0)
-    (λ past. past ≡ past_with ((before ++ a ∷ []) ++ answers) new) t p.1 u first rest)
+    (λ past. past ≡ past_with ((before ++ a ∷ []) ++ answers) new) t p.1 u first later)
 
 -- ---- one among them
 
@@ -122,7 +122,7 @@ path_among c table [] [] old new t u j a p is = absurd (cc is)
 path_among c table [] (b ∷ answers) old new t u j a p is = absurd p
 path_among c table (d ∷ calls) [] old new t u j a p is = absurd p
 path_among c table (d ∷ calls) (b ∷ answers) old new t u zero a p is =
-    let rest = path_went c table calls answers p.0 new p.1 u p.3 in record {
+    let others = path_went c table calls answers p.0 new p.1 u p.3 in record {
       call = d;
       is = refl;
       before = t;
@@ -131,8 +131,8 @@ path_among c table (d ∷ calls) (b ∷ answers) old new t u zero a p is =
       got = p.0;
       first = (refl, refl);
       own = subst (λ x. MakesCall c table d x old p.0 t p.1) (let e : b ≡ a = cc is in e) p.2;
-      later = rest.0;
-      went = rest.1;
+      later = others.0;
+      went = others.1;
     }
 path_among c table (d ∷ calls) (b ∷ answers) old new t u (suc j) a p is =
     let r = path_among c table calls answers p.0 new p.1 u j a p.3 is in record {
