@@ -1,16 +1,11 @@
 -- Lists, tables and sums: what holds of each element of a list; tables in which one entry is changed; sums over the numbers below a
 -- bound, and how often a number is in a list. Beside the machine's lemmas on lists.
-use Rattle.mv_plan.proofs.Words.{ℕ, zero, suc, List, [], ◌∷◌, set, get_or, AllByRecursion, drop, ◌≡◌, refl, sym, cases_eq, with_at, rules}
-use Rattle.mv_plan.proofs.Words.{◌+◌, ◌<◌, ◌≤◌, ◌==◌, if◌then◌else◌, ◌++◌, length, Option, Some, None, ap, ◌∙◌, arith, eq-eqb, filter_map}
+use Rattle.mv_plan.proofs.Words.{ℕ, zero, suc, List, [], ◌∷◌, get_or, AllByRecursion, drop, ◌≡◌, refl, sym, cases_eq, with_at, rules, ◌+◌}
+use Rattle.mv_plan.proofs.Words.{◌<◌, ◌≤◌, ◌==◌, if◌then◌else◌, ◌++◌, length, Option, Some, None, ap, ◌∙◌, arith, eq-eqb, filter_map}
 use Rattle.mv_plan.proofs.Words.{common_steps}
 use Rattle.mv_machine.proofs.Histories as at
 
--- what holds of each by another that does
-pub all_map : {X : Type 0} {P Q : X → Type 0} → ((x : X) → P x → Q x) → (xs : List X) → AllByRecursion P xs → AllByRecursion Q xs
-all_map f [] a = tt
-all_map f (x ∷ xs) a = (f x a.0, all_map f xs a.1)
-
--- and by two others
+-- what holds of each by two others that do
 pub all_join : {X : Type 0} {P Q R : X → Type 0} → ((x : X) → P x → Q x → R x) → (xs : List X) → AllByRecursion P xs
     → AllByRecursion Q xs → AllByRecursion R xs
 all_join f [] a b = tt
@@ -21,12 +16,6 @@ pub all_drop : {X : Type 0} (P : X → Type 0) (n : ℕ) (xs : List X) → AllBy
 all_drop P zero xs a = a
 all_drop P (suc n) [] a = tt
 all_drop P (suc n) (x ∷ xs) a = all_drop P n xs a.1
-
--- of a list in which one is changed
-pub all_set : {X : Type 0} (P : X → Type 0) (xs : List X) (i : ℕ) (x : X) → AllByRecursion P xs → P x → AllByRecursion P (set xs i x)
-all_set P [] i x a p = tt
-all_set P (y ∷ xs) zero x a p = (p, a.1)
-all_set P (y ∷ xs) (suc i) x a p = (a.0, all_set P xs i x a.1 p)
 
 -- of one of a list, or of what stands for one that is not there
 pub all_get : {X : Type 0} (P : X → Type 0) (xs : List X) (i : ℕ) (d : X) → AllByRecursion P xs → P d → P (get_or xs i d)

@@ -11,7 +11,7 @@ use Rattle.mv_deck.specs.Held.{held, held_behind, holds_from, latches, is_exclus
 use Rattle.std.proofs.lemmas.List.FromFn.{get_or-range_with_len}
 use Rattle.std.proofs.lemmas.List.Sums.{fold-append}
 use Rattle.mv_deck.specs.Sound as deck
-use Rattle.mv_plan.proofs.lists.{all_map}
+use Rattle.mv_machine.proofs.Lists.{all_map}
 
 -- a latch that a job holds, and how
 pub record Held : Type 0 where

@@ -14,7 +14,8 @@ use Rattle.mv_plan.proofs.points.{later_sound, IsAwaited, IsWaitAt, IsSchedulerA
 use Rattle.mv_plan.proofs.points.{scheduler_asks, WriterAt, Keeping, writing_from, end_found, writer_asks, writer_goes, Running}
 use Rattle.mv_plan.proofs.points.{InitiatorAt, initiator_asks, initiator_goes, IsReaderAt, IsWriterAt, IsInitiatorAt, IsEnding, OfRun}
 use Rattle.mv_plan.proofs.points.{Starts, runs_goes, code_held, ForScheduler, ForWriter}
-use Rattle.mv_plan.proofs.lists.{all_map, all_with}
+use Rattle.mv_machine.proofs.Lists.{all_map}
+use Rattle.mv_plan.proofs.lists.{all_with}
 use Rattle.mv_plan.proofs.walks.{Points, start_points, HasStanding, KeepsUnder, by_moves, entry_of, block, element, block_reply}
 use Rattle.mv_plan.proofs.ends.Blocks.{complete_moved, held_moved, settled_code, HasEnd, posts_run, posts_ending}
 

@@ -4,7 +4,8 @@ use Rattle.mv_plan.proofs.Words.{sym, ◌∙◌, subst, arith, Contains, list_an
 use Rattle.mv_plan.proofs.Words.{JobData, initiator, all_at, common_steps}
 use Rattle.mv_latch.proofs.Holders.{alone}
 use Rattle.mv_plan.proofs.deck.{is_held, is_held_alone}
-use Rattle.mv_plan.proofs.latches.Lists.{finds, found, request_of}
+use Rattle.mv_latch.proofs.Members.{finds, found}
+use Rattle.mv_plan.proofs.latches.Lists.{request_of}
 use Rattle.mv_plan.proofs.latches.Hands.{has_latch, grip, OwnsBy, Hands, Holds}
 use Rattle.mv_plan.proofs.points.{held_of, IsInitiatorAt, Point, At, Grant, InitiatorAt, Reading, ToAdd, Writing, ToCompare, Compares}
 use Rattle.mv_plan.proofs.points.{InJob}
@@ -74,7 +75,7 @@ pub excludes : (deck : List JobData) (initiators : ℕ) (lists : List (List Requ
 excludes deck initiators lists points i m v lt less w stand one two =
     let a = count_holds deck lists (initiator i) v (points i) one (stand i lt) (w.owns i lt) in
     let b = touch_holds deck lists (initiator m) v (points m) two (stand m less) (w.owns m less) in
-    let single = alone (list_of lists v) (finds (λ q. not (shared_request q)) (granted (list_of lists v)) a.0 a.1 (ap not a.3)) in
+    let single = alone (list_of lists v) (finds (λ q. not (shared_request q)) a.0 (granted (list_of lists v)) a.1 (ap not a.3)) in
     let same = one_only (granted (list_of lists v)) a.0 b.0 single a.1 b.1 in
     let callers = sym a.2 ∙ ap (λ q. q.caller) same ∙ b.2 in
     omega arith

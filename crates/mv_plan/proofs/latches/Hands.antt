@@ -7,17 +7,18 @@ use Rattle.mv_plan.proofs.Words.{first_or_rest, mine, NamesLatch, JobData, Step,
 use Rattle.mv_plan.proofs.Words.{Free, LatchForm, rules, ◌||◌, if◌then◌else◌, replicate, None, arith, LatchReply, Entry, Object, Latches}
 use Rattle.mv_plan.proofs.Words.{Op, Reply, IsNext, next, Setup, System, moved, ElementReply, VolumeReply, common_steps}
 use Rattle.mv_machine.proofs.Standing.{is_mine}
-use Rattle.mv_machine.proofs.Lists.{all_front, all_back}
-use Rattle.mv_latch.proofs.Changes.{Changed, stays_granted, latch_changes}
-use Rattle.mv_plan.proofs.latches.Lists.{filter_none, in_filter, finds, found, request_of, asked, asked_push, asked_here, asked_there}
+use Rattle.mv_machine.proofs.Lists.{all_front, all_back, all_map}
+use Rattle.mv_latch.proofs.Changes.{Changed, stays_granted, list_purged, latch_changes}
+use Rattle.mv_latch.proofs.Members.{finds, found, was_in}
+use Rattle.mv_plan.proofs.latches.Lists.{filter_none, request_of, asked, asked_push, asked_here, asked_there}
 use Rattle.mv_plan.proofs.latches.Lists.{asked_below, asked_freed, asked_kept, asked_named, asked_of, asked_all, obtained_list, granted_new}
-use Rattle.mv_plan.proofs.latches.Lists.{obtained_elsewhere, released_list, released_elsewhere, purged_list, granted_in, mine_pushed}
+use Rattle.mv_plan.proofs.latches.Lists.{obtained_elsewhere, released_list, released_elsewhere, granted_in, mine_pushed}
 use Rattle.mv_plan.proofs.latches.Lists.{mine_without, mine_purged, Spares, mine_kept, AllAsked, obtained_reply, confirm_granted, all_asked}
 use Rattle.mv_plan.proofs.points.{held_of, Point, At, Finished, Grant, Running, Hand, empty_hand, without_latch, InitiatorAt, hand_at}
 use Rattle.mv_plan.proofs.points.{Ending, Confirming, steps_at, running, job_start, given_at, counting_at, InJob, freeing_lands, Opening}
 use Rattle.mv_plan.proofs.points.{given_lands, counting_lands, IsInitiatorAt, Pausing, Resuming, Obtaining, Freeing, Reading, ToAdd, OfJob}
 use Rattle.mv_plan.proofs.points.{Writing, Compares, Purging, initiator_asks, initiator_goes, IsSignal}
-use Rattle.mv_plan.proofs.lists.{all_map, all_join, all_but}
+use Rattle.mv_plan.proofs.lists.{all_join, all_but}
 use Rattle.mv_machine.proofs.EntryRuns.{entry_of}
 use Rattle.mv_machine.proofs.Replies.{latches_answer}
 use Rattle.mv_machine.proofs.StandingRuns.{names_of}
@@ -78,7 +79,7 @@ pub holds_still : (lists new : List (List Request)) (place k job : ℕ) (held mo
     → Holds new k job held
 holds_still lists new place k job held more changed listed holds =
     all_join (λ g asks had. stays_granted place (list_of lists g.latch) (list_of new g.latch) (request_of k job g) (changed g.latch) had
-    (in_filter (of_caller k) (list_of new g.latch) (request_of k job g)
+    (was_in (of_caller k) (request_of k job g) (list_of new g.latch)
     (subst (λ z. Contains z (request_of k job g)) (sym (listed g.latch)) asks)))
     held (all_front (λ g. Contains (asked k job g.latch (held ++ more)) (request_of k job g)) held more
     (asked_all k job (held ++ more))) holds
@@ -198,8 +199,8 @@ confirm_owns lists k job held g below e w =
 pub confirm_stands : (lists : List (List Request)) (k job : ℕ) (held : List Grant) (g : Grant) → Owns lists k job held (g ∷ [])
     → list_any (is_own k g.id) (list_of lists g.latch) ≡ true
 confirm_stands lists k job held g w =
-    finds (is_own k g.id) (list_of lists g.latch) (request_of k job g)
-    (in_filter (of_caller k) (list_of lists g.latch) (request_of k job g)
+    finds (is_own k g.id) (request_of k job g) (list_of lists g.latch)
+    (was_in (of_caller k) (request_of k job g) (list_of lists g.latch)
     (subst (λ z. Contains z (request_of k job g)) (sym (w.listed g.latch))
     ((all_back (λ h. Contains (asked k job h.latch (held ++ g ∷ [])) (request_of k job h)) held (g ∷ [])
     (asked_all k job (held ++ g ∷ []))).0)))
@@ -211,8 +212,8 @@ pub free_stands : (lists : List (List Request)) (k job latch id : ℕ) (requests
     → list_any (λ g. g.latch == latch) held ≡ true
     → list_any (is_own k id) (list_of lists latch) ≡ true
 free_stands lists k job latch id requests held w last e has =
-    finds (is_own k id) (list_of lists latch) (request_of k job it.0)
-    (in_filter (of_caller k) (list_of lists latch) (request_of k job it.0) there)
+    finds (is_own k id) (request_of k job it.0) (list_of lists latch)
+    (was_in (of_caller k) (request_of k job it.0) (list_of lists latch) there)
     (rw (eq-eqb (it.0).id id number, eq-eqb k k refl) refl) where
       it : (g : Grant) × Contains held g × ((g.latch == latch) ≡ true)
       it = found (λ g. g.latch == latch) held has
@@ -258,7 +259,7 @@ module _ (k place job latch id : ℕ) (lists : List (List Request)) (held : List
 -- a purge takes out all of the job's
 purge_owns : (k place job : ℕ) (lists : List (List Request)) (held : List Grant) → Owns lists k job held []
     → HasNone (latch_step k place (LatchOp.Purge (job + 1)) lists).0 k
-purge_owns k place job lists held w = search (rules, mine, purged_list, mine_purged, listed_plain, filter_none, all_map, eq-eqb, asked_of)
+purge_owns k place job lists held w = search (rules, mine, list_purged, mine_purged, listed_plain, filter_none, all_map, eq-eqb, asked_of)
 
 -- ---- the initiator's next point
 

@@ -1,19 +1,19 @@
 -- The requests of a running job at one latch, as a list computed from the latches that it holds or waits for; and what one event on
 -- the latch set does to the requests of each caller, on lists alone.
-use Rattle.mv_plan.proofs.Words.{◌≡◌, ℕ, ◌+◌, ◌<◌, ◌==◌, Bool, true, false, not, ◌||◌, if◌then◌else◌, List, [], ◌∷◌, ◌++◌, filter, Option}
-use Rattle.mv_plan.proofs.Words.{Some, inl, inr, refl, ap, arith, AllByRecursion, Contains, list_any, eq-eqb, ne_eqb, false≢true, or_left}
-use Rattle.mv_plan.proofs.Words.{or_right, Request, is_own, not_in_empty, first_or_rest, first_is_in, LatchForm, common_steps, zero, suc}
-use Rattle.mv_plan.proofs.Words.{cond, length, map, set, sym, ◌∙◌, subst, eqb-true, cases_eq, filter-append, LatchOp, LatchReply}
-use Rattle.mv_plan.proofs.Words.{Mode, granted, waiting, grants, newly_granted, obtain_step, release_step, without, list_of}
-use Rattle.mv_plan.proofs.Words.{latch_step, of_caller, of_requestor, mine, NamesLatch, all_append, all_filter, rules}
+use Rattle.mv_plan.proofs.Words.{◌≡◌, ℕ, ◌+◌, ◌<◌, ◌==◌, Bool, true, false, not, if◌then◌else◌, List, [], ◌∷◌, ◌++◌, filter, Option, Some}
+use Rattle.mv_plan.proofs.Words.{inl, inr, refl, ap, arith, AllByRecursion, Contains, list_any, eq-eqb, ne_eqb, Request, is_own}
+use Rattle.mv_plan.proofs.Words.{first_is_in, LatchForm, common_steps, cond, length, set, sym, ◌∙◌, subst, eqb-true, cases_eq}
+use Rattle.mv_plan.proofs.Words.{filter-append, LatchOp, LatchReply, Mode, granted, waiting, grants, newly_granted, obtain_step}
+use Rattle.mv_plan.proofs.Words.{release_step, without, list_of, latch_step, of_caller, of_requestor, mine, NamesLatch, all_append}
+use Rattle.mv_plan.proofs.Words.{all_filter, rules}
 use Rattle.mv_latch.proofs.Members.{rest_is_in}
 use Rattle.mv_plan.proofs.points.{held_of, Grant, without_latch}
-use Rattle.mv_plan.proofs.lists.{all_map}
+use Rattle.mv_machine.proofs.Lists.{all_map}
 use Rattle.std.proofs.lemmas.List.Elements.{Contains-append_left, Contains-append_right}
 use Rattle.mv_latch.specs.Latch.{confirm_reply, purged}
 use Rattle.mv_latch.specs.Request.{queues}
 use Rattle.mv_machine.proofs.Standing.{mine_not_pushed}
-use Rattle.mv_latch.proofs.Changes.{list_replaced, list_elsewhere}
+use Rattle.mv_latch.proofs.Changes.{list_replaced, list_elsewhere, list_purged}
 use Rattle.mv_latch.proofs.Holders.{granted_at_end}
 use Rattle.mv_latch.proofs.Splits.{granted_split}
 
@@ -37,26 +37,6 @@ filter_none t (q ∷ qs) a = rw a.0 (filter_none t qs a.1)
 pub filter_passes : {X : Type 0} (t : X → Bool) (qs : List X) → AllByRecursion (λ q. t q ≡ true) (filter t qs)
 filter_passes t [] = tt
 filter_passes {X} t (q ∷ qs) = grind (arith, common_steps, filter_passes t qs)
-
-pub in_filter : {X : Type 0} (t : X → Bool) (qs : List X) (q : X) → Contains (filter t qs) q → Contains qs q
-in_filter t [] q i = i
-in_filter {X} t (x ∷ xs) q i = go (t x) i (λ j. in_filter t xs q j) where
-  go : (b : Bool) → Contains (if b then x ∷ filter t xs else filter t xs) q → (Contains (filter t xs) q → Contains xs q)
-      → Contains (x ∷ xs) q
-  go true i rest = elim (first_or_rest x (filter t xs) q i) [ inl e ↦ first_is_in x xs q e | inr j ↦ rest_is_in x xs q (rest j) ]
-  go false i rest = rest_is_in x xs q (rest i)
-
--- a test finds one that meets it
-pub finds : {X : Type 0} (t : X → Bool) (qs : List X) (q : X) → Contains qs q → t q ≡ true → list_any t qs ≡ true
-finds t [] q i is = absurd (not_in_empty q i)
-finds t (x ∷ xs) q i is = grind (arith, first_or_rest, or_left, or_right, finds t xs q)
-
-pub found : {X : Type 0} (t : X → Bool) (qs : List X) → list_any t qs ≡ true → (q : X) × Contains qs q × (t q ≡ true)
-found t [] e = absurd (false≢true e)
-found {X} t (q ∷ qs) e = go (t q) refl e (found t qs) where
-  go : (b : Bool) → t q ≡ b → (b || list_any t qs) ≡ true → (list_any t qs ≡ true → (x : X) × Contains qs x × (t x ≡ true))
-      → (x : X) × Contains (q ∷ qs) x × (t x ≡ true)
-  go b is f rest = grind (arith, common_steps, first_is_in, qs, rest_is_in)
 
 -- ---- what a job asks of a latch
 
@@ -172,12 +152,6 @@ released_reply k place latch id lists e = (
   )).1) e,
 )
 
-pub purged_list : (requestor : ℕ) (lists : List (List Request)) (latch : ℕ)
-    → list_of (map (purged requestor) lists) latch ≡ purged requestor (list_of lists latch)
-purged_list requestor [] latch = refl
-purged_list requestor (qs ∷ lists) zero = refl
-purged_list requestor (qs ∷ lists) (suc latch) = purged_list requestor lists latch
-
 -- ---- the reply to a confirm
 
 pub confirm_granted : (k id same : ℕ) (qs : List Request) → confirm_reply k id qs ≡ LatchReply.Granted same
@@ -249,7 +223,7 @@ mine_kept k j place (LatchOp.Release at id conditional) lists n lt sp latch = el
 
   here : mine k (release_step j id conditional (list_of lists at)).0 ≡ mine k (list_of lists at)
   here = grind (arith, common_steps, either_same, qs, mine_other_without)
-mine_kept k j place (LatchOp.Purge requestor) lists n lt sp latch = search (rules, mine, purged_list, mine_purged, filter_all)
+mine_kept k j place (LatchOp.Purge requestor) lists n lt sp latch = search (rules, mine, list_purged, mine_purged, filter_all)
 
 -- ---- what is so of all requests
 
@@ -268,4 +242,4 @@ set_all P lists at qs lt a b latch = search (rules, cases_eq, list_replaced, lis
 pub all_asked : (P : Request → Type 0) (k place : ℕ) (op : LatchOp) (lists : List (List Request)) → NamesLatch op lists
     → ((q : Request) → q.caller ≡ k → P q) → AllAsked P lists
     → AllAsked P (latch_step k place op lists).0
-all_asked P k place op lists lt f a = grind (arith, common_steps, set_all, either_all, all_append, all_filter, purged_list)
+all_asked P k place op lists lt f a = grind (arith, common_steps, set_all, either_all, all_append, all_filter, list_purged)

@@ -14,7 +14,8 @@ use Rattle.mv_machine.specs.System.{latches_of}
 use Rattle.mv_calls.proofs.Hearing.{wakes_at}
 use Rattle.mv_plan.proofs.points.{PostNothing, initiator_asks, initiator_goes, keeps, IsReaderAt, WriterKept, IsWriterAt, InitiatorStands}
 use Rattle.mv_plan.proofs.points.{initiator_stands, IsInitiatorAt, SchedulerStands, scheduler_stands, IsSchedulerAt}
-use Rattle.mv_plan.proofs.lists.{all_drop, all_set, all_get, with_at-other, all_but}
+use Rattle.mv_machine.proofs.Chains.{all_set}
+use Rattle.mv_plan.proofs.lists.{all_drop, all_get, with_at-other, all_but}
 use Rattle.mv_plan.proofs.deck.{ArePlannedJobs, Facts}
 use Rattle.mv_plan.proofs.walks.Walks.{Points, start_points, Move, reads, schedules, initiates, writes}
 
@@ -62,7 +63,7 @@ step_unposted : (c : Setup) (k place : ℕ) (op : LatchOp) (lists : List (List R
 step_unposted c k place (LatchOp.Obtain latch requestor mode form) lists e adm a = grind (arith, common_steps)
 step_unposted c k place (LatchOp.Confirm latch id) lists e adm a = a
 step_unposted c k place (LatchOp.Release latch id conditional) lists e adm a =
-    all_set AreUnposted lists latch _ a (released_unposted k id conditional (list_of lists latch) (list_unposted lists latch a))
+    all_set AreUnposted lists latch _ (released_unposted k id conditional (list_of lists latch) (list_unposted lists latch a)) a
 step_unposted c k place (LatchOp.Purge requestor) lists e adm a = purged_unposted requestor lists a
 
 wakes_unposted : (k : ℕ) (op : LatchOp) (lists : List (List Request)) → AllUnposted lists → PostNothing (wakes k op lists)
