@@ -8,14 +8,14 @@ use Rattle.mv_plan.proofs.Words.{ElementReply, LatchReply, LatchForm, common_ste
 use Rattle.mv_plan.proofs.Words.{lt-ltb, Wake, Latches, Setup, obtained, token_of, deallocate, Woke, each_posted, posted_next, post_within}
 use Rattle.mv_plan.proofs.Words.{wake_posted, Program, Do, Done, Heard, asks, heard, and_then, going_on, unrefused, accepted, followed, Op}
 use Rattle.mv_plan.proofs.Words.{finished, unless_refused, on_latch, end_for_scheduler, end_for_writer, named_by, run_job, granted_as, done}
-use Rattle.mv_plan.proofs.Words.{rounds, refused_if, EcbReply, LatchOp, Counts}
+use Rattle.mv_plan.proofs.Words.{rounds, refused_if, EcbReply, LatchOp, Counts, sym}
 use Rattle.mv_machine.specs.Kept.{StandingRequest, is_named, is_for, less}
 use Rattle.mv_plan.proofs.deck.{Held, is_held, ArePlannedSteps, ArePlannedJobs, sound_job, Facts}
 use Rattle.mv_plan.proofs.points.Points.{Point, At, Grant, Running, Hand, hand_with, without_latch, hand_without, hand_at, InitiatorAt}
 use Rattle.mv_plan.proofs.points.Points.{Opening, Offering, Pausing, Resuming, Obtaining, Confirming, Freeing, Reading, ToAdd, Writing}
 use Rattle.mv_plan.proofs.points.Points.{Compares, Purging, Ending, initiator_asks, initiator_goes, rounds_after, steps_at, running, InJob}
 use Rattle.mv_plan.proofs.points.Points.{job_start, given_at, Astray, empty_hand, ToCompare, OfJob, Closing, rounds_from, named_at}
-use Rattle.mv_plan.proofs.points.Points.{rounds_land, given_lands, ForScheduler, ForWriter}
+use Rattle.mv_plan.proofs.points.Points.{rounds_land, given_lands, ForScheduler, ForWriter, freeing_at, IsNotLost}
 use Rattle.mv_plan.proofs.points.Programs.{keeps, program_at, rounds_later, given_later, ending, stepping, steps_later, obtained_later}
 use Rattle.mv_plan.proofs.points.Programs.{initiator_program, post_is_now, IsPlainPost}
 use Rattle.mv_calls.specs.LatchCalls.{obtain_refusal}
@@ -224,6 +224,16 @@ held_request requests latch (g ∷ gs) l h = go (g.latch == latch) refl (λ t. h
       → (id : ℕ) × (requests latch ≡ Some id)
   go true e rest = (g.id, subst (λ k. requests k ≡ Some g.id) (eqb-true g.latch latch e) l.0)
   go false e rest = rest (rw e at h)
+
+-- sound steps begin with one that the initiator can make
+pub steps_found : (run : Running) (hand : Hand) (steps : List Step)
+    → AllByRecursion (λ g. hand.requests g.latch ≡ Some g.id) hand.holding → ArePlannedSteps (held_of hand.holding) steps
+    → IsNotLost (steps_at run hand steps)
+steps_found run hand (Print text ∷ steps) l s = steps_found run hand steps l s
+steps_found run hand (Free latch ∷ steps) l s =
+    let h : (id : ℕ) × (hand.requests latch ≡ Some id) = held_request hand.requests latch hand.holding l s.1 in
+    subst (λ z. IsNotLost (freeing_at run hand latch z steps)) (sym h.1) tt
+steps_found run hand steps l s = tt
 
 -- ---- each point's next stands
 

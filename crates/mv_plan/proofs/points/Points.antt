@@ -422,6 +422,14 @@ IsNotLost (Finished answer) = Unit {0}
 IsNotLost TooSoon = ⊥
 IsNotLost Astray = ⊥
 
+-- a task is not astray
+abbrev pub IsForeseen : {X : Type 0} → Point X → Type 0
+IsForeseen Astray = ⊥
+IsForeseen p = Unit {0}
+
+pub foreseen_of : {X : Type 0} (p : Point X) → IsNotLost p → IsForeseen p
+foreseen_of p f = grind (arith, common_steps)
+
 -- ---- the code that an element holds
 
 -- a code that was released to an element and that its pause has not been given

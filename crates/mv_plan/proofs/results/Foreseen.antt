@@ -3,23 +3,22 @@
 use Rattle.mv_plan.proofs.Words.{◌≡◌, ℕ, ◌<◌, ◌≤◌, ◌==◌, Bool, false, List, [], ◌∷◌, length, Some, arith, AllByRecursion, list_any, code_of}
 use Rattle.mv_plan.proofs.Words.{job_named, not_to_run, AreDistinct, common_steps, zero, suc, ◌+◌, true, IsTrue, if◌then◌else◌, ◌++◌, None}
 use Rattle.mv_plan.proofs.Words.{Option, ◌⊎◌, inl, inr, refl, sym, ap, ◌∙◌, subst, eq-eqb, leb-true, ecb_step, EcbState, Extended, Reply}
-use Rattle.mv_plan.proofs.Words.{ElementState, element_step, Setup, owner_of, System, admitted, reply_to, JobData, After, Step, Print, Free}
-use Rattle.mv_plan.proofs.Words.{job_at, reader, scheduler, initiator, writer, end_for_writer, complete_count, done, EcbOp, EcbReply}
-use Rattle.mv_plan.proofs.Words.{ElementOp}
+use Rattle.mv_plan.proofs.Words.{ElementState, element_step, Setup, owner_of, System, admitted, reply_to, JobData, After, Step, job_at}
+use Rattle.mv_plan.proofs.Words.{reader, scheduler, initiator, writer, end_for_writer, complete_count, done, EcbOp, EcbReply, ElementOp}
 use Rattle.mv_calls.proofs.Distinct.{few, none_found}
 use Rattle.mv_ecb.specs.Word.{Waiting}
-use Rattle.mv_plan.proofs.deck.{ArePlannedSteps, ArePlannedJobs, Facts}
+use Rattle.mv_plan.proofs.deck.{ArePlannedJobs, Facts}
 use Rattle.mv_plan.proofs.walks.{Points, Fits}
 use Rattle.mv_plan.proofs.standing.{Armed, In, in_middle, in_all, IsNoDone, awaited_no_done, SchedulerArms, WriterArms, Starts, Works, Row}
 use Rattle.mv_plan.proofs.standing.{Offers, Parks, RowAt, element_of}
-use Rattle.mv_plan.proofs.points.{IsWriterAt, IsInitiatorAt, IsRound, IsRunning, held_of, held_request, job_sound, Point, At, TooSoon, Hand}
-use Rattle.mv_plan.proofs.points.{Astray, Awaited, ForEntry, ForEnds, ForIdle, ToDismiss, Arming, Settling, ReaderAt, Entering, reader_asks}
-use Rattle.mv_plan.proofs.points.{reader_goes, SchedulerAt, Waits, Extends, awaited_blocks, awaited_count, scheduler_asks, scheduler_goes}
-use Rattle.mv_plan.proofs.points.{arming_first, arming_from, settling_from, found_at, ends_at, lowest_at, on_armed, on_settled, WriterAt}
-use Rattle.mv_plan.proofs.points.{Keeping, writer_asks, writer_goes, writing_from, writer_arming, end_found, Running, running, InitiatorAt}
-use Rattle.mv_plan.proofs.points.{Opening, Pausing, Resuming, Ending, Closing, initiator_asks, initiator_goes, rounds_from, freeing_at}
-use Rattle.mv_plan.proofs.points.{steps_at, job_start, named_at, given_at, on_opened, on_paused, on_resumed, on_closed, InJob, code_held}
-use Rattle.mv_plan.proofs.points.{IsSchedulerAt, jobs_of, IsNotLost, IsOfRounds}
+use Rattle.mv_plan.proofs.points.{IsWriterAt, IsInitiatorAt, IsRound, IsRunning, job_sound, Point, At, TooSoon, Astray, Awaited, ForEntry}
+use Rattle.mv_plan.proofs.points.{ForEnds, ForIdle, ToDismiss, Arming, Settling, ReaderAt, Entering, reader_asks, reader_goes, SchedulerAt}
+use Rattle.mv_plan.proofs.points.{Waits, Extends, awaited_blocks, awaited_count, scheduler_asks, scheduler_goes, arming_first, arming_from}
+use Rattle.mv_plan.proofs.points.{settling_from, found_at, ends_at, lowest_at, on_armed, on_settled, WriterAt, Keeping, writer_asks}
+use Rattle.mv_plan.proofs.points.{writer_goes, writing_from, writer_arming, end_found, Running, running, InitiatorAt, Opening, Pausing}
+use Rattle.mv_plan.proofs.points.{Resuming, Ending, Closing, initiator_asks, initiator_goes, rounds_from, job_start, named_at, given_at}
+use Rattle.mv_plan.proofs.points.{on_opened, on_paused, on_resumed, on_closed, InJob, code_held, IsSchedulerAt, jobs_of, IsNotLost}
+use Rattle.mv_plan.proofs.points.{IsOfRounds, IsForeseen, foreseen_of, steps_found}
 use Rattle.mv_plan.proofs.places.{element_code}
 use Rattle.mv_plan.proofs.ends.{IsCode}
 
@@ -37,13 +36,6 @@ not_found (j ∷ js) job e = grind (arith, common_steps, not_found js job)
 pub code_named : (n j : ℕ) (skipped : Bool) → n ≤ not_to_run → j < n
     → job_named n (code_of j skipped) ≡ Some (record { job = j; skipped = skipped })
 code_named n j x small lt = grind (arith, common_steps)
-
--- ---- points that are not astray
-
--- a task is not astray
-abbrev pub IsForeseen : {X : Type 0} → Point X → Type 0
-IsForeseen Astray = ⊥
-IsForeseen p = Unit {0}
 
 -- ---- replies of blocks
 
@@ -164,19 +156,6 @@ module _ (c : Setup) (deck : List JobData) (initiators : ℕ) (facts : Facts c (
   writer_foreseen (Keeping j more ends (Settling e (d ∷ todo) found)) r at sound adm ans = absurd (cc sound.2)
 
 -- ---- an initiator
-
--- sound steps begin with one that the initiator can make
-pub steps_found : (run : Running) (hand : Hand) (steps : List Step)
-    → AllByRecursion (λ g. hand.requests g.latch ≡ Some g.id) hand.holding → ArePlannedSteps (held_of hand.holding) steps
-    → IsNotLost (steps_at run hand steps)
-steps_found run hand (Print text ∷ steps) l s = steps_found run hand steps l s
-steps_found run hand (Free latch ∷ steps) l s =
-    let h : (id : ℕ) × (hand.requests latch ≡ Some id) = held_request hand.requests latch hand.holding l s.1 in
-    subst (λ z. IsNotLost (freeing_at run hand latch z steps)) (sym h.1) tt
-steps_found run hand steps l s = tt
-
-pub foreseen_of : {X : Type 0} (p : Point X) → IsNotLost p → IsForeseen p
-foreseen_of p f = grind (arith, common_steps)
 
 start_found : (deck : List JobData) (skipped : Bool) (run : Running) (j : ℕ) → ArePlannedJobs 0 deck → j < length deck
     → IsForeseen (job_start skipped run (job_at deck j))

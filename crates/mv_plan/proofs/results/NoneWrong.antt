@@ -9,9 +9,9 @@ use Rattle.mv_plan.proofs.deck.{ArePlannedJobs, IsPlanned, Facts, few_jobs, fact
 use Rattle.mv_plan.proofs.standing.{Armed, armed_next, armed_start, RowAt}
 use Rattle.mv_plan.proofs.points.{IsWriterAt, reader_says, writer_says, IsInitiatorAt, program_at, initiator_says, Point, At, TooSoon}
 use Rattle.mv_plan.proofs.points.{Astray, reader_asks, SchedulerAt, Extends, scheduler_asks, scheduler_goes, writer_asks, InitiatorAt}
-use Rattle.mv_plan.proofs.points.{initiator_asks, initiator_goes, scheduler_says, IsSchedulerAt, jobs_of, IsNotLost, IsOfRounds}
-use Rattle.mv_plan.proofs.results.Foreseen.{IsForeseen, reader_foreseen, writer_foreseen, scheduler_foreseen, extend_foreseen}
-use Rattle.mv_plan.proofs.results.Foreseen.{initiator_foreseen, foreseen_of}
+use Rattle.mv_plan.proofs.points.{initiator_asks, initiator_goes, scheduler_says, IsSchedulerAt, jobs_of, IsNotLost, IsOfRounds, IsForeseen}
+use Rattle.mv_plan.proofs.points.{foreseen_of}
+use Rattle.mv_plan.proofs.results.Foreseen.{reader_foreseen, writer_foreseen, scheduler_foreseen, extend_foreseen, initiator_foreseen}
 use Rattle.mv_plan.proofs.walks.{who, is_reader, is_scheduler, is_initiator, is_writer, Stood, AreInTime, in_time, wrong_point, Points}
 use Rattle.mv_plan.proofs.walks.{start_points, Move, WalkTo, walk_keeps, AllTasks, all_tasks, all_before, entry_of, Each, of_move, NoneLost}
 use Rattle.mv_plan.proofs.walks.{entry_next, stood, standing}
@@ -179,9 +179,6 @@ none_lost_at_start deck initiators = grind (arith, common_steps)
 
 -- ---- what stands of blocks, of elements and rounds, and of latches and volumes, put together
 
-foreseen_point : (p : Point InitiatorAt) → (p ≡ Astray → ⊥) → IsForeseen p
-foreseen_point p n = grind (arith, common_steps)
-
 module _ (deck : List JobData) (initiators : ℕ) where
   -- the entry of a caller is what its point says
   initiator_asked : (t u : Points) (e : Entry) (i : ℕ) (x : InitiatorAt) → Move deck initiators t e u → i < initiators
@@ -211,8 +208,7 @@ module _ (deck : List JobData) (initiators : ℕ) where
           (entry_next setup s e scheduler (scheduler_asks (length deck) (Extends j job jobs skipped)) n k w.0 w.1);
       steps = λ i x lt k at other.
           let w = initiator_asked t u e i x m lt k at in
-          foreseen_point (initiator_goes deck x e.reply)
-          (served_foreseen setup deck initiators s t past e i x some sound safe.now h.1 n other lt k at w.0 w.1);
+          served_foreseen setup deck initiators s t past e i x some sound safe.now h.1 n other lt k at w.0 w.1;
     }
 
     -- no task of a following history is lost; and at its end the laws of ends and of latches hold
