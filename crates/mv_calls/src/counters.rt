@@ -12,7 +12,8 @@ use mv_latch::Wake;
 use mv_machine::{Entry, ValidConfig};
 use std::alloc::Global;
 
-/// The counters of the calls of all callers, behind a legal list of entries. Of the entries it keeps the last of each caller.
+/// The counters of the calls of all callers, behind a legal list of entries. Of the entries it keeps what the last of each caller was, as
+/// far as the next may continue its call.
 #[derive(Drop)]
 pub struct CallCounters {
     counters: Vec<Counter>,
