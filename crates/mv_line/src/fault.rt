@@ -47,6 +47,14 @@ impl From<AllocError> for TextRefusal {
     }
 }
 
+impl<T: Drop> From<AllocFailed<T>> for TextRefusal {
+    ghost from_gives = { λ _ e. e ≡ of_text.NoMemory };
+
+    fn from(_: AllocFailed<T>) -> Self {
+        TextRefusal::NoMemory
+    }
+}
+
 /// The kinds of fault that the lines of one sort of texts can have.
 pub trait FaultKind: Copy {
     /// The number of a kind.
