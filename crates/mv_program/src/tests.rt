@@ -241,7 +241,7 @@ POLLED 1 0
 
 const USAGE: &str = "USAGE: spool I, script, replay, convert, load N I, polled I S\n";
 
-// Streams over memory, with room for what these runs write.
+// Streams over memory.
 #[derive(Drop)]
 struct Streams {
     input: MemSource,
@@ -250,7 +250,7 @@ struct Streams {
     notes: MemSink,
 }
 
-fn streams_over(alloc: Global, input: &[u8]) -> Result<Streams, NoMemory> {
+fn new_streams(alloc: Global, input: &[u8]) -> Result<Streams, NoMemory> {
     Ok(Streams {
         input: MemSource::new(alloc, input, 1 << 20, &[])?,
         report: MemSink::new(alloc, 4096, &[])?,
@@ -259,18 +259,35 @@ fn streams_over(alloc: Global, input: &[u8]) -> Result<Streams, NoMemory> {
     })
 }
 
-// Runs the command whose words stand in a text, parted by spaces.
-fn run_by<X: AllocGlobal + Threads + Wait + Sync, G: Gate + Sync>(
+// Streams over this input, with room for what these runs write. Here and below want of memory stops the test: what returns nothing
+// returns at its end alone, and so its caller holds nothing that an early return drops, which would be most of its proof.
+fn streams_over<X: Abort + AllocGlobal>(rt: &X, input: &[u8]) -> Streams {
+    match new_streams(rt.alloc(), input) {
+        Ok(on) => on,
+        Err(_) => panic!(rt; "no memory for streams"),
+    }
+}
+
+// The words of a text, parted by spaces.
+fn words_of(alloc: Global, text: &str) -> Result<Vec<String>, AllocError> {
+    let mut words = Vec::new(alloc);
+    for word in text.split_whitespace() {
+        words.push(String::from_str(alloc, word)?)?;
+    }
+    Ok(words)
+}
+
+// Runs the command whose words stand in a text.
+fn run_by<X: Abort + AllocGlobal + Threads + Wait + Sync, G: Gate + Sync>(
     rt: &X,
     text: &str,
     on: &mut Streams,
     gate: &G,
-) -> Result<Status, AllocError> {
-    let mut words = Vec::new(rt.alloc());
-    for word in text.split_whitespace() {
-        words.push(String::from_str(rt.alloc(), word)?)?;
-    }
-    Ok(run_program(
+) -> Status {
+    let Ok(words) = words_of(rt.alloc(), text) else {
+        panic!(rt; "no memory for words")
+    };
+    run_program(
         rt,
         rt.alloc(),
         &words,
@@ -279,15 +296,15 @@ fn run_by<X: AllocGlobal + Threads + Wait + Sync, G: Gate + Sync>(
         &mut on.journal,
         &mut on.notes,
         gate,
-    ))
+    )
 }
 
 // The same where no task is held.
-fn run<X: AllocGlobal + Threads + Wait + Sync>(
+fn run<X: Abort + AllocGlobal + Threads + Wait + Sync>(
     rt: &X,
     text: &str,
     on: &mut Streams,
-) -> Result<Status, AllocError> {
+) -> Status {
     run_by(rt, text, on, &OpenGate)
 }
 
@@ -299,12 +316,11 @@ fn assert_ends<X: Abort + AllocGlobal + Threads + Wait + Sync>(
     exit: u8,
     report: &str,
     note: &str,
-) -> Result<(), AllocError> {
-    let status = run(rt, words, on)?;
+) {
+    let status = run(rt, words, on);
     assert_eq!(rt; status.exit(), exit, "{words}");
     assert_eq!(rt; on.report.bytes(), report.as_bytes());
     assert_eq!(rt; on.notes.bytes(), note.as_bytes());
-    Ok(())
 }
 
 // Whether a text has this piece.
@@ -320,16 +336,15 @@ fn assert_journal<X: Abort + AllocGlobal + Threads + Wait + Sync>(
     rt: &X,
     journal: &[u8],
     piece: &str,
-) -> Result<(), Fail> {
+) {
     if piece.is_empty() {
         assert!(rt; journal.is_empty());
-        return Ok(());
+        return;
     }
     assert!(rt; has(journal, piece), "{piece}");
-    let mut on = streams_over(rt.alloc(), journal)?;
-    assert_eq!(rt; run(rt, "replay", &mut on)?, Status::Done);
+    let mut on = streams_over(rt, journal);
+    assert_eq!(rt; run(rt, "replay", &mut on), Status::Done);
     assert!(rt; on.report.bytes().starts_with(b"LEGAL "));
-    Ok(())
 }
 
 // A run over this input ends with this exit, and leaves what is told, the report or the note, and a journal with this piece. It has read
@@ -341,28 +356,25 @@ fn assert_run<X: Abort + AllocGlobal + Threads + Wait + Sync>(
     exit: u8,
     told: &str,
     piece: &str,
-) -> Result<(), Fail> {
+) {
     let (report, note) = if exit == 0 { (told, "") } else { ("", told) };
     let reads = exit != 2 && !words.starts_with("load ");
-    let mut on = streams_over(rt.alloc(), input.as_bytes())?;
-    assert_ends(rt, words, &mut on, exit, report, note)?;
+    let mut on = streams_over(rt, input.as_bytes());
+    assert_ends(rt, words, &mut on, exit, report, note);
     assert_left(
         rt,
         &mut on.input,
         if reads { b"" } else { input.as_bytes() },
-    )?;
-    assert_journal(rt, on.journal.bytes(), piece)
+    );
+    assert_journal(rt, on.journal.bytes(), piece);
 }
 
 // What is left of an input, which is short.
-fn assert_left<X: Abort + AllocGlobal>(
-    rt: &X,
-    input: &mut MemSource,
-    expected: &[u8],
-) -> Result<(), Fail> {
-    let left = read_limited(rt.alloc(), input, 1000)?;
+fn assert_left<X: Abort + AllocGlobal>(rt: &X, input: &mut MemSource, expected: &[u8]) {
+    let Ok(left) = read_limited(rt.alloc(), input, 1000) else {
+        panic!(rt; "more is left, or it can't be read")
+    };
     assert_eq!(rt; left.as_slice(), expected);
-    Ok(())
 }
 
 // Each row of a table.
@@ -375,7 +387,7 @@ fn assert_rows<X: Abort + AllocGlobal + Threads + Wait + Sync>(
         let (words, input) = run.split_once('\n').ok_or("no words")?;
         let (outcome, piece) = comes_to.split_once("--\n").unwrap_or((comes_to, ""));
         let (exit, told) = outcome.split_once('\n').ok_or("no exit")?;
-        assert_run(rt, words, input, exit.parse::<u8>()?, told, piece)?;
+        assert_run(rt, words, input, exit.parse::<u8>()?, told, piece);
     }
     Ok(())
 }
@@ -419,11 +431,13 @@ fn assert_fault<X: Abort + AllocGlobal + Threads + Wait + Sync>(
     let kind = kind.parse::<u8>()?;
     let text = format!(in rt.alloc(); "{front}{text}{behind}")?;
     if kind == 0 {
-        return assert_no_fault(rt, format, &text, row);
+        assert_no_fault(rt, format, &text, row);
+        return Ok(());
     }
     let name = format.name;
     let note = format!(in rt.alloc(); "{name} LINE {line} KIND {kind}\n")?;
-    assert_told(rt, format, &text, &note, row)
+    assert_told(rt, format, &text, &note, row);
+    Ok(())
 }
 
 // A text without fault, which this row made.
@@ -432,10 +446,9 @@ fn assert_no_fault<X: Abort + AllocGlobal + Threads + Wait + Sync>(
     format: &Format,
     text: &str,
     row: &str,
-) -> Result<(), Fail> {
-    let mut on = streams_over(rt.alloc(), text.as_bytes())?;
-    assert_eq!(rt; run(rt, format.words, &mut on)?, Status::Done, "{row}");
-    Ok(())
+) {
+    let mut on = streams_over(rt, text.as_bytes());
+    assert_eq!(rt; run(rt, format.words, &mut on), Status::Done, "{row}");
 }
 
 // A text of which this is noted, and nothing else is told. This row made it.
@@ -445,16 +458,15 @@ fn assert_told<X: Abort + AllocGlobal + Threads + Wait + Sync>(
     text: &str,
     note: &str,
     row: &str,
-) -> Result<(), Fail> {
-    let mut on = streams_over(rt.alloc(), text.as_bytes())?;
-    let status = run(rt, format.words, &mut on)?;
+) {
+    let mut on = streams_over(rt, text.as_bytes());
+    let status = run(rt, format.words, &mut on);
     assert_eq!(rt; status.exit(), format.exit, "{row}");
     assert_eq!(rt; on.notes.bytes(), note.as_bytes(), "{row}");
     assert!(rt;
         on.report.bytes().is_empty() && on.journal.bytes().is_empty(),
         "{row}"
     );
-    Ok(())
 }
 
 // Texts by such rows, parted by semicolons, so that a test is as short to prove with many as with one. A row that begins with `#` says
@@ -476,18 +488,17 @@ fn assert_faults<X: Abort + AllocGlobal + Threads + Wait + Sync>(
 
 #[test]
 fn decks(rt: HostRuntime) -> Result<(), Fail> {
-    assert_run(&rt, "spool 2", PAYROLL, 0, PAYROLL_REPORT, "= PURGED 0 0\n")?;
+    assert_run(&rt, "spool 2", PAYROLL, 0, PAYROLL_REPORT, "= PURGED 0 0\n");
     assert_rows(&rt, DECKS)
 }
 
 // Four events of the scheduler and four of the initiator, or five where its pause parked.
 #[test]
-fn no_job(rt: HostRuntime) -> Result<(), Fail> {
-    let mut on = streams_over(rt.alloc(), b"//\n")?;
-    assert_eq!(rt; run(&rt, "spool 1", &mut on)?, Status::Done);
+fn no_job(rt: HostRuntime) {
+    let mut on = streams_over(&rt, b"//\n");
+    assert_eq!(rt; run(&rt, "spool 1", &mut on), Status::Done);
     let journal = on.journal.bytes();
     assert!(rt; has(journal, "\nEND 8\n") || has(journal, "\nEND 9\n"));
-    Ok(())
 }
 
 #[test]
@@ -501,16 +512,15 @@ fn loads(rt: HostRuntime) -> Result<(), Fail> {
 }
 
 #[test]
-fn words_that_are_no_command(rt: HostRuntime) -> Result<(), Fail> {
+fn words_that_are_no_command(rt: HostRuntime) {
     for words in NO_COMMANDS.lines() {
-        assert_run(&rt, words, PAYROLL, 2, USAGE, "")?;
+        assert_run(&rt, words, PAYROLL, 2, USAGE, "");
     }
-    Ok(())
 }
 
 // Bytes that no UTF-8 text has.
 #[test]
-fn texts_that_are_no_utf_8(rt: HostRuntime) -> Result<(), Fail> {
+fn texts_that_are_no_utf_8(rt: HostRuntime) {
     for (words, text, exit, note) in [
         ("script", b"\x80".as_slice(), 9, "SCRIPT LINE 1 KIND 1\n"),
         (
@@ -520,10 +530,9 @@ fn texts_that_are_no_utf_8(rt: HostRuntime) -> Result<(), Fail> {
             "JOURNAL LINE 2 KIND 1\n",
         ),
     ] {
-        let mut on = streams_over(rt.alloc(), text)?;
-        assert_ends(&rt, words, &mut on, exit, "", note)?;
+        let mut on = streams_over(&rt, text);
+        assert_ends(&rt, words, &mut on, exit, "", note);
     }
-    Ok(())
 }
 
 // Comments and the null statement, 1,048,576 bytes in all, and then one more.
@@ -532,7 +541,8 @@ fn a_deck_at_the_limit_and_one_byte_more(rt: HostRuntime) -> Result<(), Fail> {
     let mut deck = "//*\n".repeat(rt.alloc(), 262_142)?;
     deck.push_str("//**\n//\n")?;
     assert_eq!(rt; deck.len(), 1_048_576);
-    assert_run(&rt, "spool 1", &deck, 0, NO_JOB_REPORT, "EVENTS")?;
+    assert_run(&rt, "spool 1", &deck, 0, NO_JOB_REPORT, "EVENTS");
     deck.push_str("\n")?;
-    assert_run(&rt, "spool 1", &deck, 4, "INPUT TOO LONG\n", "")
+    assert_run(&rt, "spool 1", &deck, 4, "INPUT TOO LONG\n", "");
+    Ok(())
 }

@@ -328,15 +328,20 @@ fn assert_heavy<X: Abort + AllocGlobal + Threads + Wait + Sync>(
     steps: &str,
     note: &str,
 ) -> Result<(), Fail> {
-    let mut text = String::new(rt.alloc());
+    let text = heavy_deck(rt.alloc(), jobs, steps)?;
+    let mut on = streams_over(rt, text.as_bytes());
+    assert_ends(rt, "polled 1 0", &mut on, 3, "", note);
+    Ok(())
+}
+
+fn heavy_deck(alloc: Global, jobs: u32, steps: &str) -> Result<String, Fail> {
+    let mut text = String::new(alloc);
     for job in 0..jobs {
-        text.push_str(&format!(in rt.alloc(); "//J{job:05} JOB\n")?)?;
+        text.push_str(&format!(in alloc; "//J{job:05} JOB\n")?)?;
     }
     text.push_str(steps)?;
     text.push_str("//\n// PRINT X\n")?;
-    let mut on = streams_over(rt.alloc(), text.as_bytes())?;
-    assert_ends(rt, "polled 1 0", &mut on, 3, "", note)?;
-    Ok(())
+    Ok(text)
 }
 
 // 30,839 jobs weigh 524,272 for one initiator; USE and FREE weigh 3, USE and COUNT 4. At 524,287 the fault is that of the line

@@ -49,37 +49,36 @@ fn assert_meets<X: Abort + AllocGlobal + Threads + Wait + Sync>(
     points: (Point, Point),
     report: &str,
     pieces: &str,
-) -> Result<(), Fail> {
-    let mut on = streams_over(rt.alloc(), deck.as_bytes())?;
+) {
+    let mut on = streams_over(rt, deck.as_bytes());
     let gate = MeetGate::new(points.0, points.1, 1_000_000);
-    assert_eq!(rt; run_by(rt, words, &mut on, &gate)?, Status::Done);
+    assert_eq!(rt; run_by(rt, words, &mut on, &gate), Status::Done);
     assert!(rt; gate.met(), "{points:?}");
     assert_eq!(rt; on.report.bytes(), report.as_bytes());
     for piece in pieces.lines() {
-        assert_journal(rt, on.journal.bytes(), piece)?;
+        assert_journal(rt, on.journal.bytes(), piece);
     }
-    Ok(())
 }
 
 // Two jobs are begun side by side.
 #[test]
-fn two_initiators_meet(rt: HostRuntime) -> Result<(), Fail> {
+fn two_initiators_meet(rt: HostRuntime) {
     let points = (Point::Started(0), Point::Started(1));
-    assert_meets(&rt, "spool 2", PRINTS, points, PRINTED, "= PURGED")
+    assert_meets(&rt, "spool 2", PRINTS, points, PRINTED, "= PURGED");
 }
 
 // The reader is about to enter the second job while the scheduler is about to hand out the first.
 #[test]
-fn reader_and_scheduler_meet(rt: HostRuntime) -> Result<(), Fail> {
+fn reader_and_scheduler_meet(rt: HostRuntime) {
     let points = (Point::Entered(1), Point::Dispatched(0));
-    assert_meets(&rt, "spool 1", PRINTS, points, PRINTED, "= PURGED")
+    assert_meets(&rt, "spool 1", PRINTS, points, PRINTED, "= PURGED");
 }
 
 // The writer has the first job's end while the second is begun.
 #[test]
-fn writer_and_initiator_meet(rt: HostRuntime) -> Result<(), Fail> {
+fn writer_and_initiator_meet(rt: HostRuntime) {
     let points = (Point::Written(0), Point::Started(1));
-    assert_meets(&rt, "spool 1", PRINTS, points, PRINTED, "= PURGED")
+    assert_meets(&rt, "spool 1", PRINTS, points, PRINTED, "= PURGED");
 }
 
 // Of two jobs that count on one volume the one that is held last writes last.
@@ -100,27 +99,26 @@ const FIVE_FIRST: &str = "\
 ";
 
 #[test]
-fn who_is_held_last_counts_last(rt: HostRuntime) -> Result<(), Fail> {
+fn who_is_held_last_counts_last(rt: HostRuntime) {
     let points = (Point::Started(0), Point::Ended(1));
-    assert_meets(&rt, "spool 2", COUNTS, points, COUNTED, SEVEN_FIRST)?;
+    assert_meets(&rt, "spool 2", COUNTS, points, COUNTED, SEVEN_FIRST);
     let points = (Point::Started(1), Point::Ended(0));
-    assert_meets(&rt, "spool 2", COUNTS, points, COUNTED, FIVE_FIRST)
+    assert_meets(&rt, "spool 2", COUNTS, points, COUNTED, FIVE_FIRST);
 }
 
 // Each is held at the first point until it has run out: the second comes only by what stands behind the first.
 #[test]
-fn each_point_comes_before_what_it_announces(rt: HostRuntime) -> Result<(), Fail> {
+fn each_point_comes_before_what_it_announces(rt: HostRuntime) {
     for (first, second) in [
         (Point::Entered(0), Point::Dispatched(0)),
         (Point::Dispatched(0), Point::Started(0)),
         (Point::Ended(0), Point::Written(0)),
     ] {
-        let mut on = streams_over(rt.alloc(), PRINTS.as_bytes())?;
+        let mut on = streams_over(&rt, PRINTS.as_bytes());
         let gate = MeetGate::new(first, second, 100_000);
-        assert_eq!(rt; run_by(&rt, "spool 1", &mut on, &gate)?, Status::Done);
+        assert_eq!(rt; run_by(&rt, "spool 1", &mut on, &gate), Status::Done);
         assert!(rt; !gate.met(), "{first:?}");
     }
-    Ok(())
 }
 
 // A gate that counts who passes it by the number that the task has at that point, and who does not.
@@ -148,14 +146,13 @@ impl Gate for Numbers {
 }
 
 #[test]
-fn each_task_passes_its_points_by_its_own_number(rt: HostRuntime) -> Result<(), Fail> {
+fn each_task_passes_its_points_by_its_own_number(rt: HostRuntime) {
     let gate = Numbers {
         own: AtomicU64::new(0),
         others: AtomicU64::new(0),
     };
-    let mut on = streams_over(rt.alloc(), PRINTS.as_bytes())?;
-    assert_eq!(rt; run_by(&rt, "spool 1", &mut on, &gate)?, Status::Done);
+    let mut on = streams_over(&rt, PRINTS.as_bytes());
+    assert_eq!(rt; run_by(&rt, "spool 1", &mut on, &gate), Status::Done);
     assert_eq!(rt; gate.own.load(Ordering::SeqCst), 10);
     assert_eq!(rt; gate.others.load(Ordering::SeqCst), 0);
-    Ok(())
 }

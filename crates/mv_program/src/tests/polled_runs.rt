@@ -45,7 +45,7 @@ fn decks_are_polled(rt: HostRuntime) -> Result<(), Fail> {
         0,
         PAYROLL_REPORT,
         "= PURGED 0 0\n",
-    )?;
+    );
     let decks = polled(rt.alloc(), DECKS)?;
     assert_rows(&rt, decks.as_str())?;
     let faulty = polled(rt.alloc(), FAULTY_DECKS)?;
@@ -53,11 +53,10 @@ fn decks_are_polled(rt: HostRuntime) -> Result<(), Fail> {
 }
 
 #[test]
-fn the_empty_deck_is_polled_in_one_order(rt: HostRuntime) -> Result<(), Fail> {
-    let mut on = streams_over(rt.alloc(), b"//\n")?;
-    assert_ends(&rt, "polled 1 0", &mut on, 0, NO_JOB_REPORT, "")?;
+fn the_empty_deck_is_polled_in_one_order(rt: HostRuntime) {
+    let mut on = streams_over(&rt, b"//\n");
+    assert_ends(&rt, "polled 1 0", &mut on, 0, NO_JOB_REPORT, "");
     assert_eq!(rt; on.journal.bytes(), NO_JOB_JOURNAL.as_bytes());
-    Ok(())
 }
 
 // One more run of this deck writes the same report and the same journal.
@@ -65,21 +64,21 @@ fn assert_again<X: Abort + AllocGlobal + Threads + Wait + Sync>(
     rt: &X,
     deck: &[u8],
     first: &Streams,
-) -> Result<(), Fail> {
-    let mut again = streams_over(rt.alloc(), deck)?;
-    assert_eq!(rt; run(rt, "polled 4 7", &mut again)?, Status::Done);
+) {
+    let mut again = streams_over(rt, deck);
+    assert_eq!(rt; run(rt, "polled 4 7", &mut again), Status::Done);
     assert_eq!(rt; again.report.bytes(), first.report.bytes());
     assert_eq!(rt; again.journal.bytes(), first.journal.bytes());
-    Ok(())
 }
 
 #[test]
 fn each_run_from_a_seed_is_the_same(rt: HostRuntime) -> Result<(), Fail> {
     let deck = load_deck(rt.alloc(), 40)?;
-    let mut first = streams_over(rt.alloc(), &deck)?;
-    assert_eq!(rt; run(&rt, "polled 4 7", &mut first)?, Status::Done);
+    let mut first = streams_over(&rt, &deck);
+    assert_eq!(rt; run(&rt, "polled 4 7", &mut first), Status::Done);
     for _ in 0..9 {
-        assert_again(&rt, &deck, &first)?;
+        assert_again(&rt, &deck, &first);
     }
-    assert_journal(&rt, first.journal.bytes(), "\nEVENTS\n")
+    assert_journal(&rt, first.journal.bytes(), "\nEVENTS\n");
+    Ok(())
 }

@@ -8,10 +8,14 @@ fn answers_of<X: Abort + AllocGlobal + Threads + Wait + Sync>(
     script: &str,
     piece: &str,
 ) -> Result<String, Fail> {
-    let mut on = streams_over(rt.alloc(), script.as_bytes())?;
-    assert_eq!(rt; run(rt, "script", &mut on)?, Status::Done);
-    assert_journal(rt, on.journal.bytes(), piece)?;
-    Ok(String::from_str(rt.alloc(), std::str::from_utf8(on.report.bytes())?)?)
+    let mut on = streams_over(rt, script.as_bytes());
+    assert_eq!(rt; run(rt, "script", &mut on), Status::Done);
+    assert_journal(rt, on.journal.bytes(), piece);
+    text_of(rt.alloc(), on.report.bytes())
+}
+
+fn text_of(alloc: Global, bytes: &[u8]) -> Result<String, Fail> {
+    Ok(String::from_str(alloc, std::str::from_utf8(bytes)?)?)
 }
 
 // Two tasks that wait for each other's posts, and of which one may wait for the latch that the other holds.

@@ -6,8 +6,9 @@ ghost use Rattle.mv_machine.specs.Kept.{allowed, standing, stands_after};
 ghost use Rattle.mv_machine.specs.Legal.{Legal};
 ghost use Rattle.mv_machine.specs.Limits.{events_limit};
 ghost use Rattle.mv_machine.specs.System.{ecb_admitted};
-ghost use Rattle.mv_board.specs.Faces.{IsOf, IsFresh, AreFresh};
+ghost use Rattle.mv_board.specs.Faces.{IsOf, IsFresh, AreFresh, AreInOrder};
 
+use super::pair;
 use mv_board::{Board, Caller, Moved, Watch};
 use mv_ecb::{EcbOp, EcbReply};
 use mv_latch::{LatchForm, LatchOp, LatchReply, Mode, Wake};
@@ -65,6 +66,17 @@ fn last(board: &Board, callers: &mut Vec<Caller>, number: u32) -> Caller
     caller
 }
 
+// A new board, with its one caller, which has this budget.
+fn open_one(alloc: Global, budget: u32) -> Result<(Board, Caller), Fail>
+    ensures callers { IfOk result (λ r. r.0.config.callers ≡ 1) }
+    ensures block { IfOk result (λ r. r.0.config.owners ≡ 0 ∷ []) }
+    ensures caller { IfOk result (λ r. IsFresh r.0 0 r.1 × (r.1.left ≡ budget)) }
+{
+    let (board, mut callers) = open(alloc, vec![in alloc; budget]?)?;
+    let caller = last(&board, &mut callers, 0);
+    Ok((board, caller))
+}
+
 // A new board, with its two callers, which have these budgets.
 fn open_two(alloc: Global, first: u32, second: u32) -> Result<(Board, Caller, Caller), Fail>
     ensures callers { IfOk result (λ r. r.0.config.callers ≡ 2) }
@@ -79,16 +91,28 @@ fn open_two(alloc: Global, first: u32, second: u32) -> Result<(Board, Caller, Ca
     Ok((board, first, second))
 }
 
+// The end of a board with these callers, all there are.
+fn close(rt: &impl Abort, alloc: Global, board: Board, callers: Vec<Caller>) -> Listed
+    requires order { AreInOrder board 0 callers.items }
+    requires all { length callers.items ≡ board.config.callers }
+    ensures legal { Legal result.config result.journal.items }
+    ensures few { length result.journal.items ≤ events_limit }
+{
+    match board.close(callers).history.listed(alloc) {
+        Ok(listed) => listed,
+        Err(_) => panic!(rt; "no memory for a list of events"),
+    }
+}
+
 // The end of a board with two callers.
-fn close_two(alloc: Global, board: Board, first: Caller, second: Caller) -> Result<Listed, Fail>
+fn close_two(rt: &impl Abort, alloc: Global, board: Board, first: Caller, second: Caller) -> Listed
     requires two { board.config.callers ≡ 2 }
     requires first { IsOf board first × (first.number ≡ 0) }
     requires second { IsOf board second × (second.number ≡ 1) }
-    ensures legal { IfOk result (λ e. Legal e.config e.journal.items) }
-    ensures few { IfOk result (λ e. length e.journal.items ≤ events_limit) }
+    ensures legal { Legal result.config result.journal.items }
+    ensures few { length result.journal.items ≤ events_limit }
 {
-    let closed = board.close(vec![in alloc; first, second]?);
-    Ok(closed.history.listed(alloc)?)
+    close(rt, alloc, board, pair(rt, alloc, first, second))
 }
 
 // A new board, with its three callers, each with this budget.
@@ -108,21 +132,25 @@ fn open_three(alloc: Global, budget: u32) -> Result<(Board, Caller, Caller, Call
 
 // The end of a board with three callers.
 fn close_three(
+    rt: &impl Abort,
     alloc: Global,
     board: Board,
     first: Caller,
     second: Caller,
     third: Caller,
-) -> Result<Listed, Fail>
+) -> Listed
     requires three { board.config.callers ≡ 3 }
     requires first { IsOf board first × (first.number ≡ 0) }
     requires second { IsOf board second × (second.number ≡ 1) }
     requires third { IsOf board third × (third.number ≡ 2) }
-    ensures legal { IfOk result (λ e. Legal e.config e.journal.items) }
-    ensures few { IfOk result (λ e. length e.journal.items ≤ events_limit) }
+    ensures legal { Legal result.config result.journal.items }
+    ensures few { length result.journal.items ≤ events_limit }
 {
-    let closed = board.close(vec![in alloc; first, second, third]?);
-    Ok(closed.history.listed(alloc)?)
+    let mut callers = pair(rt, alloc, first, second);
+    if callers.push(third).is_err() {
+        panic!(rt; "no memory for a third caller")
+    }
+    close(rt, alloc, board, callers)
 }
 
 // ---- events on the block and on the first element, and looks at them
@@ -217,7 +245,7 @@ fn assert_is_posted_and_armed(rt: &impl Abort, journal: &[Entry]) {
 fn a_post_its_looks_and_its_journal(rt: HostRuntime) -> Result<(), Fail> {
     let (board, mut owner, mut poster) = open_two(rt.alloc(), 3, 3)?;
     post_and_arm(&rt, &board, &mut owner, &mut poster);
-    let closed = close_two(rt.alloc(), board, owner, poster)?;
+    let closed = close_two(&rt, rt.alloc(), board, owner, poster);
     assert_is_posted_and_armed(&rt, &closed.journal);
     Ok(())
 }
@@ -285,8 +313,8 @@ fn log_tests<R: Abort + Wait>(rt: &R, board: &Board, caller: Caller, events: u32
 // The two that bench/run times.
 #[test]
 fn events_of_one_thread(rt: HostRuntime) -> Result<(), Fail> {
-    let (board, first, _) = open_two(rt.alloc(), 250_000, 0)?;
-    log_tests(&rt, &board, first, 250_000);
+    let (board, caller) = open_one(rt.alloc(), 250_000)?;
+    log_tests(&rt, &board, caller, 250_000);
     Ok(())
 }
 
@@ -341,7 +369,7 @@ fn one_clears_one_posts_and_one_tests(rt: HostRuntime) -> Result<(), Fail> {
         || repeat(&rt, &board, owner, EcbOp::Clear, 10_000),
         || post_beside_tests(&rt, &board, poster, tester),
     );
-    let closed = close_three(rt.alloc(), board, owner, poster, tester)?;
+    let closed = close_three(&rt, rt.alloc(), board, owner, poster, tester);
     assert_eq!(rt; closed.journal.len(), 30_000);
     assert!(rt; is_replayed(&rt, rt.alloc(), &closed));
     Ok(())
@@ -474,10 +502,26 @@ fn two_threads_contend_for_one_latch(rt: HostRuntime) -> Result<(), Fail> {
         [first.log().len(), second.log().len()],
         [1000 + one, 1000 + other]
     );
-    let closed = close_two(rt.alloc(), board, first, second)?;
+    let closed = close_two(&rt, rt.alloc(), board, first, second);
     assert_eq!(rt; closed.journal.len(), 2000 + one + other);
     assert!(rt; is_replayed(&rt, rt.alloc(), &closed));
     Ok(())
+}
+
+// A request for a latch that another holds: it waits, under this number.
+fn queue<R: Abort + Wait>(rt: &R, board: &Board, caller: &mut Caller, id: u32)
+    requires board { IsOf board.now caller.old }
+    requires number { caller.old.number < board.now.config.callers }
+    requires latch { (board.now.config.latches ≡ 1) × (board.now.config.quota ≡ 4) }
+    requires left { 0 < caller.old.left }
+    requires quota { length (standing caller.old.log) < 4 }
+    ensures board { IsOf board.now caller.new }
+    ensures number { caller.new.number ≡ caller.old.number }
+    ensures left { caller.new.left + 1 ≡ caller.old.left }
+    ensures few { length (standing caller.new.log) ≤ length (standing caller.old.log) + 1 }
+{
+    let waits = obtain(rt, board, caller, 9, Mode::Shared, LatchForm::Waiting);
+    assert_eq!(rt; waits, LatchReply::Queued(id));
 }
 
 // Three requests of one caller for a latch that another holds: they wait in order.
@@ -488,13 +532,9 @@ fn queue_three<R: Abort + Wait>(rt: &R, board: &Board, caller: &mut Caller)
     requires left { 3 ≤ caller.old.left }
     requires none { standing caller.old.log ≡ [] }
 {
-    let waits = [
-        obtain(rt, board, caller, 9, Mode::Shared, LatchForm::Waiting),
-        obtain(rt, board, caller, 9, Mode::Shared, LatchForm::Waiting),
-        obtain(rt, board, caller, 9, Mode::Shared, LatchForm::Waiting),
-    ];
-    let queued = |id: u32| LatchReply::Queued(id);
-    assert_eq!(rt; waits, [queued(1), queued(2), queued(3)]);
+    queue(rt, board, caller, 1);
+    queue(rt, board, caller, 2);
+    queue(rt, board, caller, 3);
 }
 
 // One caller holds the latch, three requests of another wait for it, and its release wakes them in order.

@@ -6,7 +6,7 @@ ghost use Rattle.mv_latch.specs.Request.{posted_ecb};
 ghost use Rattle.mv_calls.specs.Rest.{IsAtRest};
 ghost use Rattle.mv_board.specs.Faces.{AreFresh, AreInOrder, IsOf};
 
-use super::await_post;
+use super::{await_post, pair};
 use mv_latch::{LatchForm, Mode};
 use mv_latchset::{LatchToken, ObtainRefusal, Obtained, obtain, purge, release_latch};
 use mv_machine::{Config, replay};
@@ -257,7 +257,7 @@ fn contend<R: Abort + Wait + Threads + Sync>(
         || take_often(rt, &station, first, 1, LatchForm::Waiting, times),
         || take_often(rt, &station, second, 2, form, times),
     );
-    Ok((station, vec![in alloc; first, second]?))
+    Ok((station, pair(rt, alloc, first, second)))
 }
 
 #[test]

@@ -7,7 +7,7 @@ ghost use Rattle.mv_machine.specs.Config.{exit_of};
 ghost use Rattle.mv_calls.specs.Rest.{IsAtRest};
 ghost use Rattle.mv_board.specs.Faces.{IsFresh, IsOf, AreInOrder};
 
-use super::{ROUNDS, assert_is_block, await_post, linger};
+use super::{ROUNDS, assert_is_block, await_post, linger, pair};
 use mv_machine::{Config, Exit, Object, ValidConfig};
 use mv_wait::{PostAnswer, Station, Task, WaitSlot};
 use std::alloc::Global;
@@ -207,11 +207,17 @@ fn hand_back<R: Abort + Wait>(
 }
 
 // How many events the history of a station has, whose two tasks are back.
-fn count_events(alloc: Global, station: Station, first: Task, second: Task) -> Result<usize, Fail>
+fn count_events(
+    rt: &impl Abort,
+    alloc: Global,
+    station: Station,
+    first: Task,
+    second: Task,
+) -> Result<usize, Fail>
     requires order { AreInOrder station 0 (first ∷ second ∷ []) }
     requires all { station.config.callers ≡ 2 }
 {
-    let closed = station.close(vec![in alloc; first, second]?);
+    let closed = station.close(pair(rt, alloc, first, second));
     let listed = closed.history.listed(alloc)?;
     Ok(listed.journal.len())
 }
@@ -231,7 +237,7 @@ fn two_threads_post_in_turn(rt: HostRuntime) -> Result<(), Fail> {
         || hand_over(&rt, &station, first, 0, 1, ROUNDS),
         || hand_back(&rt, &station, second, 1, 0, ROUNDS),
     );
-    let events = count_events(alloc, station, first, second)?;
+    let events = count_events(&rt, alloc, station, first, second)?;
     assert_eq!(rt; events, 8 * ROUNDS as usize);
     Ok(())
 }
@@ -362,15 +368,15 @@ fn wait_for_all<R: Abort + Wait>(
     rt: &R,
     alloc: Global,
     station: &Station,
-    mut task: Task,
+    task: &mut Task,
     blocks: u32,
 ) -> Result<(), Fail>
-    requires task { IsOf station.now task }
-    requires rest { IsAtRest task.log }
+    requires task { IsOf station.now task.old }
+    requires rest { IsAtRest task.old.log }
 {
     let ecbs = first_blocks(rt, alloc, station, blocks)?;
     let mut out = vec![in alloc; WaitSlot::Open; ecbs.len()]?;
-    wait_for(rt, station, &mut task, blocks, &ecbs, &mut out);
+    wait_for(rt, station, task, blocks, &ecbs, &mut out);
     Ok(())
 }
 
@@ -396,10 +402,16 @@ fn wait_for_many<R: Abort + Wait + Threads + Sync>(
     requires { blocks < 2 ^ 16 }
 {
     let owners = vec![in alloc; 0u32; blocks as usize]?;
-    let (station, first, second) = open_two(alloc, 2 * blocks, blocks, &owners, Vec::new(alloc))?;
+    let (station, mut first, second) = open_two(
+        alloc,
+        2 * blocks,
+        blocks,
+        &owners,
+        Vec::new(alloc),
+    )?;
     let (waited, ()) = join(
         rt,
-        || wait_for_all(rt, alloc, &station, first, blocks),
+        || wait_for_all(rt, alloc, &station, &mut first, blocks),
         || post_each(rt, &station, second, blocks),
     );
     waited

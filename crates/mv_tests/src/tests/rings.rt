@@ -1,7 +1,7 @@
 //! A small executor on one thread: eight tasks hand a post round in a ring, and then releases, and each is polled only where an
 //! event has rung its key, or it has made an event itself.
 
-ghost use Rattle.std.specs.Prelude.{◌≡◌, ◌<◌, ◌≤◌, length, IfOk};
+ghost use Rattle.std.specs.Prelude.{◌≡◌, ◌<◌, ◌≤◌, ◌++◌, [], ◌∷◌, length, IfOk};
 ghost use Rattle.std.specs.List.{AllByRecursion};
 ghost use Rattle.mv_machine.specs.Setup.{element_count};
 ghost use Rattle.mv_calls.specs.Rest.{IsAtRest};
@@ -39,20 +39,20 @@ struct Runner {
 }
 
 // A task at rest that is to wait for its block.
-fn waiting(alloc: Global, station: &Station, task: Task) -> Result<Runner, Fail>
+fn waiting(rt: &impl Abort, alloc: Global, station: &Station, task: Task) -> Runner
     requires task { IsOf station.now task }
     requires rest { IsAtRest task.log }
     requires number { task.number < 8 }
     requires left { 2 ≤ task.left }
     requires blocks { length station.now.config.owners ≡ 8 }
-    ensures { IfOk result (λ r. MayGoOn station.now r.task r.wait r.pause) }
+    ensures { MayGoOn station.now result.task result.wait result.pause }
 {
-    let call = a_wait(alloc, station, &task, 1, &[task.number()])?;
-    Ok(Runner {
+    let call = a_wait(rt, alloc, station, &task, 1, &[task.number()]);
+    Runner {
         task,
         wait: Some(call),
         pause: None,
-    })
+    }
 }
 
 // A task at rest that is to pause with its element of this generation.
@@ -186,16 +186,11 @@ fn go_on<R: Abort + Wait>(rt: &R, station: &Station, runner: Runner) -> Runner
 
 // A new task takes its element in use, and the last one posts the first one's block.
 #[tactic(auto, using(mv_wait::proofs::Compose::served))]
-fn begin<R: Abort + Wait>(
-    rt: &R,
-    alloc: Global,
-    station: &Station,
-    mut task: Task,
-) -> Result<Runner, Fail>
+fn begin<R: Abort + Wait>(rt: &R, alloc: Global, station: &Station, mut task: Task) -> Runner
     requires task { IsOf station.now task }
     requires rest { IsAtRest task.log }
     requires blocks { length station.now.config.owners ≡ 8 }
-    ensures { IfOk result (λ r. MayGoOn station.now r.task r.wait r.pause) }
+    ensures { MayGoOn station.now result.task result.wait result.pause }
 {
     assert!(rt; task.left() > 0);
     assert!(rt; allocate(station, rt, &mut task).is_ok());
@@ -203,7 +198,16 @@ fn begin<R: Abort + Wait>(
         post(rt, station, &mut task, 0, 0);
     }
     assert!(rt; task.number() <= LAST && task.left() >= 2);
-    waiting(alloc, station, task)
+    waiting(rt, alloc, station, task)
+}
+
+// One more task behind the others.
+fn add<R: Abort>(rt: &R, runners: &mut VecDeque<Runner>, runner: Runner)
+    ensures { runners.new.items ≡ runners.old.items ++ runner ∷ [] }
+{
+    if runners.push_back(runner).is_err() {
+        panic!(rt; "no memory for one more task")
+    }
 }
 
 // The tasks, the last one first. Each has its element in use and waits for its block; the first one's is posted.
@@ -212,18 +216,18 @@ fn begin_all<R: Abort + Wait>(
     alloc: Global,
     station: &Station,
     mut tasks: Vec<Task>,
-) -> Result<VecDeque<Runner>, Fail>
+) -> VecDeque<Runner>
     requires tasks { AreFresh station.now 0 tasks.items }
     requires blocks { length station.now.config.owners ≡ 8 }
-    ensures { IfOk result (λ rs. AllByRecursion (λ r. MayGoOn station.now r.task r.wait r.pause) rs.items) }
+    ensures { AllByRecursion (λ r. MayGoOn station.now r.task r.wait r.pause) result.items }
 {
     let mut runners = VecDeque::new(alloc);
     for _ in 0..=LAST {
         assert!(rt; !tasks.is_empty());
         let task = station.take_last(&mut tasks);
-        runners.push_back(begin(rt, alloc, station, task)?)?;
+        add(rt, &mut runners, begin(rt, alloc, station, task));
     }
-    Ok(runners)
+    runners
 }
 
 // Marks the task of each key that the entries of a log from this one on ring. Task e has block e and element e, whose keys end in e.
@@ -242,16 +246,16 @@ fn run<R: Abort + Wait>(
     rt: &R,
     station: &Station,
     mut runners: VecDeque<Runner>,
-) -> Result<VecDeque<Runner>, Fail>
+) -> VecDeque<Runner>
     requires runners { AllByRecursion (λ r. MayGoOn station.now r.task r.wait r.pause) runners.items }
     requires blocks { length station.now.config.owners ≡ 8 }
     requires elements { element_count station.now.config ≡ 8 }
-    ensures { IfOk result (λ rs. AllByRecursion (λ r. MayGoOn station.now r.task r.wait r.pause) rs.items) }
+    ensures { AllByRecursion (λ r. MayGoOn station.now r.task r.wait r.pause) result.items }
 {
     let mut woken = [true; 8];
     for _ in 0..TURNS {
         let Some(mut runner) = runners.pop_front() else {
-            return Ok(runners);
+            return runners;
         };
         let number = (runner.task.number() & 7) as usize;
         if woken[number] {
@@ -260,9 +264,9 @@ fn run<R: Abort + Wait>(
             woken[number] = runner.task.log().len() > from;
             hear(&mut woken, runner.task.log(), from);
         }
-        runners.push_back(runner)?;
+        add(rt, &mut runners, runner);
     }
-    Ok(runners)
+    runners
 }
 
 // The tasks in their order, once all are done.
@@ -271,9 +275,9 @@ fn tasks_of<R: Abort>(
     alloc: Global,
     station: &Station,
     mut runners: VecDeque<Runner>,
-) -> Result<Vec<Task>, Fail>
+) -> Vec<Task>
     requires runners { AllByRecursion (λ r. MayGoOn station.now r.task r.wait r.pause) runners.items }
-    ensures { IfOk result (λ ts. AreInOrder station.now 0 ts.items × (length ts.items ≡ 8)) }
+    ensures { AreInOrder station.now 0 result.items × (length result.items ≡ 8) }
 {
     let _config = station.config();
     let mut tasks = Vec::new(alloc);
@@ -283,10 +287,12 @@ fn tasks_of<R: Abort>(
         };
         assert!(rt; runner.wait.is_none() && runner.pause.is_none());
         assert_eq!(rt; runner.task.number() as usize, tasks.len());
-        tasks.push(runner.task)?;
+        if tasks.push(runner.task).is_err() {
+            panic!(rt; "no memory for the tasks")
+        }
     }
     assert_eq!(rt; tasks.len(), 8);
-    Ok(tasks)
+    tasks
 }
 
 // A block for each task.
@@ -307,14 +313,14 @@ fn go_round<R: Abort + Wait>(
     alloc: Global,
     station: &Station,
     tasks: Vec<Task>,
-) -> Result<Vec<Task>, Fail>
+) -> Vec<Task>
     requires tasks { AreFresh station.now 0 tasks.items }
     requires blocks { length station.now.config.owners ≡ 8 }
     requires elements { element_count station.now.config ≡ 8 }
-    ensures { IfOk result (λ ts. AreInOrder station.now 0 ts.items × (length ts.items ≡ 8)) }
+    ensures { AreInOrder station.now 0 result.items × (length result.items ≡ 8) }
 {
-    let runners = begin_all(rt, alloc, station, tasks)?;
-    let runners = run(rt, station, runners)?;
+    let runners = begin_all(rt, alloc, station, tasks);
+    let runners = run(rt, station, runners);
     tasks_of(rt, alloc, station, runners)
 }
 
@@ -322,7 +328,7 @@ fn go_round<R: Abort + Wait>(
 fn eight_tasks_go_round_by_what_is_rung(rt: HostRuntime) -> Result<(), Fail> {
     let owners = eight_owners(&rt, rt.alloc())?;
     let (station, tasks) = open(rt.alloc(), owners)?;
-    let tasks = go_round(&rt, rt.alloc(), &station, tasks)?;
+    let tasks = go_round(&rt, rt.alloc(), &station, tasks);
     let closed = station.close(tasks);
     let listed = closed.history.listed(rt.alloc())?;
     // Of each task its allocation, an arm, a settle and what it hands on, and in each lap a pause, a resume and what it hands on; and the

@@ -15,6 +15,6 @@ loop-preserved g c =
       | then-woken-number w ↦ subst (λ (r : Runner). MayGoOn b r.task r.wait r.pause) (sym w.runner-is) w.go_on-runner.ensures
       | else-woken-number w ↦ subst (λ (r : Runner). MayGoOn b r.task r.wait r.pause) (sym w.runner-is) parts.0
     ] in record {
-      runners = with_one (λ (r : Runner). MayGoOn b r.task r.wait r.pause) c.pop_front.new.self.items c.push_back.new.self.items
-          c.if-woken-number.runner c.in_ok-push_back.ensures.items parts.1 one;
+      runners = with_one (λ (r : Runner). MayGoOn b r.task r.wait r.pause) c.pop_front.new.self.items c.add.new.runners.items
+          c.if-woken-number.runner c.add.ensures parts.1 one;
     }
