@@ -1,14 +1,13 @@
 //! Tests of the crates below, here since a crate with tests is proved twice over: of boards, of waits and posts, of pauses, and of
-//! latches.
+//! latches. Want of memory stops a test: an early return that drops its tasks would be most of its proof.
 
-ghost use Rattle.std.specs.Prelude.{◌≡◌, ◌<◌, ◌≤◌, [], ◌∷◌, false, length};
+ghost use Rattle.std.specs.Prelude.{◌≡◌, ◌<◌, ◌≤◌, false, length};
 ghost use Rattle.mv_machine.specs.Setup.{owner_of};
 ghost use Rattle.mv_calls.specs.Keeping.{kept_of};
 ghost use Rattle.mv_calls.specs.Rest.{IsAtRest};
 ghost use Rattle.mv_board.specs.Faces.{IsOf};
 
 use mv_wait::{Station, Task};
-use std::alloc::Global;
 use std::hint;
 use std::process::Abort;
 use std::sync::Wait;
@@ -28,16 +27,6 @@ const COMPLETE: u32 = 1 << 30;
 fn linger() {
     for _ in 0..20_000u32 {
         hint::spin_loop();
-    }
-}
-
-// A list of two. Want of memory stops the test: an early return that drops them would be most of the proof of a test that has them.
-fn pair<T: Drop>(rt: &impl Abort, alloc: Global, first: T, second: T) -> Vec<T>
-    ensures { result.items ≡ first ∷ second ∷ [] }
-{
-    match vec![in alloc; first, second] {
-        Ok(list) => list,
-        Err(_) => panic!(rt; "no memory for a list of two"),
     }
 }
 

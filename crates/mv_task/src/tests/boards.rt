@@ -1,6 +1,6 @@
 //! Events of callers on one board: each call once, callers on threads of their own, and the history that a board leaves.
 
-ghost use Rattle.std.specs.Prelude.{◌≡◌, ◌+◌, ◌<◌, ◌≤◌, [], ◌∷◌, true, false, length, IfOk};
+ghost use Rattle.std.specs.Prelude.{◌≡◌, ◌+◌, ◌<◌, ◌≤◌, [], ◌∷◌, true, false, length};
 ghost use Rattle.mv_latch.specs.Request.{is_posted};
 ghost use Rattle.mv_machine.specs.Kept.{allowed, standing, stands_after};
 ghost use Rattle.mv_machine.specs.Legal.{Legal};
@@ -8,7 +8,6 @@ ghost use Rattle.mv_machine.specs.Limits.{events_limit};
 ghost use Rattle.mv_machine.specs.System.{ecb_admitted};
 ghost use Rattle.mv_board.specs.Faces.{IsOf, IsFresh, AreFresh, AreInOrder};
 
-use super::pair;
 use mv_board::{Board, Caller, Moved, Watch};
 use mv_ecb::{EcbOp, EcbReply};
 use mv_latch::{LatchForm, LatchOp, LatchReply, Mode, Wake};
@@ -16,15 +15,14 @@ use mv_machine::{Config, Entry, Listed, Object, Op, Reply, replay};
 use std::alloc::Global;
 use std::process::Abort;
 use std::sync::Wait;
-use std::test::Fail;
 use std::thread::{Threads, join};
 
 // ---- boards of two and of three callers
 
 // A new board, and its callers with these budgets, each with one element and four requests, and one event control block, of caller 0.
-fn open(alloc: Global, budgets: Vec<u32>) -> Result<(Board, Vec<Caller>), Fail>
+fn open(rt: &impl Abort, alloc: Global, budgets: Vec<u32>) -> (Board, Vec<Caller>)
     requires { length budgets.items ≤ 16 }
-    ensures config { IfOk result (λ r. r.0.config ≡ record {
+    ensures config { result.0.config ≡ record {
       callers = length budgets.items;
       elements_per_caller = 1;
       volumes = 1;
@@ -34,9 +32,9 @@ fn open(alloc: Global, budgets: Vec<u32>) -> Result<(Board, Vec<Caller>), Fail>
       budgets = budgets.items;
       owners = 0 ∷ [];
       exits = [];
-    }) }
-    ensures callers { IfOk result (λ r. AreFresh r.0 0 r.1.items) }
-    ensures count { IfOk result (λ r. length r.1.items ≡ length budgets.items) }
+    } }
+    ensures callers { AreFresh result.0 0 result.1.items }
+    ensures count { length result.1.items ≡ length budgets.items }
 {
     let config = Config {
         callers: budgets.len() as u32,
@@ -46,10 +44,11 @@ fn open(alloc: Global, budgets: Vec<u32>) -> Result<(Board, Vec<Caller>), Fail>
         quota: 4,
         posted_quota: 0,
         budgets,
-        owners: vec![in alloc; 0]?,
+        owners: vec![in alloc; 0].expect(rt, "room for an owner"),
         exits: Vec::new(alloc),
     };
-    Ok(Board::open(alloc, config.check(alloc)?)?)
+    let config = config.check(alloc).expect(rt, "a configuration");
+    Board::open(alloc, config).expect(rt, "memory for a board")
 }
 
 // The last of some new callers, which has this number.
@@ -67,28 +66,30 @@ fn last(board: &Board, callers: &mut Vec<Caller>, number: u32) -> Caller
 }
 
 // A new board, with its one caller, which has this budget.
-fn open_one(alloc: Global, budget: u32) -> Result<(Board, Caller), Fail>
-    ensures callers { IfOk result (λ r. r.0.config.callers ≡ 1) }
-    ensures block { IfOk result (λ r. r.0.config.owners ≡ 0 ∷ []) }
-    ensures caller { IfOk result (λ r. IsFresh r.0 0 r.1 × (r.1.left ≡ budget)) }
+fn open_one(rt: &impl Abort, alloc: Global, budget: u32) -> (Board, Caller)
+    ensures callers { result.0.config.callers ≡ 1 }
+    ensures block { result.0.config.owners ≡ 0 ∷ [] }
+    ensures caller { IsFresh result.0 0 result.1 × (result.1.left ≡ budget) }
 {
-    let (board, mut callers) = open(alloc, vec![in alloc; budget]?)?;
+    let budgets = vec![in alloc; budget].expect(rt, "room for a budget");
+    let (board, mut callers) = open(rt, alloc, budgets);
     let caller = last(&board, &mut callers, 0);
-    Ok((board, caller))
+    (board, caller)
 }
 
 // A new board, with its two callers, which have these budgets.
-fn open_two(alloc: Global, first: u32, second: u32) -> Result<(Board, Caller, Caller), Fail>
-    ensures callers { IfOk result (λ r. r.0.config.callers ≡ 2) }
-    ensures block { IfOk result (λ r. r.0.config.owners ≡ 0 ∷ []) }
-    ensures latch { IfOk result (λ r. (r.0.config.latches ≡ 1) × (r.0.config.quota ≡ 4)) }
-    ensures first { IfOk result (λ r. IsFresh r.0 0 r.1 × (r.1.left ≡ first)) }
-    ensures second { IfOk result (λ r. IsFresh r.0 1 r.2 × (r.2.left ≡ second)) }
+fn open_two(rt: &impl Abort, alloc: Global, first: u32, second: u32) -> (Board, Caller, Caller)
+    ensures callers { result.0.config.callers ≡ 2 }
+    ensures block { result.0.config.owners ≡ 0 ∷ [] }
+    ensures latch { (result.0.config.latches ≡ 1) × (result.0.config.quota ≡ 4) }
+    ensures first { IsFresh result.0 0 result.1 × (result.1.left ≡ first) }
+    ensures second { IsFresh result.0 1 result.2 × (result.2.left ≡ second) }
 {
-    let (board, mut callers) = open(alloc, vec![in alloc; first, second]?)?;
+    let budgets = vec![in alloc; first, second].expect(rt, "room for two budgets");
+    let (board, mut callers) = open(rt, alloc, budgets);
     let second = last(&board, &mut callers, 1);
     let first = last(&board, &mut callers, 0);
-    Ok((board, first, second))
+    (board, first, second)
 }
 
 // The end of a board with these callers, all there are.
@@ -98,10 +99,10 @@ fn close(rt: &impl Abort, alloc: Global, board: Board, callers: Vec<Caller>) -> 
     ensures legal { Legal result.config result.journal.items }
     ensures few { length result.journal.items ≤ events_limit }
 {
-    match board.close(callers).history.listed(alloc) {
-        Ok(listed) => listed,
-        Err(_) => panic!(rt; "no memory for a list of events"),
-    }
+    let history = board.close(callers).history;
+    history
+        .listed(alloc)
+        .expect(rt, "memory for a list of events")
 }
 
 // The end of a board with two callers.
@@ -112,22 +113,24 @@ fn close_two(rt: &impl Abort, alloc: Global, board: Board, first: Caller, second
     ensures legal { Legal result.config result.journal.items }
     ensures few { length result.journal.items ≤ events_limit }
 {
-    close(rt, alloc, board, pair(rt, alloc, first, second))
+    let callers = vec![in alloc; first, second].expect(rt, "room for two callers");
+    close(rt, alloc, board, callers)
 }
 
 // A new board, with its three callers, each with this budget.
-fn open_three(alloc: Global, budget: u32) -> Result<(Board, Caller, Caller, Caller), Fail>
-    ensures callers { IfOk result (λ r. r.0.config.callers ≡ 3) }
-    ensures block { IfOk result (λ r. r.0.config.owners ≡ 0 ∷ []) }
-    ensures first { IfOk result (λ r. IsFresh r.0 0 r.1 × (r.1.left ≡ budget)) }
-    ensures second { IfOk result (λ r. IsFresh r.0 1 r.2 × (r.2.left ≡ budget)) }
-    ensures third { IfOk result (λ r. IsFresh r.0 2 r.3 × (r.3.left ≡ budget)) }
+fn open_three(rt: &impl Abort, alloc: Global, budget: u32) -> (Board, Caller, Caller, Caller)
+    ensures callers { result.0.config.callers ≡ 3 }
+    ensures block { result.0.config.owners ≡ 0 ∷ [] }
+    ensures first { IsFresh result.0 0 result.1 × (result.1.left ≡ budget) }
+    ensures second { IsFresh result.0 1 result.2 × (result.2.left ≡ budget) }
+    ensures third { IsFresh result.0 2 result.3 × (result.3.left ≡ budget) }
 {
-    let (board, mut callers) = open(alloc, vec![in alloc; budget, budget, budget]?)?;
+    let budgets = vec![in alloc; budget, budget, budget].expect(rt, "room for budgets");
+    let (board, mut callers) = open(rt, alloc, budgets);
     let third = last(&board, &mut callers, 2);
     let second = last(&board, &mut callers, 1);
     let first = last(&board, &mut callers, 0);
-    Ok((board, first, second, third))
+    (board, first, second, third)
 }
 
 // The end of a board with three callers.
@@ -146,10 +149,7 @@ fn close_three(
     ensures legal { Legal result.config result.journal.items }
     ensures few { length result.journal.items ≤ events_limit }
 {
-    let mut callers = pair(rt, alloc, first, second);
-    if callers.push(third).is_err() {
-        panic!(rt; "no memory for a third caller")
-    }
+    let callers = vec![in alloc; first, second, third].expect(rt, "room for three callers");
     close(rt, alloc, board, callers)
 }
 
@@ -242,12 +242,11 @@ fn assert_is_posted_and_armed(rt: &impl Abort, journal: &[Entry]) {
 }
 
 #[test]
-fn a_post_its_looks_and_its_journal(rt: HostRuntime) -> Result<(), Fail> {
-    let (board, mut owner, mut poster) = open_two(rt.alloc(), 3, 3)?;
+fn a_post_its_looks_and_its_journal(rt: HostRuntime) {
+    let (board, mut owner, mut poster) = open_two(&rt, rt.alloc(), 3, 3);
     post_and_arm(&rt, &board, &mut owner, &mut poster);
     let closed = close_two(&rt, rt.alloc(), board, owner, poster);
     assert_is_posted_and_armed(&rt, &closed.journal);
-    Ok(())
 }
 
 // ---- threads on one word
@@ -312,21 +311,19 @@ fn log_tests<R: Abort + Wait>(rt: &R, board: &Board, caller: Caller, events: u32
 
 // The two that bench/run times.
 #[test]
-fn events_of_one_thread(rt: HostRuntime) -> Result<(), Fail> {
-    let (board, caller) = open_one(rt.alloc(), 250_000)?;
+fn events_of_one_thread(rt: HostRuntime) {
+    let (board, caller) = open_one(&rt, rt.alloc(), 250_000);
     log_tests(&rt, &board, caller, 250_000);
-    Ok(())
 }
 
 #[test]
-fn events_of_two_threads_on_one_word(rt: HostRuntime) -> Result<(), Fail> {
-    let (board, first, second) = open_two(rt.alloc(), 125_000, 125_000)?;
+fn events_of_two_threads_on_one_word(rt: HostRuntime) {
+    let (board, first, second) = open_two(&rt, rt.alloc(), 125_000, 125_000);
     join(
         &rt,
         || log_tests(&rt, &board, first, 125_000),
         || log_tests(&rt, &board, second, 125_000),
     );
-    Ok(())
 }
 
 // Posts of the block, beside tests of it by another thread.
@@ -362,8 +359,8 @@ fn is_replayed<R: Abort>(rt: &R, alloc: Global, closed: &Listed) -> bool
 }
 
 #[test]
-fn one_clears_one_posts_and_one_tests(rt: HostRuntime) -> Result<(), Fail> {
-    let (board, owner, poster, tester) = open_three(rt.alloc(), 10_000)?;
+fn one_clears_one_posts_and_one_tests(rt: HostRuntime) {
+    let (board, owner, poster, tester) = open_three(&rt, rt.alloc(), 10_000);
     let (owner, (poster, tester)) = join(
         &rt,
         || repeat(&rt, &board, owner, EcbOp::Clear, 10_000),
@@ -372,7 +369,6 @@ fn one_clears_one_posts_and_one_tests(rt: HostRuntime) -> Result<(), Fail> {
     let closed = close_three(&rt, rt.alloc(), board, owner, poster, tester);
     assert_eq!(rt; closed.journal.len(), 30_000);
     assert!(rt; is_replayed(&rt, rt.alloc(), &closed));
-    Ok(())
 }
 
 // ---- the latch
@@ -490,8 +486,8 @@ fn contend<R: Abort + Wait>(
 }
 
 #[test]
-fn two_threads_contend_for_one_latch(rt: HostRuntime) -> Result<(), Fail> {
-    let (board, first, second) = open_two(rt.alloc(), 2000, 2000)?;
+fn two_threads_contend_for_one_latch(rt: HostRuntime) {
+    let (board, first, second) = open_two(&rt, rt.alloc(), 2000, 2000);
     let ((first, one), (second, other)) = join(
         &rt,
         || contend(&rt, &board, first, 1000),
@@ -505,7 +501,6 @@ fn two_threads_contend_for_one_latch(rt: HostRuntime) -> Result<(), Fail> {
     let closed = close_two(&rt, rt.alloc(), board, first, second);
     assert_eq!(rt; closed.journal.len(), 2000 + one + other);
     assert!(rt; is_replayed(&rt, rt.alloc(), &closed));
-    Ok(())
 }
 
 // A request for a latch that another holds: it waits, under this number.
@@ -559,8 +554,7 @@ fn wake_three<R: Abort + Wait>(rt: &R, board: &Board, waiter: &mut Caller, holde
 }
 
 #[test]
-fn a_release_wakes_three_in_order(rt: HostRuntime) -> Result<(), Fail> {
-    let (board, mut first, mut second) = open_two(rt.alloc(), 3, 2)?;
+fn a_release_wakes_three_in_order(rt: HostRuntime) {
+    let (board, mut first, mut second) = open_two(&rt, rt.alloc(), 3, 2);
     wake_three(&rt, &board, &mut first, &mut second);
-    Ok(())
 }

@@ -1,12 +1,12 @@
 //! What no clause says: the key of a token, and two threads of which one waits for what the other holds; and the rounds that `bench/run`
 //! times. Tables of calls with their answers are scripts, in mv_program.
 
-ghost use Rattle.std.specs.Prelude.{◌≡◌, ◌<◌, ◌≤◌, length, IfOk, IfSome};
+ghost use Rattle.std.specs.Prelude.{◌≡◌, ◌<◌, ◌≤◌, length, IfSome};
 ghost use Rattle.mv_latch.specs.Request.{posted_ecb};
 ghost use Rattle.mv_calls.specs.Rest.{IsAtRest};
 ghost use Rattle.mv_board.specs.Faces.{AreFresh, AreInOrder, IsOf};
 
-use super::{await_post, pair};
+use super::await_post;
 use mv_latch::{LatchForm, Mode};
 use mv_latchset::{LatchToken, ObtainRefusal, Obtained, obtain, purge, release_latch};
 use mv_machine::{Config, replay};
@@ -18,12 +18,12 @@ use std::test::Fail;
 use std::thread::{self, Threads, join};
 
 // A new station with eight latches, and one block of the last task's; and its tasks, which have these budgets.
-fn open(alloc: Global, budgets: Vec<u32>) -> Result<(Station, Vec<Task>), Fail>
+fn open(rt: &impl Abort, alloc: Global, budgets: Vec<u32>) -> (Station, Vec<Task>)
     requires { (1 ≤ length budgets.items) × (length budgets.items ≤ 16) }
-    ensures tasks { IfOk result (λ r. AreFresh r.0 0 r.1.items × (length r.1.items ≡ length budgets.items)) }
-    ensures callers { IfOk result (λ r. r.0.config.callers ≡ length budgets.items) }
-    ensures latches { IfOk result (λ r. r.0.config.latches ≡ 8) }
-    ensures block { IfOk result (λ r. length r.0.config.owners ≡ 1) }
+    ensures tasks { AreFresh result.0 0 result.1.items × (length result.1.items ≡ length budgets.items) }
+    ensures callers { result.0.config.callers ≡ length budgets.items }
+    ensures latches { result.0.config.latches ≡ 8 }
+    ensures block { length result.0.config.owners ≡ 1 }
 {
     let callers = budgets.len() as u32;
     let config = Config {
@@ -34,35 +34,38 @@ fn open(alloc: Global, budgets: Vec<u32>) -> Result<(Station, Vec<Task>), Fail>
         quota: 8,
         posted_quota: 1,
         budgets,
-        owners: vec![in alloc; callers - 1]?,
+        owners: vec![in alloc; callers - 1].expect(rt, "room for an owner"),
         exits: Vec::new(alloc),
     };
-    Ok(Station::open(alloc, config.check(alloc)?)?)
+    let config = config.check(alloc).expect(rt, "a configuration");
+    Station::open(alloc, config).expect(rt, "memory for a station")
 }
 
 // The same of one task with this budget, and the task.
-fn open_one(alloc: Global, budget: u32) -> Result<(Station, Task), Fail>
-    ensures task { IfOk result (λ r. IsOf r.0 r.1 × IsAtRest r.1.log) }
-    ensures latches { IfOk result (λ r. r.0.config.latches ≡ 8) }
-    ensures block { IfOk result (λ r. length r.0.config.owners ≡ 1) }
+fn open_one(rt: &impl Abort, alloc: Global, budget: u32) -> (Station, Task)
+    ensures task { IsOf result.0 result.1 × IsAtRest result.1.log }
+    ensures latches { result.0.config.latches ≡ 8 }
+    ensures block { length result.0.config.owners ≡ 1 }
 {
-    let (station, mut tasks) = open(alloc, vec![in alloc; budget]?)?;
+    let budgets = vec![in alloc; budget].expect(rt, "room for a budget");
+    let (station, mut tasks) = open(rt, alloc, budgets);
     let task = station.take_last(&mut tasks);
-    Ok((station, task))
+    (station, task)
 }
 
 // The same of two tasks with these budgets, and the tasks.
-fn open_two(alloc: Global, first: u32, second: u32) -> Result<(Station, Task, Task), Fail>
-    ensures first { IfOk result (λ r. IsOf r.0 r.1 × (r.1.number ≡ 0) × IsAtRest r.1.log) }
-    ensures second { IfOk result (λ r. IsOf r.0 r.2 × (r.2.number ≡ 1) × IsAtRest r.2.log) }
-    ensures callers { IfOk result (λ r. r.0.config.callers ≡ 2) }
-    ensures latches { IfOk result (λ r. r.0.config.latches ≡ 8) }
-    ensures block { IfOk result (λ r. length r.0.config.owners ≡ 1) }
+fn open_two(rt: &impl Abort, alloc: Global, first: u32, second: u32) -> (Station, Task, Task)
+    ensures first { IsOf result.0 result.1 × (result.1.number ≡ 0) × IsAtRest result.1.log }
+    ensures second { IsOf result.0 result.2 × (result.2.number ≡ 1) × IsAtRest result.2.log }
+    ensures callers { result.0.config.callers ≡ 2 }
+    ensures latches { result.0.config.latches ≡ 8 }
+    ensures block { length result.0.config.owners ≡ 1 }
 {
-    let (station, mut tasks) = open(alloc, vec![in alloc; first, second]?)?;
+    let budgets = vec![in alloc; first, second].expect(rt, "room for two budgets");
+    let (station, mut tasks) = open(rt, alloc, budgets);
     let second = station.take_last(&mut tasks);
     let first = station.take_last(&mut tasks);
-    Ok((station, first, second))
+    (station, first, second)
 }
 
 // ---- the calls, of a task at rest that is asserted to have the events for them
@@ -133,10 +136,9 @@ fn take_three<R: Abort + Wait>(rt: &R, station: &Station, task: &mut Task)
 }
 
 #[test]
-fn a_token_has_the_key_of_its_record(rt: HostRuntime) -> Result<(), Fail> {
-    let (station, mut task) = open_one(rt.alloc(), 100)?;
+fn a_token_has_the_key_of_its_record(rt: HostRuntime) {
+    let (station, mut task) = open_one(&rt, rt.alloc(), 100);
     take_three(&rt, &station, &mut task);
-    Ok(())
 }
 
 // ---- two threads
@@ -202,8 +204,8 @@ fn obtain_behind_a_post<R: Abort + Wait>(
 }
 
 #[test]
-fn a_request_is_purged_while_its_task_waits(rt: HostRuntime) -> Result<(), Fail> {
-    let (station, waiter, mut holder) = open_two(rt.alloc(), 100, 200_100)?;
+fn a_request_is_purged_while_its_task_waits(rt: HostRuntime) {
+    let (station, waiter, mut holder) = open_two(&rt, rt.alloc(), 100, 200_100);
     let held = take(&rt, &station, &mut holder, 0, 1, LatchForm::Conditional);
     let (purged, obtained) = join(
         &rt,
@@ -212,7 +214,6 @@ fn a_request_is_purged_while_its_task_waits(rt: HostRuntime) -> Result<(), Fail>
     );
     assert!(rt; purged);
     assert_eq!(rt; obtained, Err(ObtainRefusal::Purged));
-    Ok(())
 }
 
 // Takes latch 0 and gives it back, so many times.
@@ -245,24 +246,25 @@ fn contend<R: Abort + Wait + Threads + Sync>(
     alloc: Global,
     form: LatchForm,
     times: u32,
-) -> Result<(Station, Vec<Task>), Fail>
+) -> (Station, Vec<Task>)
     requires form { IfSome (posted_ecb form) (λ e. e ≡ 0) }
     requires times { times ≤ 10000 }
-    ensures tasks { IfOk result (λ r. AreInOrder r.0 0 r.1.items × (length r.1.items ≡ r.0.config.callers)) }
+    ensures tasks { AreInOrder result.0 0 result.1.items × (length result.1.items ≡ result.0.config.callers) }
 {
     let budget = 5 * times + 100;
-    let (station, first, second) = open_two(alloc, budget, budget)?;
+    let (station, first, second) = open_two(rt, alloc, budget, budget);
     let (first, second) = join(
         rt,
         || take_often(rt, &station, first, 1, LatchForm::Waiting, times),
         || take_often(rt, &station, second, 2, form, times),
     );
-    Ok((station, pair(rt, alloc, first, second)))
+    let tasks = vec![in alloc; first, second].expect(rt, "room for two tasks");
+    (station, tasks)
 }
 
 #[test]
 fn one_task_takes_a_latch_beside_one_that_is_posted_for_it(rt: HostRuntime) -> Result<(), Fail> {
-    let (station, tasks) = contend(&rt, rt.alloc(), LatchForm::Posted(0), 1000)?;
+    let (station, tasks) = contend(&rt, rt.alloc(), LatchForm::Posted(0), 1000);
     let closed = station.close(tasks);
     let listed = closed.history.listed(rt.alloc())?;
     replay(rt.alloc(), &listed.config, &listed.journal)?;
@@ -271,16 +273,24 @@ fn one_task_takes_a_latch_beside_one_that_is_posted_for_it(rt: HostRuntime) -> R
 
 // ---- what bench/run times
 
-#[test]
-fn a_free_latch_is_taken_and_given_back(rt: HostRuntime) -> Result<(), Fail> {
-    let (station, task) = open_one(rt.alloc(), 50_010)?;
-    let task = take_often(&rt, &station, task, 1, LatchForm::Waiting, 25_000);
+// Takes a free latch and gives it back, with two events each time.
+fn take_free<R: Abort + Wait>(rt: &R, station: &Station, task: Task)
+    requires task { IsOf station.now task }
+    requires rest { IsAtRest task.log }
+    requires block { length station.now.config.owners ≡ 1 }
+    requires latches { station.now.config.latches ≡ 8 }
+{
+    let task = take_often(rt, station, task, 1, LatchForm::Waiting, 25_000);
     assert_eq!(rt; task.log().len(), 50_000);
-    Ok(())
 }
 
 #[test]
-fn two_threads_take_one_latch(rt: HostRuntime) -> Result<(), Fail> {
-    contend(&rt, rt.alloc(), LatchForm::Waiting, 10_000)?;
-    Ok(())
+fn a_free_latch_is_taken_and_given_back(rt: HostRuntime) {
+    let (station, task) = open_one(&rt, rt.alloc(), 50_010);
+    take_free(&rt, &station, task);
+}
+
+#[test]
+fn two_threads_take_one_latch(rt: HostRuntime) {
+    contend(&rt, rt.alloc(), LatchForm::Waiting, 10_000);
 }

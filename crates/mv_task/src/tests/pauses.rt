@@ -1,7 +1,7 @@
 //! What no clause says: two threads of which one wakes the other; and the hand-offs that `bench/run` times. Beside these, worked rows of an
 //! exchange that is refused by the state, which no script shows. Tables of calls with their answers are scripts, in mv_program.
 
-ghost use Rattle.std.specs.Prelude.{◌≡◌, ◌<◌, ◌≤◌, IfOk};
+ghost use Rattle.std.specs.Prelude.{◌≡◌, ◌<◌, ◌≤◌};
 ghost use Rattle.mv_element.specs.Table.{release_limit};
 ghost use Rattle.mv_machine.specs.Limits.{highest_generation};
 ghost use Rattle.mv_machine.specs.Setup.{element_count};
@@ -20,19 +20,14 @@ use mv_wait::{Station, Task};
 use std::alloc::Global;
 use std::process::Abort;
 use std::sync::Wait;
-use std::test::Fail;
 use std::thread::{self, join};
 
 // A new station with its two tasks, which have this budget, and of which each has the first of its two elements in use.
 #[tactic(auto, using(mv_wait::proofs::Compose::served))]
-fn open_two<R: Abort + Wait>(
-    rt: &R,
-    alloc: Global,
-    budget: u32,
-) -> Result<(Station, Task, Task), Fail>
-    ensures elements { IfOk result (λ r. element_count r.0.config ≡ 4) }
-    ensures first { IfOk result (λ r. IsOf r.0 r.1 × IsAtRest r.1.log) }
-    ensures second { IfOk result (λ r. IsOf r.0 r.2 × IsAtRest r.2.log) }
+fn open_two<R: Abort + Wait>(rt: &R, alloc: Global, budget: u32) -> (Station, Task, Task)
+    ensures elements { element_count result.0.config ≡ 4 }
+    ensures first { IsOf result.0 result.1 × IsAtRest result.1.log }
+    ensures second { IsOf result.0 result.2 × IsAtRest result.2.log }
 {
     let config = Config {
         callers: 2,
@@ -41,17 +36,18 @@ fn open_two<R: Abort + Wait>(
         latches: 1,
         quota: 1,
         posted_quota: 0,
-        budgets: vec![in alloc; budget, budget]?,
+        budgets: vec![in alloc; budget, budget].expect(rt, "room for two budgets"),
         owners: Vec::new(alloc),
         exits: Vec::new(alloc),
     };
-    let (station, mut tasks) = Station::open(alloc, config.check(alloc)?)?;
+    let config = config.check(alloc).expect(rt, "a configuration");
+    let (station, mut tasks) = Station::open(alloc, config).expect(rt, "memory for a station");
     let mut second = station.take_last(&mut tasks);
     let mut first = station.take_last(&mut tasks);
     assert!(rt; first.left() > 0 && second.left() > 0);
     assert_eq!(rt; allocate(&station, rt, &mut first), Ok(token(0, 0)));
     assert_eq!(rt; allocate(&station, rt, &mut second), Ok(token(2, 0)));
-    Ok((station, first, second))
+    (station, first, second)
 }
 
 fn token(element: u32, generation: u32) -> Token
@@ -214,19 +210,18 @@ fn exchange_thrice(rt: &impl Abort, station: &Station, task: &mut Task)
 }
 
 // A new station with the first of its two tasks.
-fn open_first<R: Abort + Wait>(rt: &R, alloc: Global) -> Result<(Station, Task), Fail>
-    ensures elements { IfOk result (λ r. element_count r.0.config ≡ 4) }
-    ensures task { IfOk result (λ r. IsOf r.0 r.1 × IsAtRest r.1.log) }
+fn open_first<R: Abort + Wait>(rt: &R, alloc: Global) -> (Station, Task)
+    ensures elements { element_count result.0.config ≡ 4 }
+    ensures task { IsOf result.0 result.1 × IsAtRest result.1.log }
 {
-    let (station, first, _) = open_two(rt, alloc, 20)?;
-    Ok((station, first))
+    let (station, first, _) = open_two(rt, alloc, 20);
+    (station, first)
 }
 
 #[test]
-fn an_exchange_is_refused_by_the_state_that_is_expected(rt: HostRuntime) -> Result<(), Fail> {
-    let (station, mut task) = open_first(&rt, rt.alloc())?;
+fn an_exchange_is_refused_by_the_state_that_is_expected(rt: HostRuntime) {
+    let (station, mut task) = open_first(&rt, rt.alloc());
     exchange_thrice(&rt, &station, &mut task);
-    Ok(())
 }
 
 // ---- two threads
@@ -281,15 +276,14 @@ fn release_the_paused<R: Abort + Wait>(
 }
 
 #[test]
-fn a_pause_that_parked_is_woken(rt: HostRuntime) -> Result<(), Fail> {
-    let (station, first, second) = open_two(&rt, rt.alloc(), 20)?;
+fn a_pause_that_parked_is_woken(rt: HostRuntime) {
+    let (station, first, second) = open_two(&rt, rt.alloc(), 20);
     let (_paused, released) = join(
         &rt,
         || pause_once(&rt, &station, first),
         || release_the_paused(&rt, &station, second),
     );
     assert_eq!(rt; released, Ok(ReleaseAnswer::Woke));
-    Ok(())
 }
 
 // A call of its own, made of a look and an exchange: releases a pause that is on. Whether there was one.
@@ -331,15 +325,14 @@ fn release_by_exchange<R: Abort + Wait>(rt: &R, station: &Station, mut task: Tas
 }
 
 #[test]
-fn a_call_made_of_events_wakes_whom_it_releases(rt: HostRuntime) -> Result<(), Fail> {
-    let (station, first, second) = open_two(&rt, rt.alloc(), 20)?;
+fn a_call_made_of_events_wakes_whom_it_releases(rt: HostRuntime) {
+    let (station, first, second) = open_two(&rt, rt.alloc(), 20);
     let (_paused, released) = join(
         &rt,
         || pause_once(&rt, &station, first),
         || release_by_exchange(&rt, &station, second),
     );
     assert!(rt; released);
-    Ok(())
 }
 
 // Releases the other's pause and pauses, once with each generation.
@@ -369,14 +362,13 @@ fn hand_back<R: Abort + Wait>(rt: &R, station: &Station, mut task: Task, times: 
 }
 
 #[test]
-fn two_threads_release_in_turn(rt: HostRuntime) -> Result<(), Fail> {
-    let (station, first, second) = open_two(&rt, rt.alloc(), 3 * ROUNDS + 1)?;
+fn two_threads_release_in_turn(rt: HostRuntime) {
+    let (station, first, second) = open_two(&rt, rt.alloc(), 3 * ROUNDS + 1);
     join(
         &rt,
         || hand_over(&rt, &station, first, ROUNDS),
         || hand_back(&rt, &station, second, ROUNDS),
     );
-    Ok(())
 }
 
 // ---- two threads that transfer
@@ -451,12 +443,11 @@ fn transfer_back<R: Abort + Wait>(rt: &R, station: &Station, mut task: Task)
 }
 
 #[test]
-fn a_transfer_wakes_whom_it_releases(rt: HostRuntime) -> Result<(), Fail> {
-    let (station, first, second) = open_two(&rt, rt.alloc(), 3 * TRANSFERS + 4)?;
+fn a_transfer_wakes_whom_it_releases(rt: HostRuntime) {
+    let (station, first, second) = open_two(&rt, rt.alloc(), 3 * TRANSFERS + 4);
     join(
         &rt,
         || transfer_over(&rt, &station, first),
         || transfer_back(&rt, &station, second),
     );
-    Ok(())
 }

@@ -7,24 +7,24 @@ ghost use Rattle.mv_machine.specs.Config.{exit_of};
 ghost use Rattle.mv_calls.specs.Rest.{IsAtRest};
 ghost use Rattle.mv_board.specs.Faces.{IsFresh, IsOf, AreInOrder};
 
-use super::{ROUNDS, assert_is_block, await_post, linger, pair};
+use super::{ROUNDS, assert_is_block, await_post, linger};
 use mv_machine::{Config, Exit, Object, ValidConfig};
 use mv_wait::{PostAnswer, Station, Task, WaitSlot};
-use std::alloc::Global;
+use std::alloc::{AllocError, Global};
 use std::process::Abort;
 use std::sync::Wait;
-use std::test::Fail;
 use std::thread::{self, Threads, join};
 
 // Tasks with these budgets, these blocks and these exits.
 fn setup(
+    rt: &impl Abort,
     alloc: Global,
     budgets: &[u32],
     owners: &[u32],
     exits: Vec<Exit>,
-) -> Result<ValidConfig, Fail>
+) -> ValidConfig
     requires { length budgets.now ≤ 16 }
-    ensures { IfOk result (λ c. c ≡ record {
+    ensures { result ≡ record {
       callers = length budgets.now;
       elements_per_caller = 1;
       volumes = 1;
@@ -34,7 +34,7 @@ fn setup(
       budgets = budgets.now;
       owners = owners.now;
       exits = map exit_of exits.items;
-    }) }
+    } }
 {
     let config = Config {
         callers: budgets.len() as u32,
@@ -43,51 +43,53 @@ fn setup(
         latches: 1,
         quota: 1,
         posted_quota: 0,
-        budgets: Vec::from_slice(alloc, budgets)?,
-        owners: Vec::from_slice(alloc, owners)?,
+        budgets: Vec::from_slice(alloc, budgets).expect(rt, "room for budgets"),
+        owners: Vec::from_slice(alloc, owners).expect(rt, "room for owners"),
         exits,
     };
-    Ok(config.check(alloc)?)
+    config.check(alloc).expect(rt, "a configuration")
 }
 
 // A new station of one task, with this budget, these blocks and these exits.
 fn open_one(
+    rt: &impl Abort,
     alloc: Global,
     budget: u32,
     owners: &[u32],
     exits: Vec<Exit>,
-) -> Result<(Station, Task), Fail>
-    ensures { IfOk result (λ r. IsFresh r.0 0 r.1) }
+) -> (Station, Task)
+    ensures { IsFresh result.0 0 result.1 }
 {
-    let config = setup(alloc, &[budget], owners, exits)?;
-    let (station, mut tasks) = Station::open(alloc, config)?;
+    let config = setup(rt, alloc, &[budget], owners, exits);
+    let (station, mut tasks) = Station::open(alloc, config).expect(rt, "memory for a station");
     let task = station.take_last(&mut tasks);
-    Ok((station, task))
+    (station, task)
 }
 
 // A new station of two tasks, with these budgets, these blocks and these exits.
 fn open_two(
+    rt: &impl Abort,
     alloc: Global,
     first: u32,
     second: u32,
     owners: &[u32],
     exits: Vec<Exit>,
-) -> Result<(Station, Task, Task), Fail>
-    ensures callers { IfOk result (λ r. r.0.config.callers ≡ 2) }
-    ensures first { IfOk result (λ r. IsFresh r.0 0 r.1) }
-    ensures second { IfOk result (λ r. IsFresh r.0 1 r.2) }
+) -> (Station, Task, Task)
+    ensures callers { result.0.config.callers ≡ 2 }
+    ensures first { IsFresh result.0 0 result.1 }
+    ensures second { IsFresh result.0 1 result.2 }
 {
-    let config = setup(alloc, &[first, second], owners, exits)?;
-    let (station, mut tasks) = Station::open(alloc, config)?;
+    let config = setup(rt, alloc, &[first, second], owners, exits);
+    let (station, mut tasks) = Station::open(alloc, config).expect(rt, "memory for a station");
     let second = station.take_last(&mut tasks);
     let first = station.take_last(&mut tasks);
-    Ok((station, first, second))
+    (station, first, second)
 }
 
 // ---- one task
 
 // The exits of a chain of blocks, each of which posts the next.
-fn chain(alloc: Global, exits: u32) -> Result<Vec<Exit>, Fail>
+fn chain(alloc: Global, exits: u32) -> Result<Vec<Exit>, AllocError>
     requires { exits ≤ 1000 }
 {
     let mut list = Vec::new(alloc);
@@ -101,12 +103,13 @@ fn chain(alloc: Global, exits: u32) -> Result<Vec<Exit>, Fail>
 }
 
 // A new station of such a chain, with its one task.
-fn open_chain(alloc: Global, exits: u32) -> Result<(Station, Task), Fail>
+fn open_chain(rt: &impl Abort, alloc: Global, exits: u32) -> (Station, Task)
     requires { exits ≤ 1000 }
-    ensures { IfOk result (λ r. IsFresh r.0 0 r.1) }
+    ensures { IsFresh result.0 0 result.1 }
 {
-    let owners = vec![in alloc; 0u32; exits as usize + 1]?;
-    open_one(alloc, 4000, &owners, chain(alloc, exits)?)
+    let owners = vec![in alloc; 0u32; exits as usize + 1].expect(rt, "room for owners");
+    let exits = chain(alloc, exits).expect(rt, "room for exits");
+    open_one(rt, alloc, 4000, &owners, exits)
 }
 
 // The code of each post.
@@ -155,10 +158,9 @@ fn post_chain<R: Abort + Wait>(rt: &R, station: &Station, task: &mut Task)
 }
 
 #[test]
-fn a_chain_of_a_thousand_exits_is_posted(rt: HostRuntime) -> Result<(), Fail> {
-    let (station, mut task) = open_chain(rt.alloc(), 1000)?;
+fn a_chain_of_a_thousand_exits_is_posted(rt: HostRuntime) {
+    let (station, mut task) = open_chain(&rt, rt.alloc(), 1000);
     post_chain(&rt, &station, &mut task);
-    Ok(())
 }
 
 // ---- two threads
@@ -213,33 +215,36 @@ fn count_events(
     station: Station,
     first: Task,
     second: Task,
-) -> Result<usize, Fail>
+) -> usize
     requires order { AreInOrder station 0 (first ∷ second ∷ []) }
     requires all { station.config.callers ≡ 2 }
 {
-    let closed = station.close(pair(rt, alloc, first, second));
-    let listed = closed.history.listed(alloc)?;
-    Ok(listed.journal.len())
+    let tasks = vec![in alloc; first, second].expect(rt, "room for two tasks");
+    let listed = station.close(tasks).history.listed(alloc);
+    listed
+        .expect(rt, "memory for a list of events")
+        .journal
+        .len()
 }
 
 #[test]
-fn two_threads_post_in_turn(rt: HostRuntime) -> Result<(), Fail> {
+fn two_threads_post_in_turn(rt: HostRuntime) {
     let alloc = rt.alloc();
     let (station, first, second) = open_two(
+        &rt,
         alloc,
         4 * ROUNDS,
         4 * ROUNDS,
         &[0, 1],
         Vec::new(alloc),
-    )?;
+    );
     let (first, second) = join(
         &rt,
         || hand_over(&rt, &station, first, 0, 1, ROUNDS),
         || hand_back(&rt, &station, second, 1, 0, ROUNDS),
     );
-    let events = count_events(&rt, alloc, station, first, second)?;
+    let events = count_events(&rt, alloc, station, first, second);
     assert_eq!(rt; events, 8 * ROUNDS as usize);
-    Ok(())
 }
 
 // ---- two threads and an exit
@@ -303,26 +308,26 @@ fn post_by_exit<R: Abort + Wait>(rt: &R, station: &Station, mut task: Task, time
 }
 
 // A new station of two tasks and three blocks, of which the first has an exit that posts the second.
-fn open_exit(alloc: Global) -> Result<(Station, Task, Task), Fail>
-    ensures first { IfOk result (λ r. IsFresh r.0 0 r.1) }
-    ensures second { IfOk result (λ r. IsFresh r.0 1 r.2) }
+fn open_exit(rt: &impl Abort, alloc: Global) -> (Station, Task, Task)
+    ensures first { IsFresh result.0 0 result.1 }
+    ensures second { IsFresh result.0 1 result.2 }
 {
     let exit = Exit {
         source: 0,
-        targets: vec![in alloc; 1]?,
+        targets: vec![in alloc; 1].expect(rt, "room for a target"),
     };
-    open_two(alloc, 700, 400, &[0, 1, 0], vec![in alloc; exit]?)
+    let exits = vec![in alloc; exit].expect(rt, "room for an exit");
+    open_two(rt, alloc, 700, 400, &[0, 1, 0], exits)
 }
 
 #[test]
-fn a_post_wakes_whom_its_exit_posts(rt: HostRuntime) -> Result<(), Fail> {
-    let (station, first, second) = open_exit(rt.alloc())?;
+fn a_post_wakes_whom_its_exit_posts(rt: HostRuntime) {
+    let (station, first, second) = open_exit(&rt, rt.alloc());
     join(
         &rt,
         || post_by_exit(&rt, &station, first, 100),
         || hand_back(&rt, &station, second, 1, 2, 100),
     );
-    Ok(())
 }
 
 // ---- a wait for many blocks
@@ -333,7 +338,7 @@ fn first_blocks(
     alloc: Global,
     station: &Station,
     blocks: u32,
-) -> Result<Vec<u32>, Fail>
+) -> Result<Vec<u32>, AllocError>
     ensures { IfOk result (λ es. AllByRecursion (λ e. e < length station.now.config.owners) es.items) }
 {
     let mut ecbs = Vec::new(alloc);
@@ -370,14 +375,13 @@ fn wait_for_all<R: Abort + Wait>(
     station: &Station,
     task: &mut Task,
     blocks: u32,
-) -> Result<(), Fail>
+)
     requires task { IsOf station.now task.old }
     requires rest { IsAtRest task.old.log }
 {
-    let ecbs = first_blocks(rt, alloc, station, blocks)?;
-    let mut out = vec![in alloc; WaitSlot::Open; ecbs.len()]?;
+    let ecbs = first_blocks(rt, alloc, station, blocks).expect(rt, "room for blocks");
+    let mut out = vec![in alloc; WaitSlot::Open; ecbs.len()].expect(rt, "room for slots");
     wait_for(rt, station, task, blocks, &ecbs, &mut out);
-    Ok(())
 }
 
 // Posts each of the first blocks.
@@ -394,38 +398,34 @@ fn post_each<R: Abort + Wait>(rt: &R, station: &Station, mut task: Task, blocks:
 }
 
 // One task waits for all of so many blocks, and another posts them one by one.
-fn wait_for_many<R: Abort + Wait + Threads + Sync>(
-    rt: &R,
-    alloc: Global,
-    blocks: u32,
-) -> Result<(), Fail>
+fn wait_for_many<R: Abort + Wait + Threads + Sync>(rt: &R, alloc: Global, blocks: u32)
     requires { blocks < 2 ^ 16 }
 {
-    let owners = vec![in alloc; 0u32; blocks as usize]?;
+    let owners = vec![in alloc; 0u32; blocks as usize].expect(rt, "room for owners");
     let (station, mut first, second) = open_two(
+        rt,
         alloc,
         2 * blocks,
         blocks,
         &owners,
         Vec::new(alloc),
-    )?;
-    let (waited, ()) = join(
+    );
+    join(
         rt,
         || wait_for_all(rt, alloc, &station, &mut first, blocks),
         || post_each(rt, &station, second, blocks),
     );
-    waited
 }
 
 // `bench/run` times these two: the second is to take twice as long as the first.
 #[test]
-fn a_wait_for_five_thousand_blocks(rt: HostRuntime) -> Result<(), Fail> {
-    wait_for_many(&rt, rt.alloc(), 5_000)
+fn a_wait_for_five_thousand_blocks(rt: HostRuntime) {
+    wait_for_many(&rt, rt.alloc(), 5_000);
 }
 
 #[test]
-fn a_wait_for_ten_thousand_blocks(rt: HostRuntime) -> Result<(), Fail> {
-    wait_for_many(&rt, rt.alloc(), 10_000)
+fn a_wait_for_ten_thousand_blocks(rt: HostRuntime) {
+    wait_for_many(&rt, rt.alloc(), 10_000);
 }
 
 // ---- many events
@@ -441,8 +441,7 @@ fn post_and_wait<R: Abort + Wait>(rt: &R, station: &Station, task: Task)
 
 // `bench/run` times it: 500,000 events that nobody disputes.
 #[test]
-fn posts_and_waits_of_one_thread(rt: HostRuntime) -> Result<(), Fail> {
-    let (station, task) = open_one(rt.alloc(), 500_000, &[0], Vec::new(rt.alloc()))?;
+fn posts_and_waits_of_one_thread(rt: HostRuntime) {
+    let (station, task) = open_one(&rt, rt.alloc(), 500_000, &[0], Vec::new(rt.alloc()));
     post_and_wait(&rt, &station, task);
-    Ok(())
 }
