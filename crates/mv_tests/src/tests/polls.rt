@@ -1,7 +1,7 @@
 //! What no clause says: that each call can be polled with ample memory, that a future registers and does not yield, and rows that were
-//! worked out by hand.
+//! worked out by hand. Want of memory stops a test: an early return that drops its tasks would be most of its proof.
 
-ghost use Rattle.std.specs.Prelude.{◌≡◌, ◌<◌, ◌≤◌, ◌*◌, true, false, length, IfOk, MatchOption};
+ghost use Rattle.std.specs.Prelude.{◌≡◌, ◌<◌, ◌≤◌, ◌*◌, true, false, length, MatchOption};
 ghost use Rattle.std.specs.List.{AllByRecursion};
 ghost use Rattle.mv_machine.specs.Setup.{element_count};
 ghost use Rattle.mv_calls.specs.Rest.{IsAtRest};
@@ -25,18 +25,17 @@ use std::alloc::{AllocGlobal, Global};
 use std::process::Abort;
 use std::random::RandomSource;
 use std::sync::Wait;
-use std::test::Fail;
 
 // The key of task 7's element, which is element 7.
 const ELEMENT: u64 = 4_294_967_303;
 
 // A new station with eight tasks of an element each, blocks of these owners and one latch; and its tasks.
-pub(crate) fn open(alloc: Global, owners: Vec<u32>) -> Result<(Station, Vec<Task>), Fail>
-    ensures blocks { IfOk result (λ r. length r.0.config.owners ≡ length owners.items) }
-    ensures elements { IfOk result (λ r. element_count r.0.config ≡ 8) }
-    ensures latches { IfOk result (λ r. r.0.config.latches ≡ 1) }
-    ensures callers { IfOk result (λ r. r.0.config.callers ≡ 8) }
-    ensures tasks { IfOk result (λ r. AreFresh r.0 0 r.1.items × (length r.1.items ≡ 8)) }
+pub(crate) fn open(rt: &impl Abort, alloc: Global, owners: Vec<u32>) -> (Station, Vec<Task>)
+    ensures blocks { length result.0.config.owners ≡ length owners.items }
+    ensures elements { element_count result.0.config ≡ 8 }
+    ensures latches { result.0.config.latches ≡ 1 }
+    ensures callers { result.0.config.callers ≡ 8 }
+    ensures tasks { AreFresh result.0 0 result.1.items × (length result.1.items ≡ 8) }
 {
     let config = Config {
         callers: 8,
@@ -45,11 +44,12 @@ pub(crate) fn open(alloc: Global, owners: Vec<u32>) -> Result<(Station, Vec<Task
         latches: 1,
         quota: 1,
         posted_quota: 0,
-        budgets: vec![in alloc; 100; 8]?,
+        budgets: vec![in alloc; 100; 8].expect(rt, "room for budgets"),
         owners,
         exits: Vec::new(alloc),
     };
-    Ok(Station::open(alloc, config.check(alloc)?)?)
+    let config = config.check(alloc).expect(rt, "a configuration");
+    Station::open(alloc, config).expect(rt, "memory for a station")
 }
 
 // Each entry of a task is of this operation, and rings this key.
@@ -79,8 +79,7 @@ pub(crate) fn post<R: Abort + Wait>(rt: &R, station: &Station, task: &mut Task, 
     station.post(rt, task, ecb, code);
 }
 
-// A wait that this task may poll. Here and below want of memory stops the test: an early return that drops a task would be most of a
-// proof.
+// A wait that this task may poll.
 pub(crate) fn a_wait(
     rt: &impl Abort,
     alloc: Global,
@@ -96,10 +95,7 @@ pub(crate) fn a_wait(
     ensures stage { (t0 : CallerFace) × IsWaitAt station.now.config result t0 task.now }
 {
     let _config = station.config();
-    match WaitCall::new(alloc, count, ecbs) {
-        Ok(call) => call,
-        Err(_) => panic!(rt; "no memory for a wait"),
-    }
+    WaitCall::new(alloc, count, ecbs).expect(rt, "memory for a wait")
 }
 
 // Whether a wait is over.
@@ -159,14 +155,13 @@ fn assert_waited<R: Abort>(rt: &R, waiter: &Task, poster: &Task) {
 }
 
 #[test]
-fn a_wait_for_two_of_three(rt: HostRuntime) -> Result<(), Fail> {
-    let owners = vec![in rt.alloc(); 7; 3]?;
-    let (station, mut tasks) = open(rt.alloc(), owners)?;
+fn a_wait_for_two_of_three(rt: HostRuntime) {
+    let owners = vec![in rt.alloc(); 7; 3].expect(&rt, "room for owners");
+    let (station, mut tasks) = open(&rt, rt.alloc(), owners);
     let mut waiter = station.take_last(&mut tasks);
     let mut poster = station.take_last(&mut tasks);
     wait_for_two(&rt, &station, &mut waiter, &mut poster);
     assert_waited(&rt, &waiter, &poster);
-    Ok(())
 }
 
 // ---- pauses
@@ -265,13 +260,12 @@ fn assert_paused<R: Abort>(rt: &R, first: &Task, second: &Task) {
 }
 
 #[test]
-fn a_pause_goes_on_once_it_is_released(rt: HostRuntime) -> Result<(), Fail> {
-    let (station, mut tasks) = open(rt.alloc(), Vec::new(rt.alloc()))?;
+fn a_pause_goes_on_once_it_is_released(rt: HostRuntime) {
+    let (station, mut tasks) = open(&rt, rt.alloc(), Vec::new(rt.alloc()));
     let mut first = station.take_last(&mut tasks);
     let mut second = station.take_last(&mut tasks);
     pause_for_nine(&rt, &station, &mut first, &mut second);
     assert_paused(&rt, &first, &second);
-    Ok(())
 }
 
 // ---- obtains
@@ -334,28 +328,27 @@ fn obtain_behind<R: Abort + Wait>(
 }
 
 #[test]
-fn an_obtain_goes_on_once_it_is_granted(rt: HostRuntime) -> Result<(), Fail> {
-    let (station, mut tasks) = open(rt.alloc(), Vec::new(rt.alloc()))?;
+fn an_obtain_goes_on_once_it_is_granted(rt: HostRuntime) {
+    let (station, mut tasks) = open(&rt, rt.alloc(), Vec::new(rt.alloc()));
     let mut first = station.take_last(&mut tasks);
     let mut second = station.take_last(&mut tasks);
     assert!(rt; first.left() >= 2 && second.left() >= 2);
     let holding = an_obtain(&station, &first);
     let waiting = an_obtain(&station, &second);
     obtain_behind(&rt, &station, &mut first, &mut second, holding, waiting);
-    Ok(())
 }
 
 // ---- futures
 
 // Polls the future of a wait for block 0, and rings another key, and then its own.
-fn ring_a_wait<R>(rt: &R, station: &Station, waiter: &mut Task) -> Result<(), Fail>
+fn ring_a_wait<R>(rt: &R, station: &Station, waiter: &mut Task)
 where
     R: Abort + Wait + RandomSource + AllocGlobal,
     requires waiter { IsOf station.now waiter.old }
     requires rest { IsAtRest waiter.old.log }
     requires one { length station.now.config.owners ≡ 1 }
 {
-    let task = MockTask::new(rt)?;
+    let task = MockTask::new(rt).expect(rt, "a task of the test's");
     assert!(rt; waiter.left() >= 2);
     let call = a_wait(rt, rt.alloc(), station, waiter, 1, &[0]);
     let sources = [Source::new()];
@@ -366,40 +359,38 @@ where
     assert!(rt; !task.is_woken());
     future.ring(0);
     assert!(rt; task.is_woken());
-    Ok(())
 }
 
 #[test]
-fn a_future_of_a_wait_registers_and_does_not_yield(rt: HostRuntime) -> Result<(), Fail> {
-    let owners = vec![in rt.alloc(); 7; 1]?;
-    let (station, mut tasks) = open(rt.alloc(), owners)?;
+fn a_future_of_a_wait_registers_and_does_not_yield(rt: HostRuntime) {
+    let owners = vec![in rt.alloc(); 7; 1].expect(&rt, "room for an owner");
+    let (station, mut tasks) = open(&rt, rt.alloc(), owners);
     let mut waiter = station.take_last(&mut tasks);
-    ring_a_wait(&rt, &station, &mut waiter)
+    ring_a_wait(&rt, &station, &mut waiter);
 }
 
 // Polls the future of a pause, and rings its key.
-fn ring_a_pause<R>(rt: &R, station: &Station, first: &mut Task, call: PauseCall) -> Result<(), Fail>
+fn ring_a_pause<R>(rt: &R, station: &Station, first: &mut Task, call: PauseCall)
 where
     R: Abort + Wait + RandomSource + AllocGlobal,
     requires first { IsOf station.now first.old }
     requires stage { (t0 : CallerFace) × IsPauseAt station.now.config call t0 first.old }
 {
-    let task = MockTask::new(rt)?;
+    let task = MockTask::new(rt).expect(rt, "a task of the test's");
     let source = Source::new();
     let mut future = PauseFuture::new(station, rt, first, call, &source);
     assert!(rt; task.poll(&mut future).is_pending() && !task.is_woken());
     assert_eq!(rt; future.call().key(), ELEMENT);
     future.ring();
     assert!(rt; task.is_woken());
-    Ok(())
 }
 
 #[test]
-fn a_future_of_a_pause_registers_and_does_not_yield(rt: HostRuntime) -> Result<(), Fail> {
-    let (station, mut tasks) = open(rt.alloc(), Vec::new(rt.alloc()))?;
+fn a_future_of_a_pause_registers_and_does_not_yield(rt: HostRuntime) {
+    let (station, mut tasks) = open(&rt, rt.alloc(), Vec::new(rt.alloc()));
     let mut first = station.take_last(&mut tasks);
     let call = a_pause(&rt, &station, &mut first);
-    ring_a_pause(&rt, &station, &mut first, call)
+    ring_a_pause(&rt, &station, &mut first, call);
 }
 
 // The future of a wait for block 0 is over at its first poll: an executor that polled it again without a ring would sleep for ever.
@@ -419,12 +410,11 @@ where
 }
 
 #[test]
-fn a_block_that_was_posted_ends_a_wait_at_once(rt: HostRuntime) -> Result<(), Fail> {
-    let owners = vec![in rt.alloc(); 7; 1]?;
-    let (station, mut tasks) = open(rt.alloc(), owners)?;
+fn a_block_that_was_posted_ends_a_wait_at_once(rt: HostRuntime) {
+    let owners = vec![in rt.alloc(); 7; 1].expect(&rt, "room for an owner");
+    let (station, mut tasks) = open(&rt, rt.alloc(), owners);
     let mut waiter = station.take_last(&mut tasks);
     let mut poster = station.take_last(&mut tasks);
     post(&rt, &station, &mut poster, 0, 5);
     end_at_once(&rt, &station, &mut waiter);
-    Ok(())
 }

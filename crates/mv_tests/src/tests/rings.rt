@@ -327,7 +327,7 @@ fn go_round<R: Abort + Wait>(
 #[test]
 fn eight_tasks_go_round_by_what_is_rung(rt: HostRuntime) -> Result<(), Fail> {
     let owners = eight_owners(&rt, rt.alloc())?;
-    let (station, tasks) = open(rt.alloc(), owners)?;
+    let (station, tasks) = open(&rt, rt.alloc(), owners);
     let tasks = go_round(&rt, rt.alloc(), &station, tasks);
     let closed = station.close(tasks);
     let listed = closed.history.listed(rt.alloc())?;
