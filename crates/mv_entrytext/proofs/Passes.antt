@@ -1,17 +1,16 @@
 -- The one pass over the lines.
 use Rattle.std.proofs.Common.{◌≡◌, ℕ, suc, ◌+◌, ◌<◌, ◌≤◌, Bool, true, false, eqb, ◌&&◌, List, [], ◌∷◌, length, take, drop, Option, Some}
-use Rattle.std.proofs.Common.{None, refl, sym, ap, subst, ◌∙◌, arith}
+use Rattle.std.proofs.Common.{None, refl, sym, ap, subst, arith}
 use Rattle.std.proofs.lemmas.Bool.{eq-eqb, ne_eqb}
 use Rattle.std.proofs.lemmas.List.{length-append, length-drop, nil_from_length}
 use Rattle.mv_machine.specs.declared.entry.Entry.{Entry}
 use Rattle.mv_machine.specs.Setup.{Setup}
 use Rattle.mv_line.specs.declared.fault.LineRefusal.{LineRefusal}
 use Rattle.mv_line.specs.declared.fault.LineRefusal.TheVariants.{Has, NoMemory}
-use Rattle.mv_line.specs.Fault.{HasPassed, TellsLowest, refusal_at, fault_at}
-use Rattle.mv_line.specs.Line.{lines_of, ended_part, ended_lines, cut_off}
-use Rattle.mv_line.proofs.Ended.{cut_again}
+use Rattle.mv_line.specs.Fault.{TellsLowest, refusal_at, fault_at}
+use Rattle.mv_line.specs.Line.{lines_of, ended_lines, cut_off}
 use Rattle.mv_line.proofs.Lines.{line_end, line_of_text}
-use Rattle.mv_line.proofs.Passes.{at_first, told_at, cut_at_end, whole_at_end}
+use Rattle.mv_line.proofs.Passes.{told_at, cut_at_end, whole_at_end}
 use Rattle.mv_entrytext.specs.declared.fault.Kind.{Kind}
 use Rattle.mv_entrytext.specs.declared.fault.Kind.TheVariants.{NoForm, WrongCount, Cut}
 use Rattle.mv_entrytext.specs.declared.version.Version.{Version}
@@ -49,20 +48,6 @@ one_line_more AtExits v c es ns Events m = omega arith
 one_line_more (AtEntries w) v c es ns (EntryOf call e) m = omega (arith, length-append es (e ∷ []))
 one_line_more (AtEntries w) v c es ns (End n) m = omega arith
 one_line_more s v c es ns l m = absurd m
-
--- before the first line
-pub at_start : (bytes ended : List ℕ) → ended ≡ ended_part bytes → IsAt bytes ended 1 blank
-at_start bytes ended e =
-    let rules = line_rules (cut_off bytes) in
-    let whole : length (ended_part bytes) + length (cut_off bytes) ≡ length bytes =
-    sym (length-append (ended_part bytes) (cut_off bytes)) ∙ ap (λ (x : List ℕ). length x) (cut_again bytes) in
-    let same : length ended ≡ length (ended_part bytes) = ap (λ (x : List ℕ). length x) e in
-    record {
-      passed = subst (λ (x : List ℕ). HasPassed rules blank (ended_lines bytes) 1 blank (lines_of x)) (sym e)
-          (at_first rules blank (ended_lines bytes));
-      count = omega (arith, whole, same);
-      line = refl;
-    }
 
 -- the reader stands before a line: its text, and what stands behind its LF
 pub record IsAtLine (bytes rest : List ℕ) (number : ℕ) (d : Draft) (text behind : List ℕ) : Type 0 where

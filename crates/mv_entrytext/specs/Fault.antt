@@ -59,17 +59,18 @@ kind_said d (Some l) = if has_bad_config d l then Some BadConfig else if has_wro
 abbrev pub kind_of : Draft → List ℕ → Option Kind
 kind_of d line = or_else (kind_of_form d.stage line) (kind_said d (line_read true d.stage line))
 
--- the number of a kind, as a list: of a line the first kind is told alone
+-- the kinds of a line by number: the first alone, where it has one
 abbrev pub listed : Option Kind → List ℕ
 listed kind = option_to_list (option_map kind_number kind)
 
 -- ---- all lines
 
--- what the lines have said with this one
+-- what lines have said with one more, by what is read of it
 abbrev pub draft_after : Draft → Option Line → Draft
 draft_after d None = d
 draft_after d (Some l) = draft_with l d
 
+-- the same by its text
 abbrev pub with_line : Draft → List ℕ → Draft
 with_line d line = draft_after d (line_read true d.stage line)
 

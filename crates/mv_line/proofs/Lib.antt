@@ -12,5 +12,5 @@ pub mod Parts
 pub mod Numbers
 -- texts whose faults are listed by line, here and in the crates above
 pub mod Faults
--- read_lines
+-- passes over the lines of a text that end elsewhere than read_lines, in the crates above
 pub mod Passes

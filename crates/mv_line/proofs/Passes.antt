@@ -1,4 +1,4 @@
--- The one pass over the lines of a text.
+-- A pass over the lines of a text: how it begins, what a line more does, and how it ends.
 use Rattle.std.proofs.Common.{◌≡◌, ℕ, ◌+◌, Bool, true, false, not, List, [], ◌∷◌, map, Some, None, refl, sym, ap, ◌∙◌}
 use Rattle.std.specs.Prelude.{fold, option_map, if◌then◌else◌}
 use Rattle.mv_line.specs.declared.fault.LineRefusal.{LineRefusal}

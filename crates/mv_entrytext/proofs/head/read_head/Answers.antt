@@ -7,12 +7,9 @@ use Rattle.mv_entrytext.specs.Lines.{AtEntries, Draft, line_read}
 use Rattle.mv_entrytext.specs.Said.{said}
 use Rattle.mv_entrytext.specs.Draft.{IsAt, draft_at, head_seen}
 use Rattle.mv_entrytext.proofs.Heads.{not_ended, said_other, nothing_said, valid_said}
-use Rattle.mv_entrytext.proofs.Passes.{IsAtLine, at_start, next_at, at_form, at_said, at_cut}
+use Rattle.mv_entrytext.proofs.Passes.{IsAtLine, next_at, at_form, at_said, at_cut}
 use Rattle.mv_entrytext.proofs.head.read_head.Goals.{After-split_line}
 use Rattle.mv_entrytext.proofs.head.read_head.Goals as goal
-
-pub lines-init : goal.lines-init
-lines-init c = rw c.new-draft.ensures (at_start c.args.bytes.now c.split_cut_off.result.0.now c.split_cut_off.ensures.ended)
 
 -- a line comes next
 here : (c : After-split_line)
