@@ -11,7 +11,7 @@ ghost use Rattle.mv_pause.specs.Releasing.{HasNoPause};
 
 use super::{ROUNDS, linger};
 use mv_element::{ElementOp, Phase, Token};
-use mv_machine::{Config, Object, Op, WordState, unpack};
+use mv_machine::{Config, Object, Op, ValidConfig, WordState, unpack};
 use mv_pause::{
     Given, ReleaseAnswer, ReleaseRefusal, TryReleaseRefusal, allocate, pause, release, transfer,
     try_release,
@@ -22,12 +22,10 @@ use std::process::Abort;
 use std::sync::Wait;
 use std::thread::{self, join};
 
-// A new station with its two tasks, which have this budget, and of which each has the first of its two elements in use.
-#[tactic(auto, using(mv_wait::proofs::Compose::served))]
-fn open_two<R: Abort + Wait>(rt: &R, alloc: Global, budget: u32) -> (Station, Task, Task)
-    ensures elements { element_count result.0.config ≡ 4 }
-    ensures first { IsOf result.0 result.1 × IsAtRest result.1.log }
-    ensures second { IsOf result.0 result.2 × IsAtRest result.2.log }
+// Two tasks with this budget, and two elements each.
+fn setup(rt: &impl Abort, alloc: Global, budget: u32) -> ValidConfig
+    ensures callers { result.callers ≡ 2 }
+    ensures elements { element_count result ≡ 4 }
 {
     let config = Config {
         callers: 2,
@@ -40,13 +38,33 @@ fn open_two<R: Abort + Wait>(rt: &R, alloc: Global, budget: u32) -> (Station, Ta
         owners: Vec::new(alloc),
         exits: Vec::new(alloc),
     };
-    let config = config.check(alloc).expect(rt, "a configuration");
+    config.check(alloc).expect(rt, "a configuration")
+}
+
+// Takes the task's first element in use, which is this one.
+#[tactic(auto, using(mv_wait::proofs::Compose::served))]
+fn begin<R: Abort + Wait>(rt: &R, station: &Station, task: &mut Task, element: u32)
+    requires task { IsOf station.now task.old }
+    requires rest { IsAtRest task.old.log }
+    ensures task { IsOf station.now task.new }
+    ensures rest { IsAtRest task.new.log }
+{
+    assert!(rt; task.left() > 0);
+    assert_eq!(rt; allocate(station, rt, task), Ok(token(element, 0)));
+}
+
+// A new station with its two tasks, which have this budget, and of which each has the first of its two elements in use.
+fn open_two<R: Abort + Wait>(rt: &R, alloc: Global, budget: u32) -> (Station, Task, Task)
+    ensures elements { element_count result.0.config ≡ 4 }
+    ensures first { IsOf result.0 result.1 × IsAtRest result.1.log }
+    ensures second { IsOf result.0 result.2 × IsAtRest result.2.log }
+{
+    let config = setup(rt, alloc, budget);
     let (station, mut tasks) = Station::open(alloc, config).expect(rt, "memory for a station");
     let mut second = station.take_last(&mut tasks);
     let mut first = station.take_last(&mut tasks);
-    assert!(rt; first.left() > 0 && second.left() > 0);
-    assert_eq!(rt; allocate(&station, rt, &mut first), Ok(token(0, 0)));
-    assert_eq!(rt; allocate(&station, rt, &mut second), Ok(token(2, 0)));
+    begin(rt, &station, &mut first, 0);
+    begin(rt, &station, &mut second, 2);
     (station, first, second)
 }
 

@@ -95,7 +95,10 @@ pub(crate) fn a_wait(
     ensures stage { (t0 : CallerFace) × IsWaitAt station.now.config result t0 task.now }
 {
     let _config = station.config();
-    WaitCall::new(alloc, count, ecbs).expect(rt, "memory for a wait")
+    match WaitCall::new(alloc, count, ecbs) {
+        Ok(call) => call,
+        Err(_) => panic!(rt; "no memory for a wait"),
+    }
 }
 
 // Whether a wait is over.

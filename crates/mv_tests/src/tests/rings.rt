@@ -269,6 +269,15 @@ fn run<R: Abort + Wait>(
     runners
 }
 
+// One more task behind those that are back.
+fn give_back<R: Abort>(rt: &R, tasks: &mut Vec<Task>, task: Task)
+    ensures { tasks.new.items ≡ tasks.old.items ++ task ∷ [] }
+{
+    if tasks.push(task).is_err() {
+        panic!(rt; "no memory for the tasks")
+    }
+}
+
 // The tasks in their order, once all are done.
 fn tasks_of<R: Abort>(
     rt: &R,
@@ -287,9 +296,7 @@ fn tasks_of<R: Abort>(
         };
         assert!(rt; runner.wait.is_none() && runner.pause.is_none());
         assert_eq!(rt; runner.task.number() as usize, tasks.len());
-        if tasks.push(runner.task).is_err() {
-            panic!(rt; "no memory for the tasks")
-        }
+        give_back(rt, &mut tasks, runner.task);
     }
     assert_eq!(rt; tasks.len(), 8);
     tasks

@@ -11,6 +11,6 @@ loop-preserved g c =
     let parts = without_last (λ (r : Runner). MayGoOn b r.task r.wait r.pause) c.loop.runners.items c.pop_back.new.self.items r
     c.in-Some.ensures.items c.loop.invariant.runners in
     let next : r.task.number ≡ length c.loop.tasks.items = omega (arith, c.number.ensures.number, c.loop.tasks.ok.0) in record {
-      order = with_next b c.loop.tasks.items c.push.new.self.items r.task c.in_ok-push.ensures.items c.loop.invariant.order parts.1.0 next;
+      order = with_next b c.loop.tasks.items c.give_back.new.tasks.items r.task c.give_back.ensures c.loop.invariant.order parts.1.0 next;
       runners = parts.0;
     }
