@@ -51,7 +51,7 @@ pub record IsOneCall (c : Setup) (k : ℕ) (es : List Entry) (old piece : List H
   pub done : IsDoneOn (program c service (kept_of k (entries old))) piece answer
 
 -- In a history with these numbers the piece of a caller's entries has one: the numbers of the caller's entries are as many as
--- went before, then as many as the piece has, all the same, and then the rest.
+-- went before, then as many as the piece has, all the same, and then what is left.
 pub record HasOneNumber (k : ℕ) (es : List Entry) (numbers : List ℕ) (old piece : List Heard) : Type 0 where
   pub before : List ℕ
   pub mine : List ℕ
