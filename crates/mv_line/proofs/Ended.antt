@@ -6,7 +6,7 @@ use Rattle.std.proofs.lemmas.Bool.{eqb-true, and_parts, not-true, not-false}
 use Rattle.std.proofs.lemmas.List.{take_all, drop_all, length-reverse, reverse-append, get_or-reverse, take_more}
 use Rattle.std.proofs.lemmas.List.Sums.{prefix_len_stops}
 use Rattle.mv_line.specs.Line.{lines_of, ended_part, ended_lines, cut_off}
-use Rattle.mv_line.proofs.Lines.{line_of_text}
+use Rattle.mv_line.proofs.FirstLine.{line_of_text}
 
 abbrev is_other : ℕ → Bool
 is_other b = not (eqb b 10)

@@ -1,7 +1,7 @@
 -- end_at
 pub mod Places
 -- split_line
-pub mod Lines
+pub mod FirstLine
 -- texts whose lines all end with LF, for journals
 pub mod Ended
 -- split_field

@@ -8,6 +8,8 @@ use Rattle.mv_line.specs.declared.fault.LineRefusal.TheVariants as of_line
 use Rattle.mv_line.specs.declared.fault.TextFault.{TextFault}
 use Rattle.mv_line.specs.declared.fault.TextRefusal.{TextRefusal}
 use Rattle.mv_line.specs.declared.fault.TextRefusal.TheVariants.{Fault, NoMemory}
+use Rattle.mv_line.specs.declared.line.Lines.{Lines}
+use Rattle.mv_line.specs.Line.{lines_of}
 
 -- The rules of a text: what its lines have said with one more; which kinds of fault a line has behind what was said before it, rising;
 -- when what was said is the whole of a text, and the kind of fault of a text that ends before that.
@@ -54,6 +56,13 @@ abbrev pub first_fault : {Said : Type 0} → LineRules Said → Said → List (L
 first_fault rules said lines = first_of_list (faults_by_line rules 1 said lines)
 
 -- ---- the pass over the lines
+
+-- the line of this number and text is passed, and these are left behind it
+pub record IsPassed (before : Lines) (number : ℕ) (line : List ℕ) (behind : Lines) : Type 0 where
+  pub here : number ≡ before.number
+  pub first : lines_of before.left.now ≡ line ∷ lines_of behind.left.now
+  pub next : behind.number ≡ before.number + 1
+  pub shorter : length behind.left.now < length before.left.now
 
 -- Of the lines of a text these are left, numbered from here on, behind lines that have no fault and have said this: what is left decides
 -- as the whole does.

@@ -1,6 +1,6 @@
 //! Lines of a text, and what of a line counts (`specs/Line.antt`).
 
-ghost use Rattle.std.specs.Prelude.{◌≡◌, ◌∷◌, ◌<◌, length};
+ghost use Rattle.std.specs.Prelude.{◌≡◌, ◌+◌, ◌-◌, ◌^◌, ◌<◌, [], ◌∷◌, length, MatchOption};
 ghost use Rattle.mv_line.specs.Line.{lines_of, behind_first_line, without_cr as text_without_cr, without_first_spaces as from_first_field};
 ghost use Rattle.mv_line.specs.Line.{without_last_spaces as to_last_field, begins_with_space as begins_so};
 ghost use Rattle.mv_line.specs.Line.{shown as what_counts, is_foreign as has_foreign, is_too_long as exceeds_card};
@@ -23,6 +23,54 @@ pub fn split_line(text: &[u8]) -> (&[u8], &[u8])
         return text.split_at(end);
     }
     (&text[..end], &text[end + 1..])
+}
+
+/// Where a pass over a text stands: the lines that are left, and the number of the next, counted from 1.
+#[derive(Clone, Copy)]
+pub struct Lines<'a> {
+    pub left: &'a [u8],
+    pub number: u32,
+    // So the line behind the last has a number too.
+    pub ghost counted: { number + length left.now < 2 ^ 32 },
+}
+
+impl<'a> Lines<'a> {
+    ghost use Rattle.mv_line.specs.Fault.{IsPassed};
+
+    /// All lines of a text.
+    pub fn of(text: &'a [u8]) -> Self
+        requires { length text.now < 2 ^ 32 - 1 }
+        ensures { (result.left.now ≡ text.now) × (result.number ≡ 1) }
+    {
+        Lines {
+            left: text,
+            number: 1,
+        }
+    }
+
+    /// Passes the next line, behind which this is left.
+    pub fn pass(&mut self, left: &'a [u8])
+        requires { length left.now < length self.old.left.now }
+        ensures { (self.new.left.now ≡ left.now) × (self.new.number ≡ self.old.number + 1) }
+    {
+        self.left = left;
+        self.number += 1;
+    }
+
+    /// The next line with its number, where one is left. In time linear in the line.
+    pub fn next(&mut self) -> Option<(u32, &'a [u8])>
+        ensures { MatchOption result
+            ((self.new ≡ self.old) × (lines_of self.old.left.now ≡ []))
+            (λ l. IsPassed self.old l.0 l.1.now self.new) }
+    {
+        if self.left.is_empty() {
+            return None;
+        }
+        let number = self.number;
+        let (line, left) = split_line(self.left);
+        self.pass(left);
+        Some((number, line))
+    }
 }
 
 /// A text up to its last LF, and what stands behind that, in time linear in the latter.

@@ -5,7 +5,7 @@ ghost use Rattle.mv_line.specs.Fault.{LineRules, TellsLowest, TellsFirst, first_
 ghost use Rattle.mv_line.specs.Line.{lines_of};
 
 use crate::fault::{FaultKind, LineRefusal, TextRefusal};
-use crate::line::split_line;
+use crate::line::Lines;
 
 /// What takes the lines of a text one by one, and keeps what it needs of them. `read_lines` hands a whole text to one.
 pub trait LineReader<'a> {
@@ -59,18 +59,14 @@ pub fn read_lines<'a, R: LineReader<'a>>(reader: &mut R, bytes: &'a [u8]) -> Res
         × R.HasTaken setting (fold (R.rules setting).with_line said (lines_of bytes.now)) reader.new)
         (λ e. TellsFirst e (first_fault (R.rules setting) said (lines_of bytes.now))) }
 {
-    let mut rest = bytes;
-    let mut number = 1;
-    while !rest.is_empty() {
-        let (line, behind) = split_line(rest);
+    let mut lines = Lines::of(bytes);
+    'lines: while let Some((number, line)) = lines.next() {
         if let Err(refusal) = reader.take_line(line) {
             return Err(refusal.at(number));
         }
-        rest = behind;
-        number += 1;
     }
     match reader.kind_at_end() {
-        Some(kind) => Err(TextRefusal::Fault(kind.at(number))),
+        Some(kind) => Err(TextRefusal::Fault(kind.at(lines.number))),
         None => Ok(()),
     }
 }

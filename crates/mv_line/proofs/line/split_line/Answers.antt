@@ -1,6 +1,6 @@
 use Rattle.std.proofs.Common.{arith}
 use Rattle.std.proofs.lemmas.Grind.{common_steps}
-use Rattle.mv_line.proofs.Lines.{line_of_text, behind_line}
+use Rattle.mv_line.proofs.FirstLine.{line_of_text, behind_line}
 use Rattle.mv_line.proofs.line.split_line.Goals as goal
 
 pub returns-then-end-text-clause-lines : goal.returns-then-end-text-clause-lines
