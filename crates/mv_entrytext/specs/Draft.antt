@@ -1,10 +1,11 @@
 -- Where the reader of journals is, and what it tells.
-use Rattle.std.specs.Prelude.{◌≡◌, ℕ, ◌+◌, ◌≤◌, List, [], length, Option, Some, None, is_some}
+use Rattle.std.specs.Prelude.{◌≡◌, ℕ, ◌+◌, List, [], length, Option, Some, None, is_some}
 use Rattle.std.specs.Prelude.{if◌then◌else◌}
 use Rattle.mv_machine.specs.Check.{refusal_of}
 use Rattle.mv_machine.specs.Config.{setup_of}
 use Rattle.mv_machine.specs.Setup.{Setup}
 use Rattle.mv_machine.specs.declared.entry.Entry.{Entry}
+use Rattle.mv_line.specs.declared.line.Lines.{Lines}
 use Rattle.mv_line.specs.Fault.{HasPassed}
 use Rattle.mv_line.specs.Line.{lines_of, ended_lines, cut_off}
 use Rattle.mv_entrytext.specs.declared.fault.Kind.{Kind}
@@ -47,8 +48,7 @@ first_line_at AtEnd = 9
 abbrev pub line_behind : Draft → ℕ
 line_behind d = first_line_at d.stage + length d.setup.budgets + length d.setup.owners + length d.setup.exits + length d.entries
 
--- the reader stands before the rest of the lines of a text, and those before it have said this
-pub record IsAt (bytes rest : List ℕ) (number : ℕ) (d : Draft) : Type 0 where
-  pub passed : HasPassed (line_rules (cut_off bytes)) blank (ended_lines bytes) number d (lines_of rest)
-  pub count : number + length rest ≤ length bytes + 1
-  pub line : number ≡ line_behind d
+-- these lines of a text are left, and those before them have said this
+pub record IsAt (bytes : List ℕ) (lines : Lines) (d : Draft) : Type 0 where
+  pub passed : HasPassed (line_rules (cut_off bytes)) blank (ended_lines bytes) lines.number d (lines_of lines.left.now)
+  pub line : lines.number ≡ line_behind d

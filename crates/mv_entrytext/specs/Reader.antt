@@ -1,5 +1,5 @@
 -- Where a reader of entries stands.
-use Rattle.std.specs.Prelude.{◌≡◌, ℕ, ◌<◌, ◌-◌, ◌^◌, List, [], ◌∷◌, ◌++◌, length, Option, Some, None}
+use Rattle.std.specs.Prelude.{◌≡◌, ℕ, List, [], ◌∷◌, ◌++◌, length, Option, Some, None}
 use Rattle.mv_machine.specs.declared.entry.Entry.{Entry}
 use Rattle.mv_machine.specs.Setup.{Setup}
 use Rattle.mv_line.specs.Line.{cut_off}
@@ -13,17 +13,16 @@ use Rattle.mv_entrytext.specs.Draft.{IsAt, draft_at}
 
 -- how many bytes it has before it
 abbrev pub left_in : EntryReader → ℕ
-left_in r = length r.rest.now
+left_in r = length r.lines.left.now
 
 -- Of a text of this version it has read the head, which told this configuration, and the lines of these entries, with these call
 -- numbers: what is left decides as the whole does.
 pub record IsReadTo (v : Version) (bytes : List ℕ) (c : Setup) (es : List Entry) (ns : List ℕ) (r : EntryReader) : Type 0 where
   pub version : r.version ≡ v
   pub cut : r.cut.now ≡ cut_off bytes
-  pub stands : IsAt bytes r.rest.now r.line (draft_at (AtEntries v) v c es ns)
+  pub stands : IsAt bytes r.lines (draft_at (AtEntries v) v c es ns)
   pub count : r.count ≡ length es
   pub calls : AreCallsIn v es ns
-  pub short : length bytes < 2 ^ 32 - 1
 
 -- one more entry is read behind them
 pub record IsReadNext (v : Version) (bytes : List ℕ) (c : Setup) (es : List Entry) (ns : List ℕ) (call : Option ℕ) (e : Entry)

@@ -15,7 +15,7 @@ use crate::fault::Kind;
 use crate::line::{Line, Stage, read_line};
 use crate::version::Version;
 use mv_io::NoMemory;
-use mv_line::{FaultKind, LineRefusal, TextRefusal, split_cut_off, split_line};
+use mv_line::{FaultKind, LineRefusal, Lines, TextRefusal, split_cut_off};
 use mv_machine::{CheckRefusal, Config, ValidConfig};
 use std::alloc::Global;
 
@@ -129,30 +129,27 @@ fn checked(alloc: Global, config: Config) -> Result<ValidConfig, LineRefusal<Kin
     }
 }
 
-/// A head that was read: its version, its configuration, the lines behind it, what is cut off behind these, and the number of the first.
+/// A head that was read: its version, its configuration, the lines behind it, and what is cut off behind these.
 #[derive(Drop)]
 pub(crate) struct Head<'a> {
     pub(crate) version: Version,
     pub(crate) config: ValidConfig,
-    pub(crate) rest: &'a [u8],
+    pub(crate) lines: Lines<'a>,
     pub(crate) cut: &'a [u8],
-    pub(crate) line: u32,
 }
 
 /// Reads the head of a journal, up to `EVENTS`.
 pub(crate) fn read_head(alloc: Global, bytes: &[u8]) -> Result<Head<'_>, TextRefusal>
     requires { length bytes.now < 2 ^ 32 - 1 }
     ensures { MatchResult result
-        (λ h. IsAt bytes.now h.rest.now h.line (draft_at (AtEntries h.version) h.version h.config [] [])
+        (λ h. IsAt bytes.now h.lines (draft_at (AtEntries h.version) h.version h.config [] [])
         × (h.cut.now ≡ cut_off bytes.now))
         (λ e. TellsFirst e (text_fault bytes.now)) }
 {
     let (ended, cut) = split_cut_off(bytes);
     let mut draft = HeadDraft::new(alloc);
-    let mut rest = ended;
-    let mut number = 1;
-    'lines: while !rest.is_empty() {
-        let (text, behind) = split_line(rest);
+    let mut lines = Lines::of(ended);
+    'lines: while let Some((number, text)) = lines.next() {
         let line = match line_or_kind(alloc, draft.stage, text) {
             Ok(line) => line,
             Err(refusal) => return Err(refusal.at(number)),
@@ -163,9 +160,8 @@ pub(crate) fn read_head(alloc: Global, bytes: &[u8]) -> Result<Head<'_>, TextRef
                 Ok(config) => Ok(Head {
                     version,
                     config,
-                    rest: behind,
+                    lines,
                     cut,
-                    line: number + 1,
                 }),
                 Err(refusal) => Err(refusal.at(number)),
             };
@@ -173,8 +169,6 @@ pub(crate) fn read_head(alloc: Global, bytes: &[u8]) -> Result<Head<'_>, TextRef
         let Ok(()) = draft.take(line) else {
             return Err(TextRefusal::NoMemory);
         };
-        rest = behind;
-        number += 1;
     }
-    Err(TextRefusal::Fault(Kind::Cut.at(number)))
+    Err(TextRefusal::Fault(Kind::Cut.at(lines.number)))
 }

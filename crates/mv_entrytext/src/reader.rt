@@ -1,14 +1,15 @@
 //! The reader of journals, one pass over the bytes, an entry at a time: `specs/Reader.antt` says where it stands, by
 //! `specs/Journal.antt`, `specs/Fault.antt` and `specs/Draft.antt`.
 
-ghost use Rattle.std.specs.Prelude.{◌≡◌, ◌+◌, ◌<◌, ◌-◌, ◌^◌, [], ◌∷◌, true, Some, ℕ, List, length, IfOk, IfSome, MatchResult};
+ghost use Rattle.std.specs.Prelude.{◌≡◌, ◌+◌, ◌<◌, ◌-◌, ◌^◌, [], true, Some, ℕ, List, length, IfOk, IfSome, MatchOption, MatchResult};
+ghost use Rattle.mv_line.specs.Fault.{IsPassed};
 ghost use Rattle.mv_machine.specs.declared.entry.Entry.{Entry as AnyEntry};
 ghost use Rattle.mv_machine.specs.Setup.{Setup};
 ghost use Rattle.mv_entrytext.specs.declared.version.Version.{Version as AnyVersion};
-ghost use Rattle.mv_entrytext.specs.EntryText.{entry_read};
+ghost use Rattle.mv_entrytext.specs.EntryText.{entry_text};
 ghost use Rattle.mv_entrytext.specs.Lines.{AtEntries, line_read};
 ghost use Rattle.mv_entrytext.specs.Fault.{TellsFirst, kind_of_form, text_fault};
-ghost use Rattle.mv_entrytext.specs.Journal.{first_line};
+ghost use Rattle.mv_entrytext.specs.Journal.{EntryOf, first_line};
 ghost use Rattle.mv_entrytext.specs.Said.{entry_said};
 ghost use Rattle.mv_entrytext.specs.Reader.{left_in, IsReadTo, IsNextOf};
 
@@ -17,7 +18,7 @@ use crate::fault::Kind;
 use crate::head::read_head;
 use crate::line::{EntryLine, read_entry_line};
 use crate::version::Version;
-use mv_line::{FaultKind, TextFault, TextRefusal, split_line};
+use mv_line::{FaultKind, Lines, TextFault, TextRefusal};
 use mv_machine::{Entry, ValidConfig};
 use std::alloc::Global;
 
@@ -25,11 +26,10 @@ use std::alloc::Global;
 #[derive(Drop)]
 pub struct EntryReader<'a> {
     version: Version,
-    // The lines that are left, and what is cut off behind them.
-    rest: &'a [u8],
+    lines: Lines<'a>,
+    // What is cut off behind them.
     cut: &'a [u8],
-    // The number of the line there, counted from 1, and how many entries stand before it.
-    line: u32,
+    // How many entries were read.
     count: u32,
 }
 
@@ -41,16 +41,18 @@ pub struct OpenJournal<'a> {
     pub entries: EntryReader<'a>,
 }
 
-// An entry at the front of a text, which ends in LF as its line does, and what stands behind the LF. Its end is where the entry's
-// is, and so no LF is looked for.
-fn entry_in_front(version: Version, text: &[u8]) -> Option<((Option<u32>, Entry), &[u8])>
-    ensures { IfSome result (λ x. entry_read true version text.now ≡ Some (x.0, 10 ∷ x.1.now)) }
+// Passes an entry in front, which ends in LF as its line does. Its end is where the entry's is, and so no LF is looked for.
+fn entry_in_front(version: Version, lines: &mut Lines<'_>) -> Option<(Option<u32>, Entry)>
+    ensures { MatchOption result (lines.new ≡ lines.old)
+        (λ x. IsPassed lines.old lines.old.number (entry_text x.0 x.1) lines.new
+        × (line_read true (AtEntries version) (entry_text x.0 x.1) ≡ Some (EntryOf x.0 x.1))) }
 {
-    let (found, rest) = read_entry(true, version, text)?;
-    match rest {
-        [b'\n', behind @ ..] => Some((found, behind)),
-        _ => None,
-    }
+    let (found, rest) = read_entry(true, version, lines.left)?;
+    let [b'\n', left @ ..] = rest else {
+        return None;
+    };
+    lines.pass(left);
+    Some(found)
 }
 
 // Reads a line behind the head, or says whether its form or a number in it is at fault.
@@ -85,9 +87,8 @@ pub fn open_journal(alloc: Global, bytes: &[u8]) -> Result<OpenJournal<'_>, Text
         config: head.config,
         entries: EntryReader {
             version: head.version,
-            rest: head.rest,
+            lines: head.lines,
             cut: head.cut,
-            line: head.line,
             count: 0,
         },
     })
@@ -99,7 +100,7 @@ impl EntryReader<'_> {
         ensures { (v : AnyVersion) (bytes : List ℕ) (c : Setup) (es : List AnyEntry) (ns : List ℕ)
             → IsReadTo v bytes c es ns self.now → result ≡ first_line c + length es }
     {
-        self.line
+        self.lines.number
     }
 
     /// How many entries were read.
@@ -134,9 +135,7 @@ impl EntryReader<'_> {
             (λ f. text_fault bytes ≡ Some f) }
         ensures shorter { IfOk result (λ found. IfSome found (λ _. left_in self.new < left_in self.old)) }
     {
-        if let Some((found, behind)) = entry_in_front(self.version, self.rest) {
-            self.rest = behind;
-            self.line += 1;
+        if let Some(found) = entry_in_front(self.version, &mut self.lines) {
             self.count += 1;
             return Ok(Some(found));
         }
@@ -153,30 +152,29 @@ impl EntryReader<'_> {
             (λ f. text_fault bytes ≡ Some f) }
         ensures shorter { IfOk result (λ found. IfSome found (λ _. left_in self.new < left_in self.old)) }
     {
-        if self.rest.is_empty() {
-            return Err(Kind::Cut.at(self.line));
-        }
-        let (text, behind) = split_line(self.rest);
+        let mut lines = self.lines;
+        let Some((number, text)) = lines.next() else {
+            return Err(Kind::Cut.at(lines.number));
+        };
         match entry_line_or_kind(self.version, text) {
             Ok(EntryLine::Entry(call, entry)) => {
-                self.rest = behind;
-                self.line += 1;
+                self.lines = lines;
                 self.count += 1;
                 Ok(Some((call, entry)))
             }
             Ok(EntryLine::End(count)) => {
                 if count != self.count {
-                    return Err(Kind::WrongCount.at(self.line));
+                    return Err(Kind::WrongCount.at(number));
                 }
-                if !behind.is_empty() {
-                    return Err(Kind::NoForm.at(self.line + 1));
+                if let Some((number, _)) = lines.next() {
+                    return Err(Kind::NoForm.at(number));
                 }
                 if !self.cut.is_empty() {
-                    return Err(Kind::Cut.at(self.line + 1));
+                    return Err(Kind::Cut.at(lines.number));
                 }
                 Ok(None)
             }
-            Err(kind) => Err(kind.at(self.line)),
+            Err(kind) => Err(kind.at(number)),
         }
     }
 }
