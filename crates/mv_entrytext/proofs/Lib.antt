@@ -27,7 +27,6 @@ pub mod LegalRanges
 -- the one pass of `read_head` and of the reader of entries
 pub mod Heads
 pub mod Passes
-pub mod InFront
 pub mod ReadOn
 -- worked rows
 pub mod Rows

@@ -49,50 +49,48 @@ one_line_more (AtEntries w) v c es ns (EntryOf call e) m = omega (arith, length-
 one_line_more (AtEntries w) v c es ns (End n) m = omega arith
 one_line_more s v c es ns l m = absurd m
 
-pub next_at : {bytes text : List ℕ} {number : ℕ} {lines behind : Lines} {d : Draft} (l : Line) → IsAt bytes lines d
-    → IsPassed lines number text behind → line_read true d.stage text ≡ Some l → kind_said d (Some l) ≡ None
-    → IsAt bytes behind (draft_with l d)
-next_at {bytes = bytes} {text = text} {lines = lines} {behind = behind} {d = d} l at passed read said =
-    let m = one_line_more d.stage d.version d.setup d.entries d.calls l (line_taken d.stage text l read).1 in
-    record {
-      passed = rw passed.next
-          (said_passed (cut_off bytes) (ended_lines bytes) lines.number d l text _ (lines_of behind.left.now) at.passed passed.first read said);
-      line = omega (arith, at.line, passed.next, m);
-    }
+-- the next line is this one
+module _ {bytes text : List ℕ} {number : ℕ} {lines behind : Lines} {d : Draft} (at : IsAt bytes lines d)
+    (passed : IsPassed lines number text behind) where
+  pub next_at : (l : Line) → line_read true d.stage text ≡ Some l → kind_said d (Some l) ≡ None → IsAt bytes behind (draft_with l d)
+  next_at l read said =
+      let m = one_line_more d.stage d.version d.setup d.entries d.calls l (line_taken d.stage text l read).1 in
+      record {
+        passed = rw passed.next
+            (said_passed (cut_off bytes) (ended_lines bytes) lines.number d l text _ (lines_of behind.left.now) at.passed passed.first read
+            said);
+        line = omega (arith, at.line, passed.next, m);
+      }
 
--- ---- a fault
+  -- ---- a fault
 
-pub at_kind : {bytes text : List ℕ} {number : ℕ} {lines behind : Lines} {d : Draft} → IsAt bytes lines d
-    → IsPassed lines number text behind → (e : LineRefusal Kind) → TellsLowest kind_number e (listed (kind_of d text))
-    → TellsFirst (refusal_at kind_number number e) (text_fault bytes)
-unfolding text_fault
-at_kind {bytes = bytes} {text = text} {lines = lines} {behind = behind} {d = d} at passed e told =
-    rw passed.here
-    (told_at (line_rules (cut_off bytes)) blank (ended_lines bytes) lines.number d _ at.passed kind_number text
-    (lines_of behind.left.now) e passed.first told)
+  pub at_kind : (e : LineRefusal Kind) → TellsLowest kind_number e (listed (kind_of d text))
+      → TellsFirst (refusal_at kind_number number e) (text_fault bytes)
+  unfolding text_fault
+  at_kind e told =
+      rw passed.here
+      (told_at (line_rules (cut_off bytes)) blank (ended_lines bytes) lines.number d _ at.passed kind_number text
+      (lines_of behind.left.now) e passed.first told)
 
--- where the form alone is at fault, the kind of the line is its
-form_tells : (d : Draft) (text : List ℕ) (form : Option Kind) (e : LineRefusal Kind) → kind_of_form d.stage text ≡ form
-    → TellsLowest kind_number e (listed form) → TellsLowest kind_number e (listed (kind_of d text))
-form_tells d text (Some k) (Has j) is told = rw is told
-form_tells d text None (Has j) is told = absurd cc
-form_tells d text form NoMemory is told = tt
+  -- where the form alone is at fault, the kind of the line is its
+  form_tells : (form : Option Kind) (e : LineRefusal Kind) → kind_of_form d.stage text ≡ form
+      → TellsLowest kind_number e (listed form) → TellsLowest kind_number e (listed (kind_of d text))
+  form_tells (Some k) (Has j) is told = rw is told
+  form_tells None (Has j) is told = absurd cc
+  form_tells form NoMemory is told = tt
 
-pub at_form : {bytes text : List ℕ} {number : ℕ} {lines behind : Lines} {d : Draft} → IsAt bytes lines d
-    → IsPassed lines number text behind → (e : LineRefusal Kind) → TellsLowest kind_number e (listed (kind_of_form d.stage text))
-    → TellsFirst (refusal_at kind_number number e) (text_fault bytes)
-at_form {text = text} {d = d} at passed e told = at_kind at passed e (form_tells d text (kind_of_form d.stage text) e refl told)
+  pub at_form : (e : LineRefusal Kind) → TellsLowest kind_number e (listed (kind_of_form d.stage text))
+      → TellsFirst (refusal_at kind_number number e) (text_fault bytes)
+  at_form e told = at_kind e (form_tells (kind_of_form d.stage text) e refl told)
 
--- what a line says is at fault
-said_tells : (d : Draft) (text : List ℕ) (l : Line) → line_read true d.stage text ≡ Some l → kind_of d text ≡ kind_said d (Some l)
-said_tells d text l read = rw read refl
+  -- what a line says is at fault
+  said_tells : (l : Line) → line_read true d.stage text ≡ Some l → kind_of d text ≡ kind_said d (Some l)
+  said_tells l read = rw read refl
 
-pub at_said : {bytes text : List ℕ} {number : ℕ} {lines behind : Lines} {d : Draft} (l : Line) → IsAt bytes lines d
-    → IsPassed lines number text behind → line_read true d.stage text ≡ Some l
-    → (e : LineRefusal Kind) → TellsLowest kind_number e (listed (kind_said d (Some l)))
-    → TellsFirst (refusal_at kind_number number e) (text_fault bytes)
-at_said {text = text} {d = d} l at passed read e told =
-    at_kind at passed e (subst (λ (k : Option Kind). TellsLowest kind_number e (listed k)) (sym (said_tells d text l read)) told)
+  pub at_said : (l : Line) → line_read true d.stage text ≡ Some l
+      → (e : LineRefusal Kind) → TellsLowest kind_number e (listed (kind_said d (Some l)))
+      → TellsFirst (refusal_at kind_number number e) (text_fault bytes)
+  at_said l read e told = at_kind e (subst (λ (k : Option Kind). TellsLowest kind_number e (listed k)) (sym (said_tells l read)) told)
 
 -- no line is left, and the text is not whole
 pub at_cut : {bytes : List ℕ} {lines : Lines} {d : Draft} → IsAt bytes lines d → lines_of lines.left.now ≡ []
@@ -107,39 +105,34 @@ nothing_comes : (strict : Bool) (text : List ℕ) → line_read strict AtEnd tex
 unfolding next_line count_line
 nothing_comes strict text = refl
 
--- nothing has a form, whatever was said
-no_form_at_end : (v : Version) (c : Setup) (es : List Entry) (ns text : List ℕ) → kind_of (draft_at AtEnd v c es ns) text ≡ Some NoForm
-no_form_at_end v c es ns text = rw (nothing_comes true text, nothing_comes false text) refl
+module _ {bytes : List ℕ} {lines : Lines} {v : Version} {c : Setup} {es : List Entry} {ns : List ℕ}
+    (at : IsAt bytes lines (draft_at AtEnd v c es ns)) where
+  -- nothing has a form, whatever was said
+  no_form_at_end : (text : List ℕ) → kind_of (draft_at AtEnd v c es ns) text ≡ Some NoForm
+  no_form_at_end text = rw (nothing_comes true text, nothing_comes false text) refl
 
--- so a line there is at fault
-pub at_line_behind : {bytes text : List ℕ} {number : ℕ} {lines behind : Lines} {v : Version} {c : Setup} {es : List Entry} {ns : List ℕ}
-    → IsAt bytes lines (draft_at AtEnd v c es ns) → IsPassed lines number text behind
-    → text_fault bytes ≡ Some (fault_at number (kind_number NoForm))
-at_line_behind {text = text} {v = v} {c = c} {es = es} {ns = ns} at passed =
-    at_kind at passed (Has NoForm) (rw (no_form_at_end v c es ns text) refl)
+  -- so a line there is at fault
+  pub at_line_behind : {text : List ℕ} {number : ℕ} {behind : Lines} → IsPassed lines number text behind
+      → text_fault bytes ≡ Some (fault_at number (kind_number NoForm))
+  at_line_behind {text = text} passed = at_kind at passed (Has NoForm) (rw (no_form_at_end text) refl)
 
--- all was read
-pub at_over : {bytes : List ℕ} {lines : Lines} {v : Version} {c : Setup} {es : List Entry} {ns : List ℕ}
-    → IsAt bytes lines (draft_at AtEnd v c es ns) → lines_of lines.left.now ≡ [] → length (cut_off bytes) ≡ 0
-    → IsTextOf bytes (draft_at AtEnd v c es ns)
-unfolding text_fault journal_of
-at_over {bytes = bytes} {lines = lines} {v = v} {c = c} {es = es} {ns = ns} at none uncut =
-    let w = whole_at_end (line_rules (cut_off bytes)) blank (ended_lines bytes) lines.number (draft_at AtEnd v c es ns) _ at.passed none
-    (rw (eq-eqb (length (cut_off bytes)) 0 uncut) refl) in
-    subst (λ (d : Draft). IsTextOf bytes d) (sym w.1) (is_read_whole bytes w.0)
+  -- all was read
+  pub at_over : lines_of lines.left.now ≡ [] → length (cut_off bytes) ≡ 0 → IsTextOf bytes (draft_at AtEnd v c es ns)
+  unfolding text_fault journal_of
+  at_over none uncut =
+      let w = whole_at_end (line_rules (cut_off bytes)) blank (ended_lines bytes) lines.number (draft_at AtEnd v c es ns) _ at.passed none
+      (rw (eq-eqb (length (cut_off bytes)) 0 uncut) refl) in
+      subst (λ (d : Draft). IsTextOf bytes d) (sym w.1) (is_read_whole bytes w.0)
 
 -- ---- END
 
--- END with another count than that of the entries
-pub at_wrong_count : {bytes text : List ℕ} {number n : ℕ} {lines behind : Lines} {v : Version} {c : Setup} {es : List Entry} {ns : List ℕ}
-    → IsAt bytes lines (draft_at (AtEntries v) v c es ns) → IsPassed lines number text behind
-    → line_read true (AtEntries v) text ≡ Some (End n) → (length es ≡ n → ⊥)
-    → text_fault bytes ≡ Some (fault_at number (kind_number WrongCount))
-at_wrong_count {n = n} {es = es} at passed read other =
-    at_said (End n) at passed read (Has WrongCount) (rw (ne_eqb (length es) n other) refl)
+module _ {bytes text : List ℕ} {number n : ℕ} {lines behind : Lines} {v : Version} {c : Setup} {es : List Entry} {ns : List ℕ}
+    (at : IsAt bytes lines (draft_at (AtEntries v) v c es ns)) (passed : IsPassed lines number text behind)
+    (read : line_read true (AtEntries v) text ≡ Some (End n)) where
+  -- END with another count than that of the entries
+  pub at_wrong_count : (length es ≡ n → ⊥) → text_fault bytes ≡ Some (fault_at number (kind_number WrongCount))
+  at_wrong_count other = at_said at passed (End n) read (Has WrongCount) (rw (ne_eqb (length es) n other) refl)
 
--- END with their count: the reader stands behind it
-pub at_end : {bytes text : List ℕ} {number n : ℕ} {lines behind : Lines} {v : Version} {c : Setup} {es : List Entry} {ns : List ℕ}
-    → IsAt bytes lines (draft_at (AtEntries v) v c es ns) → IsPassed lines number text behind
-    → line_read true (AtEntries v) text ≡ Some (End n) → length es ≡ n → IsAt bytes behind (draft_at AtEnd v c es ns)
-at_end {n = n} {es = es} at passed read same = next_at (End n) at passed read (rw (eq-eqb (length es) n same) refl)
+  -- END with their count: the reader stands behind it
+  pub at_end : length es ≡ n → IsAt bytes behind (draft_at AtEnd v c es ns)
+  at_end same = next_at at passed (End n) read (rw (eq-eqb (length es) n same) refl)

@@ -33,7 +33,7 @@ entry_next {v = v} {es = es} {ns = ns} {text = text} {call = call} {e = e} h pas
       read = record {
         version = h.version;
         cut = h.cut;
-        stands = next_at (EntryOf call e) h.stands passed read refl;
+        stands = next_at h.stands passed (EntryOf call e) read refl;
         count = omega (arith, h.count, length-append es (e ∷ []));
         calls = calls_from_each v (es ++ e ∷ []) (with_call call ns) (number_more v es ns call e (each_from_calls v es ns h.calls) may.1);
       };

@@ -17,7 +17,7 @@ returns-in-Ok-checked c =
     let d = head_seen c.lines.draft in
     let read : line_read true d.stage c.in-Some.text.now ≡ Some journal.Events =
     c.in-Ok.ensures ∙ ap (λ l. Some (said l)) c.in-Events.is in
-    let next = next_at journal.Events c.lines.invariant c.in-Some.ensures read (valid_said d c.in-Ok-checked.ensures.1) in (
+    let next = next_at c.lines.invariant c.in-Some.ensures journal.Events read (valid_said d c.in-Ok-checked.ensures.1) in (
       subst (λ (s : Setup). IsAt c.args.bytes.now c.next.new.self (draft_at (AtEntries d.version) d.version s [] []))
           (sym c.in-Ok-checked.ensures.0) next,
       c.split_cut_off.ensures.cut,
@@ -29,12 +29,12 @@ returns-in-Err-checked c =
     let read : line_read true d.stage c.in-Some.text.now ≡ Some journal.Events =
     c.in-Ok.ensures ∙ ap (λ l. Some (said l)) c.in-Events.is in
     rw c.at-in-Err-checked.ensures
-    (at_said journal.Events c.lines.invariant c.in-Some.ensures read c.in-Err-checked.refusal c.in-Err-checked.ensures)
+    (at_said c.lines.invariant c.in-Some.ensures journal.Events read c.in-Err-checked.refusal c.in-Err-checked.ensures)
 
 pub lines-preserved : goal.lines-preserved
 lines-preserved c =
     let l = c.in-Ok.line in
-    let next = next_at (said l) c.lines.invariant c.in-Some.ensures c.in-Ok.ensures
+    let next = next_at c.lines.invariant c.in-Some.ensures (said l) c.in-Ok.ensures
     (nothing_said (head_seen c.lines.draft) l c.in_default-line.not-Events) in
     subst (λ (x : Draft). IsAt c.args.bytes.now c.next.new.self x)
     (sym (c.in-Ok-take.ensures (said_other l c.in_default-line.not-Events))) next
