@@ -1,6 +1,6 @@
 //! The form of a line, by its words (`specs/Form.antt`, `specs/Statement.antt`).
 
-ghost use Rattle.std.specs.Prelude.{◌≡◌, Some, drop, map, option_map, IfOk};
+ghost use Rattle.std.specs.Prelude.{◌≡◌, ◌-◌, ◌^◌, ◌<◌, Some, length, drop, map, option_map, IfOk};
 ghost use Rattle.mv_deck.specs.Form.{stated, part_data, listed};
 ghost use Rattle.mv_line.specs.Line.{lines_of, without_first_spaces as from_first_field};
 ghost use Rattle.mv_line.specs.Field.{fields_of, two_of};
@@ -12,8 +12,7 @@ use crate::line::{is_comment, split_colon};
 use crate::operand::mode;
 use mv_latch::Mode;
 use mv_line::{
-    is_word, one_field, shown, split_field, split_line, split_part, two_fields,
-    without_first_spaces,
+    Lines, is_word, one_field, shown, split_field, split_part, two_fields, without_first_spaces,
 };
 use std::alloc::{AllocError, Global};
 
@@ -148,16 +147,15 @@ fn printed(rest: &[u8]) -> &[u8]
 
 /// The version of a deck, by the first of its lines that is neither ignored nor a comment.
 pub(crate) fn version_of(bytes: &[u8]) -> Version
+    requires { length bytes.now < 2 ^ 32 - 1 }
     ensures { result ≡ version_by_lines (lines_of bytes.now) }
 {
-    let mut rest = bytes;
-    while !rest.is_empty() {
-        let (line, behind) = split_line(rest);
+    let mut lines = Lines::of(bytes);
+    'lines: while let Some((_, line)) = lines.next() {
         let text = shown(line);
         if !text.is_empty() && !is_comment(text) {
             return declared(form_of(Version::One, text));
         }
-        rest = behind;
     }
     Version::One
 }

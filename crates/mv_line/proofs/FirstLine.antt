@@ -2,7 +2,7 @@
 use Rattle.std.proofs.Common.{◌≡◌, ℕ, ◌+◌, ◌<◌, true, false, cond, eqb, not, List, [], ◌∷◌, length, take, drop, refl, arith}
 use Rattle.std.specs.List.{position_or_len, onto_first}
 use Rattle.std.proofs.lemmas.Grind.{common_steps}
-use Rattle.mv_line.specs.Line.{lines_of, behind_first_line}
+use Rattle.mv_line.specs.Line.{lines_of}
 
 -- where the first line of a text ends
 abbrev pub line_end : List ℕ → ℕ
@@ -28,13 +28,3 @@ pub line_of_text : (text : List ℕ) → 0 < length text
     → lines_of text ≡ take (line_end text) text ∷ lines_of (drop (line_end text + 1) text)
 line_of_text [] lt = absurd (omega arith)
 line_of_text (b ∷ bs) lt = line_at b bs
-
--- and what stands behind it, behind that place
-pub behind_line : (text : List ℕ) → behind_first_line text ≡ drop (line_end text + 1) text
-behind_line [] = refl
-behind_line (b ∷ bs) =
-    let ih = behind_line bs in
-    elim (eqb b 10) as (λ t. cond t bs (behind_first_line bs) ≡ drop (cond (not t) (1 + line_end bs) 0 + 1) (b ∷ bs)) [
-      | true ↦ refl
-      | false ↦ rw ih (grind (arith, common_steps))
-    ]

@@ -9,11 +9,6 @@ abbrev pub lines_of : List ℕ → List (List ℕ)
 lines_of [] = []
 lines_of (b ∷ bs) = if b == 10 then [] ∷ lines_of bs else onto_first b (lines_of bs)
 
--- what stands behind the first line of a text and its LF; nothing where there is no LF
-abbrev pub behind_first_line : List ℕ → List ℕ
-behind_first_line [] = []
-behind_first_line (b ∷ bs) = if b == 10 then bs else behind_first_line bs
-
 -- ---- a text in which each line ends with LF
 
 -- the text up to its last LF, and this LF: nothing where there is none

@@ -15,7 +15,7 @@ pub use fault::{FaultKind, LineRefusal, TextFault, TextRefusal};
 pub use field::{is_word, one_field, split_field, two_fields};
 pub use line::{
     LONGEST_LINE, Lines, begins_with_space, is_foreign, is_too_long, shown, split_cut_off,
-    split_line, without_cr, without_first_spaces, without_last_spaces,
+    without_cr, without_first_spaces, without_last_spaces,
 };
 pub use number::{is_digits, number_within, push_number, wide_number_within};
 pub use part::split_part;

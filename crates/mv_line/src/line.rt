@@ -1,7 +1,7 @@
 //! Lines of a text, and what of a line counts (`specs/Line.antt`).
 
 ghost use Rattle.std.specs.Prelude.{◌≡◌, ◌+◌, ◌-◌, ◌^◌, ◌<◌, [], ◌∷◌, length, MatchOption};
-ghost use Rattle.mv_line.specs.Line.{lines_of, behind_first_line, without_cr as text_without_cr, without_first_spaces as from_first_field};
+ghost use Rattle.mv_line.specs.Line.{lines_of, without_cr as text_without_cr, without_first_spaces as from_first_field};
 ghost use Rattle.mv_line.specs.Line.{without_last_spaces as to_last_field, begins_with_space as begins_so};
 ghost use Rattle.mv_line.specs.Line.{shown as what_counts, is_foreign as has_foreign, is_too_long as exceeds_card};
 ghost use Rattle.mv_line.specs.Line.{ended_part, cut_off};
@@ -11,11 +11,10 @@ use crate::byte::{end_at, has_foreign_byte};
 /// The longest line, in bytes without the CR that is dropped at its end: a card of the reader.
 pub const LONGEST_LINE: usize = 80;
 
-/// The first line of a text and what follows it. The text has a byte.
-pub fn split_line(text: &[u8]) -> (&[u8], &[u8])
+// The first line of a text and what follows it. The text has a byte.
+fn split_line(text: &[u8]) -> (&[u8], &[u8])
     requires { 0 < length text.now }
     ensures lines { lines_of text.now ≡ result.0.now ∷ lines_of result.1.now }
-    ensures behind { result.1.now ≡ behind_first_line text.now }
     ensures shorter { length result.1.now < length text.now }
 {
     let end = end_at(text, b'\n');

@@ -1,16 +1,10 @@
 use Rattle.std.proofs.Common.{arith}
 use Rattle.std.proofs.lemmas.Grind.{common_steps}
-use Rattle.mv_line.proofs.FirstLine.{line_of_text, behind_line}
+use Rattle.mv_line.proofs.FirstLine.{line_of_text}
 use Rattle.mv_line.proofs.line.split_line.Goals as goal
 
 pub returns-then-end-text-clause-lines : goal.returns-then-end-text-clause-lines
 returns-then-end-text-clause-lines c = let l = line_of_text c.args.text.now c.requires in grind (arith, common_steps)
 
-pub returns-then-end-text-clause-behind : goal.returns-then-end-text-clause-behind
-returns-then-end-text-clause-behind c = let l = behind_line c.args.text.now in grind (arith, common_steps)
-
 pub returns-clause-lines : goal.returns-clause-lines
 returns-clause-lines c = let l = line_of_text c.args.text.now c.requires in grind (arith, common_steps)
-
-pub returns-clause-behind : goal.returns-clause-behind
-returns-clause-behind c = let l = behind_line c.args.text.now in grind (arith, common_steps)
