@@ -28,7 +28,7 @@ use Rattle.mv_machine.specs.declared.entry.VolumeReply.{VolumeReply}
 use Rattle.mv_machine.specs.declared.entry.VolumeReply.TheVariants.{Value, Stored}
 use Rattle.mv_machine.specs.Limits.{highest_generation}
 use Rattle.mv_entrytext.specs.Words.{◌<+>◌}
-use Rattle.mv_entrytext.specs.Reading.{behind, number, any_u32, any_u64, parted, parted_by}
+use Rattle.mv_entrytext.specs.Reading.{behind, after, number, any_u32, any_u64, parted, parted_by}
 use Rattle.mv_entrytext.specs.Ranges.{highest_u32, highest_u64, highest_ecb_code, highest_release_code}
 use Rattle.mv_entrytext.specs.EcbText.{ecb_op_text, ecb_reply_text, IsEcbOpInRange, IsEcbReplyInRange, IsEcbReplyTyped, ecb_op, ecb_reply}
 use Rattle.mv_entrytext.specs.ElementText.{phase_text, element_op_text, element_reply_text, IsElementOpInRange, IsElementOpTyped}
@@ -51,7 +51,7 @@ exit_again : (n : ℕ) (rest : List ℕ) → 1 ≤ n → n ≤ highest_ecb_code 
 exit_again n rest lo le e = number_again 1 highest_ecb_code n rest lo le (omega arith) e
 
 pub ecb_op_again : (op : EcbOp) (rest : List ℕ) → IsEcbOpInRange op → Ends rest → ecb_op true (ecb_op_text op ++ rest) ≡ Some (op, rest)
-unfolding ecb_op behind
+unfolding ecb_op behind after
 ecb_op_again ecb_op_of.Arm rest h e = refl
 ecb_op_again (ecb_op_of.Extend exit) rest h e = rw (exit_again exit rest h.0 h.1 e) refl
 ecb_op_again ecb_op_of.Settle rest h e = refl
@@ -61,7 +61,7 @@ ecb_op_again ecb_op_of.Test rest h e = refl
 
 pub ecb_reply_again : (r : EcbReply) (rest : List ℕ) → IsEcbReplyInRange r → IsEcbReplyTyped r → Ends rest
     → ecb_reply true (ecb_reply_text r ++ rest) ≡ Some (r, rest)
-unfolding ecb_reply behind
+unfolding ecb_reply behind after
 ecb_reply_again ecb_reply_of.Armed rest h t e = refl
 ecb_reply_again (ecb_reply_of.Linked exit) rest h t e = rw (exit_again exit rest h.0 h.1 e) refl
 ecb_reply_again (ecb_reply_of.Complete code) rest h t e = rw (code_again code rest h e) refl
@@ -82,7 +82,7 @@ generation_again : (n : ℕ) (rest : List ℕ) → n ≤ highest_generation → 
 generation_again n rest le e = number_again 0 highest_generation n rest (omega arith) le (omega arith) e
 
 phase_again : (p : Phase) (rest : List ℕ) → phase (phase_text p ++ rest) ≡ Some (p, rest)
-unfolding phase behind
+unfolding phase behind after
 phase_again Free rest = refl
 phase_again Reset rest = refl
 phase_again Prereleased rest = refl
@@ -91,7 +91,7 @@ phase_again Released rest = refl
 
 pub element_op_again : (op : ElementOp) (rest : List ℕ) → IsElementOpInRange op → IsElementOpTyped op → Ends rest
     → element_op true (element_op_text op ++ rest) ≡ Some (op, rest)
-unfolding element_op behind
+unfolding element_op behind after
 element_op_again element_op_of.Open rest h t e = refl
 element_op_again (element_op_of.Pause g) rest h t e = rw (u32_again g rest t e) refl
 element_op_again (element_op_of.Resume g) rest h t e = rw (u32_again g rest t e) refl
@@ -137,7 +137,7 @@ state_again s rest g c e =
 
 pub element_reply_again : (r : ElementReply) (rest : List ℕ) → IsElementReplyInRange r → Ends rest
     → element_reply true (element_reply_text r ++ rest) ≡ Some (r, rest)
-unfolding element_reply telling_reply behind
+unfolding element_reply telling_reply behind after
 element_reply_again (element_reply_of.Opened g) rest h e = rw (generation_again g rest h e) refl
 element_reply_again element_reply_of.InUse rest h e = refl
 element_reply_again element_reply_of.Parked rest h e = refl
@@ -157,31 +157,31 @@ element_reply_again (element_reply_of.State s) rest h e = rw (state_again s rest
 
 pub volume_op_again : (op : VolumeOp) (rest : List ℕ) → IsVolumeOpTyped op → Ends rest
     → volume_op true (volume_op_text op ++ rest) ≡ Some (op, rest)
-unfolding volume_op behind
+unfolding volume_op behind after
 volume_op_again Read rest t e = refl
 volume_op_again (Write n) rest t e = rw (u32_again n rest t e) refl
 
 pub volume_reply_again : (r : VolumeReply) (rest : List ℕ) → IsVolumeReplyTyped r → Ends rest
     → volume_reply true (volume_reply_text r ++ rest) ≡ Some (r, rest)
-unfolding volume_reply behind
+unfolding volume_reply behind after
 volume_reply_again (Value n) rest t e = rw (u32_again n rest t e) refl
 volume_reply_again Stored rest t e = refl
 
 -- ---- the latch set
 
 mode_again : (m : Mode) (rest : List ℕ) → mode_read (mode_text m ++ rest) ≡ Some (m, rest)
-unfolding mode_read behind
+unfolding mode_read behind after
 mode_again Shared rest = refl
 mode_again Exclusive rest = refl
 
 form_again : (f : LatchForm) (rest : List ℕ) → IsFormTyped f → Ends rest → form_read true (form_text f ++ rest) ≡ Some (f, rest)
-unfolding form_read behind
+unfolding form_read behind after
 form_again form.Conditional rest t e = refl
 form_again form.Waiting rest t e = refl
 form_again (form.Posted ecb) rest t e = rw (u32_again ecb rest t e) refl
 
 condition_again : (b : Bool) (rest : List ℕ) → condition (condition_text b ++ rest) ≡ Some (b, rest)
-unfolding condition behind
+unfolding condition behind after
 condition_again true rest = refl
 condition_again false rest = refl
 
@@ -193,7 +193,7 @@ two_again a b rest la lb e =
 
 pub latch_reply_again : (r : LatchReply) (rest : List ℕ) → IsLatchReplyTyped r → Ends rest
     → latch_reply true (latch_reply_text r ++ rest) ≡ Some (r, rest)
-unfolding latch_reply behind
+unfolding latch_reply behind after
 latch_reply_again (latch_reply_of.Granted id) rest t e = rw (u32_again id rest t e) refl
 latch_reply_again (latch_reply_of.Queued id) rest t e = rw (u32_again id rest t e) refl
 latch_reply_again (latch_reply_of.NotNow id) rest t e = rw (u32_again id rest t e) refl
@@ -221,7 +221,7 @@ release_tail id b rest le =
 
 pub latch_op_again : (op : LatchOp) (rest : List ℕ) → IsLatchOpTyped op → Ends rest
     → latch_op true (latch_op_text op ++ rest) ≡ Some (op, rest)
-unfolding latch_op obtain release obtain_rest behind
+unfolding latch_op obtain release obtain_rest behind after
 latch_op_again (latch_op_of.Obtain latch requestor mode f) rest t e =
     rw (parted_again (any_u32 true) (λ _. parted (any_u64 true) (parted mode_read (form_read true))) latch (requestor, (mode, f))
     (decimal latch) (decimal requestor <+> mode_text mode <+> form_text f) rest

@@ -17,7 +17,7 @@ use Rattle.mv_machine.specs.declared.entry.VolumeOp.TheVariants.{Read, Write}
 use Rattle.mv_machine.specs.declared.entry.VolumeReply.TheVariants.{Value, Stored}
 use Rattle.mv_element.specs.Element.{in_phase}
 use Rattle.mv_entrytext.specs.Words.{◌<+>◌}
-use Rattle.mv_entrytext.specs.Reading.{behind, number, any_u32, any_u64, parted, parted_by, parted_at}
+use Rattle.mv_entrytext.specs.Reading.{number, any_u32, any_u64, parted, parted_by, parted_at}
 use Rattle.mv_entrytext.specs.Ranges.{highest_u32, highest_u64, highest_ecb_code, highest_release_code}
 use Rattle.mv_entrytext.specs.EcbText.{ecb_op_text, ecb_reply_text, IsEcbOpInRange, IsEcbReplyInRange, IsEcbReplyTyped, ecb_op, ecb_reply}
 use Rattle.mv_entrytext.specs.ElementText.{phase_text, element_op_text, element_reply_text, IsElementOpInRange, IsElementOpTyped}
@@ -30,18 +30,20 @@ use Rattle.mv_entrytext.specs.LatchText.{release, latch_op, latch_reply}
 use Rattle.mv_entrytext.specs.declared.version.Version.{Version}
 use Rattle.mv_entrytext.specs.declared.version.Version.TheVariants.{One, Two}
 use Rattle.mv_entrytext.specs.EntryText.{caller_text, caller_read, object_text, op_text, reply_text, entry_text, IsEventInRange}
-use Rattle.mv_entrytext.specs.EntryText.{IsObjectTyped, IsOpTyped, IsReplyTyped, HasText, object_read, event, entry_of, entry_on}
+use Rattle.mv_entrytext.specs.EntryText.{IsObjectTyped, IsOpTyped, IsReplyTyped, HasText, object_read, deed, deed_on, entry_of, entry_on}
 use Rattle.mv_entrytext.specs.EntryText.{entry_read}
 use Rattle.mv_machine.specs.declared.entry.Object.{Object}
 use Rattle.mv_machine.specs.declared.entry.Object.TheVariants.{Ecb, Element, Volume, Latches}
+use Rattle.mv_machine.specs.declared.entry.Op.{Op}
 use Rattle.mv_machine.specs.declared.entry.Op.TheVariants as op_on
+use Rattle.mv_machine.specs.declared.entry.Reply.{Reply}
 use Rattle.mv_machine.specs.declared.entry.Reply.TheVariants as reply_of
 use Rattle.mv_machine.specs.declared.entry.Entry.{Entry}
 use Rattle.mv_machine.specs.Limits.{highest_generation, highest_place}
-use Rattle.mv_entrytext.specs.Reading.{Reader, nothing}
+use Rattle.mv_entrytext.specs.Reading.{Reader}
 use Rattle.mv_entrytext.proofs.CallNumbers.{IsCallIn}
 use Rattle.mv_entrytext.proofs.Again.{state_text, highest_kept-le}
-use Rattle.mv_entrytext.proofs.Taken.{Takes, takes_nothing, word_or, part_or, u32_or, takes_made, takes_parted, takes_behind}
+use Rattle.mv_entrytext.proofs.Taken.{Takes, takes_word, takes_part, takes_number_behind, word_or, part_or, u32_or, takes_made, takes_parted}
 use Rattle.mv_entrytext.proofs.Taken.{takes_parted_at, takes_number, takes_u32, takes_u64}
 
 -- ---- event control blocks
@@ -64,14 +66,12 @@ takes_ecb_op =
     (word (codes "CLEAR") ecb_op_of.Clear refl tt _
     (part _ (codes "POST ") (λ x. ecb_op_of.Post x) decimal (λ x. x ≤ highest_ecb_code) (number true 0 highest_ecb_code) (λ x. refl)
     (λ x h. h) takes_code _
-    (word (codes "TEST") ecb_op_of.Test refl tt _
-    (takes_nothing ecb_op_text (λ op. IsEcbOpInRange op)))))))
+    (takes_word ecb_op_text (λ op. IsEcbOpInRange op) (codes "TEST") ecb_op_of.Test refl tt)))))
 
 takes_ecb_reply : Takes ecb_reply_text (λ r. IsEcbReplyInRange r × IsEcbReplyTyped r) (ecb_reply true)
 unfolding ecb_reply
 takes_ecb_reply =
     let word = word_or ecb_reply_text (λ r. IsEcbReplyInRange r × IsEcbReplyTyped r) in
-    let u32 = u32_or ecb_reply_text (λ r. IsEcbReplyInRange r × IsEcbReplyTyped r) in
     let part = part_or ecb_reply_text (λ r. IsEcbReplyInRange r × IsEcbReplyTyped r) in
     word (codes "ARMED") ecb_reply_of.Armed refl (tt, tt) _
     (part _ (codes "LINKED ") (λ x. ecb_reply_of.Linked x) decimal (λ x. (1 ≤ x) × (x ≤ highest_ecb_code))
@@ -85,8 +85,8 @@ takes_ecb_reply =
     (λ x h. (h, tt)) takes_code _
     (part _ (codes "ALREADY ") (λ x. ecb_reply_of.Already x) decimal (λ x. x ≤ highest_ecb_code) (number true 0 highest_ecb_code)
     (λ x. refl) (λ x h. (h, tt)) takes_code _
-    (u32 (codes "WORD ") (λ x. ecb_reply_of.Word x) (λ x. refl) (λ x h. (tt, h)) _
-    (takes_nothing ecb_reply_text (λ r. IsEcbReplyInRange r × IsEcbReplyTyped r))))))))))
+    (takes_number_behind ecb_reply_text (λ r. IsEcbReplyInRange r × IsEcbReplyTyped r) (codes "WORD ") (λ x. ecb_reply_of.Word x)
+    (λ x. refl) (λ x h. (tt, h))))))))))
 
 -- ---- pause elements
 
@@ -102,10 +102,9 @@ takes_phase =
     let word = word_or phase_text (λ p. Unit {0}) in
     word (codes "FREE") Free refl tt _
     (word (codes "RESET") Reset refl tt _
-    (word (codes "PRERELEASED") Prereleased refl tt _
     (word (codes "PAUSED") Paused refl tt _
     (word (codes "RELEASED") Released refl tt _
-    (takes_nothing phase_text (λ p. Unit {0}))))))
+    (takes_word phase_text (λ p. Unit {0}) (codes "PRERELEASED") Prereleased refl tt))))
 
 takes_kept : (p : Phase) → Takes decimal (λ n. n ≤ highest_kept p) (kept_code true p)
 takes_kept p text rest n e = let t = takes_number 0 (highest_kept p) (highest_kept-le p) text rest n e in (t.0, t.1.1)
@@ -161,8 +160,7 @@ takes_element_op =
     (takes_parted (any_u32 true) (λ _. release_code true) decimal decimal (λ n. n ≤ highest_u32) (λ _ n. n ≤ highest_release_code)
     takes_u32 (λ _ _. takes_release)) _
     (u32 (codes "CLOSE ") (λ x. element_op_of.Close x) (λ x. refl) (λ x h. (tt, h)) _
-    (word (codes "TEST") element_op_of.Test refl (tt, tt) _
-    (takes_nothing element_op_text (λ op. IsElementOpInRange op × IsElementOpTyped op)))))))
+    (takes_word element_op_text (λ op. IsElementOpInRange op × IsElementOpTyped op) (codes "TEST") element_op_of.Test refl (tt, tt))))))
 
 takes_telling : Takes element_reply_text (λ r. IsElementReplyInRange r) (telling_reply true)
 unfolding telling_reply
@@ -177,9 +175,8 @@ takes_telling =
     (λ _ n. n ≤ highest_generation) takes_release (λ _ _. takes_generation)) _
     (part _ (codes "SPENT ") (λ x. element_reply_of.Spent x) decimal (λ x. x ≤ highest_generation) (reached_generation true) (λ x. refl)
     (λ x h. h) takes_generation _
-    (part _ (codes "STATE ") (λ s. element_reply_of.State s) state_text (λ s. IsStateFine s) (element_state true) (λ s. refl) (λ s h. h)
-    takes_state _
-    (takes_nothing element_reply_text (λ r. IsElementReplyInRange r)))))
+    (takes_part element_reply_text (λ r. IsElementReplyInRange r) _ (codes "STATE ") (λ s. element_reply_of.State s) state_text
+    (λ s. IsStateFine s) (element_state true) (λ s. refl) (λ s h. h) takes_state)))
 
 takes_element_reply : Takes element_reply_text (λ r. IsElementReplyInRange r) (element_reply true)
 unfolding element_reply
@@ -200,48 +197,36 @@ takes_element_reply =
 takes_volume_op : Takes volume_op_text (λ op. IsVolumeOpTyped op) (volume_op true)
 unfolding volume_op
 takes_volume_op =
-    let word = word_or volume_op_text (λ op. IsVolumeOpTyped op) in
-    let u32 = u32_or volume_op_text (λ op. IsVolumeOpTyped op) in
-    word (codes "READ") Read refl tt _
-    (u32 (codes "WRITE ") (λ x. Write x) (λ x. refl) (λ x h. h) _
-    (takes_nothing volume_op_text (λ op. IsVolumeOpTyped op)))
+    word_or volume_op_text (λ op. IsVolumeOpTyped op) (codes "READ") Read refl tt _
+    (takes_number_behind volume_op_text (λ op. IsVolumeOpTyped op) (codes "WRITE ") (λ x. Write x) (λ x. refl) (λ x h. h))
 
 takes_volume_reply : Takes volume_reply_text (λ r. IsVolumeReplyTyped r) (volume_reply true)
 unfolding volume_reply
 takes_volume_reply =
-    let word = word_or volume_reply_text (λ r. IsVolumeReplyTyped r) in
-    let u32 = u32_or volume_reply_text (λ r. IsVolumeReplyTyped r) in
-    u32 (codes "VALUE ") (λ x. Value x) (λ x. refl) (λ x h. h) _
-    (word (codes "STORED") Stored refl tt _
-    (takes_nothing volume_reply_text (λ r. IsVolumeReplyTyped r)))
+    u32_or volume_reply_text (λ r. IsVolumeReplyTyped r) (codes "VALUE ") (λ x. Value x) (λ x. refl) (λ x h. h) _
+    (takes_word volume_reply_text (λ r. IsVolumeReplyTyped r) (codes "STORED") Stored refl tt)
 
 -- ---- the latch set
 
 takes_mode : Takes mode_text (λ m. Unit {0}) (mode_read)
 unfolding mode_read
 takes_mode =
-    let word = word_or mode_text (λ m. Unit {0}) in
-    word (codes "S") Shared refl tt _
-    (word (codes "X") Exclusive refl tt _
-    (takes_nothing mode_text (λ m. Unit {0})))
+    word_or mode_text (λ m. Unit {0}) (codes "S") Shared refl tt _
+    (takes_word mode_text (λ m. Unit {0}) (codes "X") Exclusive refl tt)
 
 takes_form : Takes form_text (λ f. IsFormTyped f) (form_read true)
 unfolding form_read
 takes_form =
     let word = word_or form_text (λ f. IsFormTyped f) in
-    let u32 = u32_or form_text (λ f. IsFormTyped f) in
     word (codes "C") form.Conditional refl tt _
     (word (codes "W") form.Waiting refl tt _
-    (u32 (codes "P") (λ x. form.Posted x) (λ x. refl) (λ x h. h) _
-    (takes_nothing form_text (λ f. IsFormTyped f))))
+    (takes_number_behind form_text (λ f. IsFormTyped f) (codes "P") (λ x. form.Posted x) (λ x. refl) (λ x h. h)))
 
 takes_condition : Takes condition_text (λ b. Unit {0}) (condition)
 unfolding condition
 takes_condition =
-    let word = word_or condition_text (λ b. Unit {0}) in
-    word (codes "C") true refl tt _
-    (word (codes "U") false refl tt _
-    (takes_nothing condition_text (λ b. Unit {0})))
+    word_or condition_text (λ b. Unit {0}) (codes "C") true refl tt _
+    (takes_word condition_text (λ b. Unit {0}) (codes "U") false refl tt)
 
 pub takes_two : Takes pair_text (λ x. (x.0 ≤ highest_u32) × (x.1 ≤ highest_u32)) (two_u32 true)
 takes_two =
@@ -272,37 +257,33 @@ takes_latch_op =
     (λ n. n ≤ highest_u32) (λ _ y. (y.0 ≤ highest_u32) × Unit {0}) takes_u32
     (λ _ _. takes_parted (any_u32 true) (λ _. condition) decimal condition_text (λ n. n ≤ highest_u32) (λ _ b. Unit {0}) takes_u32
     (λ _ _. takes_condition))) _
-    (part _ (codes "PURGE ") (λ x. latch_op_of.Purge x) decimal (λ x. x ≤ highest_u64) (any_u64 true) (λ x. refl) (λ x h. h) takes_u64 _
-    (takes_nothing latch_op_text (λ op. IsLatchOpTyped op)))))
+    (takes_part latch_op_text (λ op. IsLatchOpTyped op) _ (codes "PURGE ") (λ x. latch_op_of.Purge x) decimal (λ x. x ≤ highest_u64)
+    (any_u64 true) (λ x. refl) (λ x h. h) takes_u64)))
 
 takes_latch_reply : Takes latch_reply_text (λ r. IsLatchReplyTyped r) (latch_reply true)
 unfolding latch_reply
 takes_latch_reply =
     let word = word_or latch_reply_text (λ r. IsLatchReplyTyped r) in
     let u32 = u32_or latch_reply_text (λ r. IsLatchReplyTyped r) in
-    let part = part_or latch_reply_text (λ r. IsLatchReplyTyped r) in
     u32 (codes "GRANTED ") (λ x. latch_reply_of.Granted x) (λ x. refl) (λ x h. h) _
     (u32 (codes "QUEUED ") (λ x. latch_reply_of.Queued x) (λ x. refl) (λ x h. h) _
     (u32 (codes "NOTNOW ") (λ x. latch_reply_of.NotNow x) (λ x. refl) (λ x h. h) _
     (word (codes "WAITING") latch_reply_of.Waiting refl tt _
     (word (codes "GONE") latch_reply_of.Gone refl tt _
     (u32 (codes "RELEASED ") (λ x. latch_reply_of.Released x) (λ x. refl) (λ x h. h) _
-    (part _ (codes "PURGED ") (λ x. latch_reply_of.Purged x.0 x.1) pair_text (λ x. (x.0 ≤ highest_u32) × (x.1 ≤ highest_u32))
-    (two_u32 true) (λ x. refl) (λ x h. h) takes_two _
-    (takes_nothing latch_reply_text (λ r. IsLatchReplyTyped r))))))))
+    (takes_part latch_reply_text (λ r. IsLatchReplyTyped r) _ (codes "PURGED ") (λ x. latch_reply_of.Purged x.0 x.1) pair_text
+    (λ x. (x.0 ≤ highest_u32) × (x.1 ≤ highest_u32)) (two_u32 true) (λ x. refl) (λ x h. h) takes_two))))))
 
 -- ---- entries
 
 takes_object : Takes object_text (λ o. IsObjectTyped o) (object_read true)
 unfolding object_read
 takes_object =
-    let word = word_or object_text (λ o. IsObjectTyped o) in
     let u32 = u32_or object_text (λ o. IsObjectTyped o) in
     u32 (codes "E") (λ x. Ecb x) (λ x. refl) (λ x h. h) _
     (u32 (codes "P") (λ x. Element x) (λ x. refl) (λ x h. h) _
     (u32 (codes "V") (λ x. Volume x) (λ x. refl) (λ x h. h) _
-    (word (codes "L") Latches refl tt _
-    (takes_nothing object_text (λ o. IsObjectTyped o)))))
+    (takes_word object_text (λ o. IsObjectTyped o) (codes "L") Latches refl tt)))
 
 -- what stands behind an entry's object
 abbrev pub tail_text : Entry → List ℕ
@@ -316,56 +297,54 @@ pub record IsTail (caller : ℕ) (o : Object) (e : Entry) : Type 0 where
   pub op : IsOpTyped e.op
   pub reply : IsReplyTyped e.reply
 
-takes_event : {O R : Type 0} (op_reader : Reader O) (reply_reader : Reader R) (show : O → List ℕ) (tell : R → List ℕ) (Fine : O → Type 0)
+-- what was done, and which deeds on an object are fine
+abbrev deed_text : (Op × Reply) → List ℕ
+deed_text x = op_text x.0 <+> codes "=" <+> reply_text x.1
+
+abbrev IsDeed : Object → (Op × Reply) → Type 0
+IsDeed o x = IsEventInRange o x.0 x.1 × (IsOpTyped x.0 × IsReplyTyped x.1)
+
+takes_deed : {O R : Type 0} (op_reader : Reader O) (reply_reader : Reader R) (show : O → List ℕ) (tell : R → List ℕ) (Fine : O → Type 0)
     (Good : R → Type 0) → Takes show Fine op_reader → Takes tell Good reply_reader
-    → Takes (λ x. decimal x.0 <+> show x.1.0 <+> codes "=" <+> tell x.1.1) (λ x. (x.0 ≤ highest_place) × (Fine x.1.0 × Good x.1.1))
-    (event true op_reader reply_reader)
-takes_event op_reader reply_reader show tell Fine Good one two =
-    let sign =
-    takes_behind (codes "= ") (λ r. codes "=" <+> tell r) Good reply_reader nothing
-    (λ text rest a e. let t = two text rest a e in (ap (λ (x : List ℕ). 61 ∷ 32 ∷ x) t.0, t.1))
-    (takes_nothing (λ r. codes "=" <+> tell r) Good) in
-    takes_parted (number true 0 highest_place) (λ _. parted op_reader (behind (codes "= ") reply_reader nothing)) decimal
-    (λ x. show x.0 <+> codes "=" <+> tell x.1) (λ n. n ≤ highest_place) (λ _ x. Fine x.0 × Good x.1)
-    (λ text rest n e. let t = takes_number 0 highest_place (omega arith) text rest n e in (t.0, t.1.1))
-    (λ _ _. takes_parted op_reader (λ _. behind (codes "= ") reply_reader nothing) show (λ r. codes "=" <+> tell r) Fine (λ _ r. Good r) one
-    (λ _ _. sign))
+    → Takes (λ x. show x.0 <+> codes "=" <+> tell x.1) (λ x. Fine x.0 × Good x.1) (deed op_reader reply_reader)
+takes_deed op_reader reply_reader show tell Fine Good one two =
+    takes_parted_at (codes " = ") op_reader (λ _. reply_reader) show tell Fine (λ _ r. Good r) one (λ _ _. two)
+
+takes_deed_on : (o : Object) → Takes deed_text (λ x. IsDeed o x) (deed_on true o)
+takes_deed_on (Ecb n) =
+    takes_made deed_text (λ x. IsDeed (Ecb n) x) (λ x. (op_on.Ecb x.0, reply_of.Ecb x.1))
+    (λ x. ecb_op_text x.0 <+> codes "=" <+> ecb_reply_text x.1)
+    (λ x. IsEcbOpInRange x.0 × (IsEcbReplyInRange x.1 × IsEcbReplyTyped x.1)) (deed (ecb_op true) (ecb_reply true)) (λ x h. refl)
+    (λ x h. ((h.0, h.1.0), (tt, h.1.1)))
+    (takes_deed (ecb_op true) (ecb_reply true) ecb_op_text ecb_reply_text (λ op. IsEcbOpInRange op)
+    (λ r. IsEcbReplyInRange r × IsEcbReplyTyped r) takes_ecb_op takes_ecb_reply)
+takes_deed_on (Element n) =
+    takes_made deed_text (λ x. IsDeed (Element n) x) (λ x. (op_on.Element x.0, reply_of.Element x.1))
+    (λ x. element_op_text x.0 <+> codes "=" <+> element_reply_text x.1)
+    (λ x. (IsElementOpInRange x.0 × IsElementOpTyped x.0) × IsElementReplyInRange x.1) (deed (element_op true) (element_reply true))
+    (λ x h. refl) (λ x h. ((h.0.0, h.1), (h.0.1, tt)))
+    (takes_deed (element_op true) (element_reply true) element_op_text element_reply_text
+    (λ op. IsElementOpInRange op × IsElementOpTyped op) (λ r. IsElementReplyInRange r) takes_element_op takes_element_reply)
+takes_deed_on (Volume n) =
+    takes_made deed_text (λ x. IsDeed (Volume n) x) (λ x. (op_on.Volume x.0, reply_of.Volume x.1))
+    (λ x. volume_op_text x.0 <+> codes "=" <+> volume_reply_text x.1) (λ x. IsVolumeOpTyped x.0 × IsVolumeReplyTyped x.1)
+    (deed (volume_op true) (volume_reply true)) (λ x h. refl) (λ x h. (tt, h))
+    (takes_deed (volume_op true) (volume_reply true) volume_op_text volume_reply_text (λ op. IsVolumeOpTyped op)
+    (λ r. IsVolumeReplyTyped r) takes_volume_op takes_volume_reply)
+takes_deed_on Latches =
+    takes_made deed_text (λ x. IsDeed Latches x) (λ x. (op_on.Latch x.0, reply_of.Latch x.1))
+    (λ x. latch_op_text x.0 <+> codes "=" <+> latch_reply_text x.1) (λ x. IsLatchOpTyped x.0 × IsLatchReplyTyped x.1)
+    (deed (latch_op true) (latch_reply true)) (λ x h. refl) (λ x h. (tt, h))
+    (takes_deed (latch_op true) (latch_reply true) latch_op_text latch_reply_text (λ op. IsLatchOpTyped op) (λ r. IsLatchReplyTyped r)
+    takes_latch_op takes_latch_reply)
 
 takes_entry_on : (caller : ℕ) (o : Object) → Takes tail_text (λ e. IsTail caller o e) (entry_on true caller o)
-takes_entry_on caller (Ecb n) =
-    takes_made tail_text (λ e. IsTail caller (Ecb n) e) (λ x. entry_of caller (Ecb n) x.0 (op_on.Ecb x.1.0) (reply_of.Ecb x.1.1))
-    (λ x. decimal x.0 <+> ecb_op_text x.1.0 <+> codes "=" <+> ecb_reply_text x.1.1)
-    (λ x. (x.0 ≤ highest_place) × (IsEcbOpInRange x.1.0 × (IsEcbReplyInRange x.1.1 × IsEcbReplyTyped x.1.1)))
-    (event true (ecb_op true) (ecb_reply true)) (λ x h. refl)
-    (λ x h. record { caller_is = refl; object_is = refl; place = h.0; event = (h.1.0, h.1.1.0); op = tt; reply = h.1.1.1 })
-    (takes_event (ecb_op true) (ecb_reply true) ecb_op_text ecb_reply_text (λ op. IsEcbOpInRange op)
-    (λ r. IsEcbReplyInRange r × IsEcbReplyTyped r) takes_ecb_op takes_ecb_reply)
-takes_entry_on caller (Element n) =
-    takes_made tail_text (λ e. IsTail caller (Element n) e)
-    (λ x. entry_of caller (Element n) x.0 (op_on.Element x.1.0) (reply_of.Element x.1.1))
-    (λ x. decimal x.0 <+> element_op_text x.1.0 <+> codes "=" <+> element_reply_text x.1.1)
-    (λ x. (x.0 ≤ highest_place) × ((IsElementOpInRange x.1.0 × IsElementOpTyped x.1.0) × IsElementReplyInRange x.1.1))
-    (event true (element_op true) (element_reply true)) (λ x h. refl)
-    (λ x h. record { caller_is = refl; object_is = refl; place = h.0; event = (h.1.0.0, h.1.1); op = h.1.0.1; reply = tt })
-    (takes_event (element_op true) (element_reply true) element_op_text element_reply_text
-    (λ op. IsElementOpInRange op × IsElementOpTyped op) (λ r. IsElementReplyInRange r) takes_element_op takes_element_reply)
-takes_entry_on caller (Volume n) =
-    takes_made tail_text (λ e. IsTail caller (Volume n) e)
-    (λ x. entry_of caller (Volume n) x.0 (op_on.Volume x.1.0) (reply_of.Volume x.1.1))
-    (λ x. decimal x.0 <+> volume_op_text x.1.0 <+> codes "=" <+> volume_reply_text x.1.1)
-    (λ x. (x.0 ≤ highest_place) × (IsVolumeOpTyped x.1.0 × IsVolumeReplyTyped x.1.1))
-    (event true (volume_op true) (volume_reply true)) (λ x h. refl)
-    (λ x h. record { caller_is = refl; object_is = refl; place = h.0; event = tt; op = h.1.0; reply = h.1.1 })
-    (takes_event (volume_op true) (volume_reply true) volume_op_text volume_reply_text (λ op. IsVolumeOpTyped op)
-    (λ r. IsVolumeReplyTyped r) takes_volume_op takes_volume_reply)
-takes_entry_on caller Latches =
-    takes_made tail_text (λ e. IsTail caller Latches e) (λ x. entry_of caller Latches x.0 (op_on.Latch x.1.0) (reply_of.Latch x.1.1))
-    (λ x. decimal x.0 <+> latch_op_text x.1.0 <+> codes "=" <+> latch_reply_text x.1.1)
-    (λ x. (x.0 ≤ highest_place) × (IsLatchOpTyped x.1.0 × IsLatchReplyTyped x.1.1))
-    (event true (latch_op true) (latch_reply true)) (λ x h. refl)
-    (λ x h. record { caller_is = refl; object_is = refl; place = h.0; event = tt; op = h.1.0; reply = h.1.1 })
-    (takes_event (latch_op true) (latch_reply true) latch_op_text latch_reply_text (λ op. IsLatchOpTyped op) (λ r. IsLatchReplyTyped r)
-    takes_latch_op takes_latch_reply)
+takes_entry_on caller o =
+    takes_made tail_text (λ e. IsTail caller o e) (λ x. entry_of caller o x.0 x.1.0 x.1.1) (λ x. decimal x.0 <+> deed_text x.1)
+    (λ x. (x.0 ≤ highest_place) × IsDeed o x.1) (parted (number true 0 highest_place) (deed_on true o)) (λ x h. refl)
+    (λ x h. record { caller_is = refl; object_is = refl; place = h.0; event = h.1.0; op = h.1.1.0; reply = h.1.1.1 })
+    (takes_parted (number true 0 highest_place) (λ _. deed_on true o) decimal deed_text (λ n. n ≤ highest_place) (λ _ x. IsDeed o x)
+    (λ text rest n e. let t = takes_number 0 highest_place (omega arith) text rest n e in (t.0, t.1.1)) (λ _ _. takes_deed_on o))
 
 -- ---- who made an entry
 
@@ -384,8 +363,8 @@ takes_caller One =
     (λ n h. refl) (λ n h. (h, tt)) takes_u32
 takes_caller Two =
     takes_made who_text (λ x. IsCaller Two x) (λ x. (x.0, Some x.1)) (λ (x : ℕ × ℕ). decimal x.0 ++ 46 ∷ decimal x.1)
-    (λ x. (x.0 ≤ highest_u32) × (x.1 ≤ highest_u32)) (parted_at 46 (any_u32 true) (λ caller. any_u32 true)) (λ x h. refl) (λ x h. h)
-    (takes_parted_at 46 (any_u32 true) (λ _. any_u32 true) decimal decimal (λ n. n ≤ highest_u32) (λ _ n. n ≤ highest_u32) takes_u32
+    (λ x. (x.0 ≤ highest_u32) × (x.1 ≤ highest_u32)) (parted_at (codes ".") (any_u32 true) (λ caller. any_u32 true)) (λ x h. refl) (λ x h. h)
+    (takes_parted_at (codes ".") (any_u32 true) (λ _. any_u32 true) decimal decimal (λ n. n ≤ highest_u32) (λ _ n. n ≤ highest_u32) takes_u32
     (λ _ _. takes_u32))
 
 -- the caller and the object, and what stands behind them

@@ -21,7 +21,7 @@ use Rattle.mv_entrytext.specs.declared.version.Version.{Version}
 use Rattle.mv_entrytext.specs.declared.version.Version.TheVariants.{One, Two}
 use Rattle.mv_entrytext.specs.Ranges.{highest_u32}
 use Rattle.mv_entrytext.specs.Words.{◌<+>◌}
-use Rattle.mv_entrytext.specs.Reading.{Reader, behind, made, parted_by, any_u32}
+use Rattle.mv_entrytext.specs.Reading.{Reader, behind, after, parted_by, any_u32}
 use Rattle.mv_entrytext.specs.EntryText.{HasText, entry_read, entry_text, caller_text, object_text, op_text, reply_text}
 use Rattle.mv_entrytext.specs.Journal.{Line, JournalOf, Callers, Elements, Volumes, Latches, Quota, Budget, Owner, ExitTo, Events}
 use Rattle.mv_entrytext.specs.Journal.{EntryOf, End, line_text, line, entry_lines, counts_text, lists_text, head_text, text_of}
@@ -46,28 +46,28 @@ u32_alone : (n : ℕ) → n ≤ highest_u32 → any_u32 true (decimal n) ≡ Som
 u32_alone n le = to_the_end (any_u32 true) n (decimal n) (u32_again n [] le refl)
 
 version_read : (v : Version) → line_read true AtVersion (line_text (JournalOf v)) ≡ Some (JournalOf v)
-unfolding next_line count_line behind
+unfolding next_line count_line behind after
 version_read One = refl
 version_read Two = refl
 
 callers_read : (n : ℕ) → n ≤ highest_u32 → line_read true AtCallers (line_text (Callers n)) ≡ Some (Callers n)
-unfolding next_line count_line behind
+unfolding next_line count_line behind after
 callers_read n le = rw (u32_alone n le) refl
 
 elements_read : (n : ℕ) → n ≤ highest_u32 → line_read true AtElements (line_text (Elements n)) ≡ Some (Elements n)
-unfolding next_line count_line behind
+unfolding next_line count_line behind after
 elements_read n le = rw (u32_alone n le) refl
 
 volumes_read : (n : ℕ) → n ≤ highest_u32 → line_read true AtVolumes (line_text (Volumes n)) ≡ Some (Volumes n)
-unfolding next_line count_line behind
+unfolding next_line count_line behind after
 volumes_read n le = rw (u32_alone n le) refl
 
 latches_read : (n : ℕ) → n ≤ highest_u32 → line_read true AtLatches (line_text (Latches n)) ≡ Some (Latches n)
-unfolding next_line count_line behind
+unfolding next_line count_line behind after
 latches_read n le = rw (u32_alone n le) refl
 
 quota_read : (q p : ℕ) → q ≤ highest_u32 → p ≤ highest_u32 → line_read true AtQuota (line_text (Quota q p)) ≡ Some (Quota q p)
-unfolding next_line count_line behind
+unfolding next_line count_line behind after
 quota_read q p lq lp =
     let both = to_the_end (parted_by (any_u32 true) (λ _. any_u32 true)) (q, p) (decimal q <+> decimal p)
     (parted_again (any_u32 true) (λ _. any_u32 true) q p (decimal q) (decimal p) [] (u32_again q (32 ∷ (decimal p ++ [])) lq refl)
@@ -75,7 +75,7 @@ quota_read q p lq lp =
     rw both refl
 
 budget_read : (n : ℕ) → n ≤ highest_u32 → line_read true AtBudgets (line_text (Budget n)) ≡ Some (Budget n)
-unfolding next_line count_line behind
+unfolding next_line count_line behind after
 budget_read n le = rw (u32_alone n le) refl
 
 -- where an owner may stand, and where an exit may
@@ -91,20 +91,20 @@ MayExit AtExits = Unit {0}
 MayExit _ = ⊥
 
 owner_read : (s : Stage) (n : ℕ) → MayOwn s → n ≤ highest_u32 → line_read true s (line_text (Owner n)) ≡ Some (Owner n)
-unfolding next_line count_line behind
+unfolding next_line count_line behind after
 owner_read AtBudgets n m le = rw (u32_alone n le) refl
 owner_read AtOwners n m le = rw (u32_alone n le) refl
 owner_read s n m le = absurd m
 
 events_read : (s : Stage) → MayExit s → line_read true s (line_text Events) ≡ Some Events
-unfolding next_line count_line behind
+unfolding next_line count_line behind after
 events_read AtBudgets m = refl
 events_read AtOwners m = refl
 events_read AtExits m = refl
 events_read s m = absurd m
 
 end_read : (v : Version) (n : ℕ) → n ≤ highest_u32 → line_read true (AtEntries v) (line_text (End n)) ≡ Some (End n)
-unfolding next_line count_line behind
+unfolding next_line count_line behind after
 end_read v n le = rw (u32_alone n le) refl
 
 -- the fields of an exit
@@ -133,7 +133,7 @@ exit_again x h =
       go (t ∷ ts) some e = rw e refl
 
 exit_line_read : (s : Stage) (x : SetupExit) → MayExit s → IsExit x → line_read true s (line_text (ExitTo x)) ≡ Some (ExitTo x)
-unfolding next_line count_line behind
+unfolding next_line count_line behind after
 exit_line_read AtBudgets x m h = rw (exit_again x h) refl
 exit_line_read AtOwners x m h = rw (exit_again x h) refl
 exit_line_read AtExits x m h = rw (exit_again x h) refl
@@ -144,10 +144,9 @@ first_digit : (ds : List ℕ) → 0 < length ds → AllDigits 10 ds → (c : ℕ
 first_digit [] some h = absurd (omega arith)
 first_digit (c ∷ cs) some h = (c, cs, refl, (digit_from_value c h.0).1)
 
-no_end : (reader other : Reader Line) (text : List ℕ) (c : ℕ) (cs : List ℕ) → text ≡ c ∷ cs → c ≤ 57
-    → behind (codes "END ") reader other text ≡ other text
-unfolding behind
-no_end reader other text c cs e le = rw (e, ne_eqb 69 c (λ q. omega arith)) refl
+no_end : (reader : Reader ℕ) (text : List ℕ) (c : ℕ) (cs : List ℕ) → text ≡ c ∷ cs → c ≤ 57 → behind (codes "END ") reader text ≡ None
+unfolding behind after
+no_end reader text c cs e le = rw (e, ne_eqb 69 c (λ q. omega arith)) refl
 
 -- the text of a caller with what stands behind it begins with a digit
 caller_first : (k : ℕ) (call : Option ℕ) (more : List ℕ) → k ≤ highest_u32
@@ -167,9 +166,8 @@ unfolding next_line count_line entry_text
 entry_line_read v call e h m =
     let more = 32 ∷ (object_text e.object <+> decimal e.place <+> op_text e.op <+> codes "=" <+> reply_text e.reply) in
     let d = caller_first e.caller call more h.1.caller in
-    let other = no_end (made (λ n. End n) (any_u32 true)) (made (λ x. EntryOf x.0 x.1) (entry_read true v))
-    (caller_text e.caller call ++ more) d.0 d.1 d.2 d.3 in
-    rw (other, to_the_end (entry_read true v) (call, e) (caller_text e.caller call ++ more) (entry_again v call e h m)) refl
+    let none = no_end (any_u32 true) (caller_text e.caller call ++ more) d.0 d.1 d.2 d.3 in
+    rw (none, to_the_end (entry_read true v) (call, e) (caller_text e.caller call ++ more) (entry_again v call e h m)) refl
 
 -- ---- a line is passed
 

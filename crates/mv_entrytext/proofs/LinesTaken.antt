@@ -19,7 +19,8 @@ use Rattle.mv_entrytext.specs.Lines.{AtExits, AtEntries, AtEnd, numbers, exit_fr
 use Rattle.mv_entrytext.proofs.CallNumbers.{IsCallIn}
 use Rattle.mv_entrytext.proofs.LinesAgain.{targets_text}
 use Rattle.mv_entrytext.proofs.Parts.{joined_again}
-use Rattle.mv_entrytext.proofs.Taken.{Takes, bound, takes_nothing, word_or, part_or, u32_or, takes_made, takes_whole, takes_u32}
+use Rattle.mv_entrytext.proofs.Taken.{Takes, bound, takes_nothing, takes_word, takes_part, takes_number_behind, word_or, u32_or, takes_made}
+use Rattle.mv_entrytext.proofs.Taken.{takes_whole, takes_u32}
 use Rattle.mv_entrytext.proofs.KindsTaken.{pair_text, takes_two, numbered_text, IsNumbered, takes_entry}
 
 -- ---- the fields of an exit
@@ -107,49 +108,35 @@ MayCome _ _ = ⊥
 pub takes_line : (s : Stage) → Takes line_text (λ l. MayCome s l) (next_line true s)
 unfolding next_line count_line
 takes_line AtVersion =
-    let word = word_or line_text (λ l. MayCome AtVersion l) in
-    word (codes "JOURNAL 1") (JournalOf One) refl tt _
-    (word (codes "JOURNAL 2") (JournalOf Two) refl tt _
-    (takes_nothing line_text (λ l. MayCome AtVersion l)))
+    word_or line_text (λ l. MayCome AtVersion l) (codes "JOURNAL 1") (JournalOf One) refl tt _
+    (takes_word line_text (λ l. MayCome AtVersion l) (codes "JOURNAL 2") (JournalOf Two) refl tt)
 takes_line AtCallers =
-    u32_or line_text (λ l. MayCome AtCallers l) (codes "CALLERS ") (λ n. Callers n) (λ n. refl) (λ n h. tt) _
-    (takes_nothing line_text (λ l. MayCome AtCallers l))
+    takes_number_behind line_text (λ l. MayCome AtCallers l) (codes "CALLERS ") (λ n. Callers n) (λ n. refl) (λ n h. tt)
 takes_line AtElements =
-    u32_or line_text (λ l. MayCome AtElements l) (codes "ELEMENTS ") (λ n. Elements n) (λ n. refl) (λ n h. tt) _
-    (takes_nothing line_text (λ l. MayCome AtElements l))
+    takes_number_behind line_text (λ l. MayCome AtElements l) (codes "ELEMENTS ") (λ n. Elements n) (λ n. refl) (λ n h. tt)
 takes_line AtVolumes =
-    u32_or line_text (λ l. MayCome AtVolumes l) (codes "VOLUMES ") (λ n. Volumes n) (λ n. refl) (λ n h. tt) _
-    (takes_nothing line_text (λ l. MayCome AtVolumes l))
+    takes_number_behind line_text (λ l. MayCome AtVolumes l) (codes "VOLUMES ") (λ n. Volumes n) (λ n. refl) (λ n h. tt)
 takes_line AtLatches =
-    u32_or line_text (λ l. MayCome AtLatches l) (codes "LATCHES ") (λ n. Latches n) (λ n. refl) (λ n h. tt) _
-    (takes_nothing line_text (λ l. MayCome AtLatches l))
+    takes_number_behind line_text (λ l. MayCome AtLatches l) (codes "LATCHES ") (λ n. Latches n) (λ n. refl) (λ n h. tt)
 takes_line AtQuota =
-    part_or line_text (λ l. MayCome AtQuota l) _ (codes "QUOTA ") (λ x. Quota x.0 x.1) pair_text
-    (λ x. (x.0 ≤ highest_u32) × (x.1 ≤ highest_u32)) (parted (any_u32 true) (any_u32 true)) (λ x. refl) (λ x h. tt) takes_two _
-    (takes_nothing line_text (λ l. MayCome AtQuota l))
+    takes_part line_text (λ l. MayCome AtQuota l) _ (codes "QUOTA ") (λ x. Quota x.0 x.1) pair_text
+    (λ x. (x.0 ≤ highest_u32) × (x.1 ≤ highest_u32)) (parted (any_u32 true) (any_u32 true)) (λ x. refl) (λ x h. tt) takes_two
 takes_line AtBudgets =
-    let word = word_or line_text (λ l. MayCome AtBudgets l) in
     let u32 = u32_or line_text (λ l. MayCome AtBudgets l) in
-    let part = part_or line_text (λ l. MayCome AtBudgets l) in
     u32 (codes "BUDGET ") (λ n. Budget n) (λ n. refl) (λ n h. tt) _
     (u32 (codes "ECB ") (λ n. Owner n) (λ n. refl) (λ n h. tt) _
-    (part _ (codes "EXIT ") (λ x. ExitTo x) exit_text (λ x. Unit {0}) (exit_read true) (λ x. refl) (λ x h. tt) takes_exit _
-    (word (codes "EVENTS") Events refl tt _
-    (takes_nothing line_text (λ l. MayCome AtBudgets l)))))
+    (word_or line_text (λ l. MayCome AtBudgets l) (codes "EVENTS") Events refl tt _
+    (takes_part line_text (λ l. MayCome AtBudgets l) _ (codes "EXIT ") (λ x. ExitTo x) exit_text (λ x. Unit {0}) (exit_read true)
+    (λ x. refl) (λ x h. tt) takes_exit)))
 takes_line AtOwners =
-    let word = word_or line_text (λ l. MayCome AtOwners l) in
-    let u32 = u32_or line_text (λ l. MayCome AtOwners l) in
-    let part = part_or line_text (λ l. MayCome AtOwners l) in
-    u32 (codes "ECB ") (λ n. Owner n) (λ n. refl) (λ n h. tt) _
-    (part _ (codes "EXIT ") (λ x. ExitTo x) exit_text (λ x. Unit {0}) (exit_read true) (λ x. refl) (λ x h. tt) takes_exit _
-    (word (codes "EVENTS") Events refl tt _
-    (takes_nothing line_text (λ l. MayCome AtOwners l))))
+    u32_or line_text (λ l. MayCome AtOwners l) (codes "ECB ") (λ n. Owner n) (λ n. refl) (λ n h. tt) _
+    (word_or line_text (λ l. MayCome AtOwners l) (codes "EVENTS") Events refl tt _
+    (takes_part line_text (λ l. MayCome AtOwners l) _ (codes "EXIT ") (λ x. ExitTo x) exit_text (λ x. Unit {0}) (exit_read true)
+    (λ x. refl) (λ x h. tt) takes_exit))
 takes_line AtExits =
-    let word = word_or line_text (λ l. MayCome AtExits l) in
-    let part = part_or line_text (λ l. MayCome AtExits l) in
-    part _ (codes "EXIT ") (λ x. ExitTo x) exit_text (λ x. Unit {0}) (exit_read true) (λ x. refl) (λ x h. tt) takes_exit _
-    (word (codes "EVENTS") Events refl tt _
-    (takes_nothing line_text (λ l. MayCome AtExits l)))
+    word_or line_text (λ l. MayCome AtExits l) (codes "EVENTS") Events refl tt _
+    (takes_part line_text (λ l. MayCome AtExits l) _ (codes "EXIT ") (λ x. ExitTo x) exit_text (λ x. Unit {0}) (exit_read true)
+    (λ x. refl) (λ x h. tt) takes_exit)
 takes_line (AtEntries v) =
     u32_or line_text (λ l. MayCome (AtEntries v) l) (codes "END ") (λ n. End n) (λ n. refl) (λ n h. h) _
     (takes_made line_text (λ l. MayCome (AtEntries v) l) (λ x. EntryOf x.0 x.1) numbered_text (λ x. IsNumbered v x) (entry_read true v)

@@ -9,9 +9,11 @@ use Rattle.std.proofs.lemmas.List.Folds.{prefix_len-append}
 use Rattle.mv_line.specs.Byte.{is_digit}
 use Rattle.mv_entrytext.specs.Ranges.{highest_u32, highest_u64}
 use Rattle.mv_entrytext.specs.Words.{◌<+>◌}
-use Rattle.mv_entrytext.specs.Reading.{digit_count, number, any_u32, any_u64, Reader, parted_at, parted_by}
+use Rattle.mv_entrytext.specs.Reading.{behind, digit_count, number, any_u32, any_u64, Reader, parted_at, parted_by}
 use Rattle.mv_line.proofs.Numbers.{is_digit-true}
 use Rattle.mv_entrytext.proofs.Digits.{shown_again}
+use Rattle.mv_entrytext.proofs.Front.{word_again}
+use Rattle.std.specs.Prelude.{codes}
 
 -- no number goes on here
 abbrev pub Ends : List ℕ → Type 0
@@ -57,15 +59,15 @@ pub u64_again : (n : ℕ) (rest : List ℕ) → n ≤ highest_u64 → Ends rest 
 u64_again n rest le e = number_again 0 highest_u64 n rest (omega arith) le (omega arith) e
 
 -- two fields that are written are read again, where each is
-pub parted_at_again : {A B : Type 0} (byte : ℕ) (first : Reader A) (second : A → Reader B) (a : A) (b : B) (sa sb rest : List ℕ)
-    → first (sa ++ byte ∷ (sb ++ rest)) ≡ Some (a, byte ∷ (sb ++ rest)) → second a (sb ++ rest) ≡ Some (b, rest)
-    → parted_at byte first second ((sa ++ byte ∷ sb) ++ rest) ≡ Some ((a, b), rest)
-unfolding parted_at
-parted_at_again byte first second a b sa sb rest one two =
-    rw (append_assoc sa (byte ∷ sb) rest, one, eq-eqb byte byte refl, two) refl
+pub parted_at_again : {A B : Type 0} (word : List ℕ) (first : Reader A) (second : A → Reader B) (a : A) (b : B) (sa sb rest : List ℕ)
+    → first (sa ++ (word ++ (sb ++ rest))) ≡ Some (a, word ++ (sb ++ rest)) → second a (sb ++ rest) ≡ Some (b, rest)
+    → parted_at word first second ((sa ++ (word ++ sb)) ++ rest) ≡ Some ((a, b), rest)
+unfolding parted_at behind
+parted_at_again word first second a b sa sb rest one two =
+    rw (append_assoc sa (word ++ sb) rest, append_assoc word sb rest, one, word_again word (sb ++ rest), two) refl
 
 -- with one space between
 pub parted_again : {A B : Type 0} (first : Reader A) (second : A → Reader B) (a : A) (b : B) (sa sb rest : List ℕ)
     → first (sa ++ 32 ∷ (sb ++ rest)) ≡ Some (a, 32 ∷ (sb ++ rest)) → second a (sb ++ rest) ≡ Some (b, rest)
     → parted_by first second ((sa <+> sb) ++ rest) ≡ Some ((a, b), rest)
-parted_again first second a b sa sb rest one two = parted_at_again 32 first second a b sa sb rest one two
+parted_again first second a b sa sb rest one two = parted_at_again (codes " ") first second a b sa sb rest one two

@@ -1,52 +1,27 @@
 -- What is read strictly is the text of its value, and what stands behind it.
-use Rattle.std.proofs.Common.{◌≡◌, ℕ, ◌≤◌, Bool, true, false, cond, eqb, List, [], ◌∷◌, ◌++◌, length, take, drop, Option, Some, None}
+use Rattle.std.proofs.Common.{◌≡◌, ℕ, ◌≤◌, Bool, true, false, cond, eqb, List, [], ◌++◌, length, take, drop, Option, Some, None}
 use Rattle.std.proofs.Common.{decimal, refl, sym, ap, subst, ◌∙◌, arith, append_assoc}
-use Rattle.std.specs.List.{starts_with}
-use Rattle.std.specs.Option.{option_map, option_and_then}
+use Rattle.std.specs.Option.{option_map, option_or, option_and_then}
 use Rattle.std.proofs.lemmas.Bool.{eqb-true}
-use Rattle.std.proofs.lemmas.Bool.Decides.{Decides-eqb}
-use Rattle.std.proofs.lemmas.Slice.Eq.{starts_is}
 use Rattle.std.proofs.lemmas.List.{take-append-drop, append-nil, nil_from_length}
 use Rattle.std.proofs.lemmas.Option.{same_Some}
 use Rattle.mv_line.specs.Number.{number_of, within}
 use Rattle.mv_entrytext.specs.Ranges.{highest_u32, highest_u64}
 use Rattle.mv_entrytext.specs.Words.{◌<+>◌}
-use Rattle.mv_entrytext.specs.Reading.{Reader, given, nothing, behind, made, after, parted_at, parted_by, whole, digit_count, shown_or_zero}
+use Rattle.mv_entrytext.specs.Reading.{Reader, nothing, word, behind, ◌or◌, made, after, parted_at, parted_by, whole, digit_count, shown_or_zero}
 use Rattle.mv_entrytext.specs.Reading.{number, any_u32, any_u64}
 use Rattle.mv_entrytext.proofs.Digits.{shown_is}
+use Rattle.mv_entrytext.proofs.Front.{word_first}
+use Rattle.std.specs.Prelude.{codes}
 
 -- a reader takes the text of its value from the front, and its values are fine
 abbrev pub Takes : {A : Type 0} → (A → List ℕ) → (A → Type 0) → Reader A → Type 0
 Takes {A} show Fine reader = (text rest : List ℕ) (a : A) → reader text ≡ Some (a, rest) → (text ≡ show a ++ rest) × Fine a
 
--- a word and what is read behind it are the text of the value
-abbrev pub TakesBehind : {A : Type 0} → List ℕ → (A → List ℕ) → (A → Type 0) → Reader A → Type 0
-TakesBehind {A} word show Fine reader =
-    (text rest : List ℕ) (a : A) → reader text ≡ Some (a, rest) → (word ++ text ≡ show a ++ rest) × Fine a
-
 -- ---- readers put together
 
 pub takes_nothing : {A : Type 0} (show : A → List ℕ) (Fine : A → Type 0) → Takes show Fine nothing
 takes_nothing show Fine text rest a e = absurd cc
-
--- what begins with a word is the word and what follows it
-word_first : (text word : List ℕ) → starts_with eqb text word ≡ true → text ≡ word ++ drop (length word) text
-word_first text word e = (starts_is Decides-eqb text word (starts_with eqb text word) refl).0 e
-
-pub takes_behind : {A : Type 0} (word : List ℕ) (show : A → List ℕ) (Fine : A → Type 0) (reader other : Reader A)
-    → TakesBehind word show Fine reader → Takes show Fine other → Takes show Fine (behind word reader other)
-unfolding behind
-takes_behind word show Fine reader other here there text rest a e = go (starts_with eqb text word) refl e where
-  go : (b : Bool) → starts_with eqb text word ≡ b → cond b (reader (drop (length word) text)) (other text) ≡ Some (a, rest)
-      → (text ≡ show a ++ rest) × Fine a
-  go true s h = let t = here (drop (length word) text) rest a h in (word_first text word s ∙ t.0, t.1)
-  go false s h = there text rest a h
-
-pub behind_given : {A : Type 0} (word : List ℕ) (show : A → List ℕ) (Fine : A → Type 0) (a : A) → word ≡ show a → Fine a
-    → TakesBehind word show Fine (given a)
-behind_given word show Fine a is fine text rest b e =
-    let same : (a, text) ≡ (b, rest) = same_Some (a, text) (b, rest) e in
-    subst (λ x. (word ++ text ≡ show x.0 ++ x.1) × Fine x.0) same (ap (λ (w : List ℕ). w ++ text) is, fine)
 
 mapped : {A B : Type 0} (f : A → B) (o : Option (A × List ℕ)) (b : B) (rest : List ℕ)
     → option_map {U = B × List ℕ} (λ x. (f x.0, x.1)) o ≡ Some (b, rest) → (a : A) × (o ≡ Some (a, rest)) × (f a ≡ b)
@@ -63,48 +38,38 @@ takes_made show Fine f part Good reader is fine takes text rest b e =
     let t = takes text rest m.0 m.1 in
     subst (λ x. (text ≡ show x ++ rest) × Fine x) m.2 (t.0 ∙ ap (λ (x : List ℕ). x ++ rest) (is m.0 t.1), fine m.0 t.1)
 
-pub behind_made : {A B : Type 0} (word : List ℕ) (show : B → List ℕ) (Fine : B → Type 0) (f : A → B) (part : A → List ℕ) (Good : A → Type 0)
-    (reader : Reader A) → ((a : A) → word ++ part a ≡ show (f a)) → ((a : A) → Good a → Fine (f a)) → Takes part Good reader
-    → TakesBehind word show Fine (made f reader)
-behind_made word show Fine f part Good reader is fine takes text rest b e =
-    let m = mapped f (reader text) b rest e in
-    let t = takes text rest m.0 m.1 in
-    subst (λ x. (word ++ text ≡ show x ++ rest) × Fine x) m.2
-    (ap (λ (x : List ℕ). word ++ x) t.0 ∙ sym (append_assoc word (part m.0) rest) ∙ ap (λ (x : List ℕ). x ++ rest) (is m.0), fine m.0 t.1)
-
 pub bound : {A B : Type 0} (f : A → Option B) (o : Option A) (b : B) → option_and_then f o ≡ Some b
     → (a : A) × (o ≡ Some a) × (f a ≡ Some b)
 bound f None b e = absurd cc
 bound f (Some a) b e = (a, refl, e)
 
-byte_first : (byte : ℕ) (text rest : List ℕ) → after (byte ∷ []) text ≡ Some rest → text ≡ byte ∷ rest
-byte_first byte text rest e = go (starts_with eqb text (byte ∷ [])) refl e where
-  go : (b : Bool) → starts_with eqb text (byte ∷ []) ≡ b → cond b (Some (drop 1 text)) None ≡ Some rest → text ≡ byte ∷ rest
-  go true s h = word_first text (byte ∷ []) s ∙ ap (λ (x : List ℕ). byte ∷ x) (same_Some (drop 1 text) rest h)
-  go false s h = absurd cc
+pub takes_behind : {A : Type 0} (word : List ℕ) (show : A → List ℕ) (Fine : A → Type 0) (reader : Reader A) → Takes show Fine reader
+    → Takes (λ a. word ++ show a) Fine (behind word reader)
+unfolding behind
+takes_behind word show Fine reader takes text rest a e =
+    let b = bound reader (after word text) (a, rest) e in
+    let t = takes b.0 rest a b.2 in
+    (word_first word text b.0 b.1 ∙ ap (λ (x : List ℕ). word ++ x) t.0 ∙ sym (append_assoc word (show a) rest), t.1)
 
-pub takes_parted_at : {A B : Type 0} (byte : ℕ) (first : Reader A) (second : A → Reader B) (show : A → List ℕ) (tell : B → List ℕ)
+pub takes_parted_at : {A B : Type 0} (word : List ℕ) (first : Reader A) (second : A → Reader B) (show : A → List ℕ) (tell : B → List ℕ)
     (Fine : A → Type 0) (Good : A → B → Type 0) → Takes show Fine first → ((a : A) → Fine a → Takes tell (Good a) (second a))
-    → Takes (λ p. show p.0 ++ byte ∷ tell p.1) (λ p. Fine p.0 × Good p.0 p.1) (parted_at byte first second)
+    → Takes (λ p. show p.0 ++ (word ++ tell p.1)) (λ p. Fine p.0 × Good p.0 p.1) (parted_at word first second)
 unfolding parted_at
-takes_parted_at {A = A} {B = B} byte first second show tell Fine Good one two text rest p e =
+takes_parted_at {A = A} {B = B} word first second show tell Fine Good one two text rest p e =
     let a =
-    bound (λ x. option_and_then (λ r. option_map {U = (A × B) × List ℕ} (λ y. ((x.0, y.0), y.1)) (second x.0 r)) (after (byte ∷ []) x.1))
-    (first text) (p, rest) e in
+    bound (λ x. option_map {U = (A × B) × List ℕ} (λ y. ((x.0, y.0), y.1)) (behind word (second x.0) x.1)) (first text) (p, rest) e in
     let x = a.0 in
-    let b = bound (λ r. option_map {U = (A × B) × List ℕ} (λ y. ((x.0, y.0), y.1)) (second x.0 r)) (after (byte ∷ []) x.1) (p, rest) a.2 in
-    let m = mapped (λ y. (x.0, y)) (second x.0 b.0) p rest b.2 in
+    let m = mapped (λ y. (x.0, y)) (behind word (second x.0) x.1) p rest a.2 in
     let t = one text x.1 x.0 a.1 in
-    let u = two x.0 t.1 b.0 rest m.0 m.1 in
-    let gap : x.1 ≡ byte ∷ (tell m.0 ++ rest) = byte_first byte x.1 b.0 b.1 ∙ ap (λ (y : List ℕ). byte ∷ y) u.0 in
-    subst (λ q. (text ≡ (show q.0 ++ byte ∷ tell q.1) ++ rest) × (Fine q.0 × Good q.0 q.1)) m.2
-    (t.0 ∙ ap (λ (y : List ℕ). show x.0 ++ y) gap ∙ sym (append_assoc (show x.0) (byte ∷ tell m.0) rest), (t.1, u.1))
+    let u = takes_behind word tell (Good x.0) (second x.0) (two x.0 t.1) x.1 rest m.0 m.1 in
+    subst (λ q. (text ≡ (show q.0 ++ (word ++ tell q.1)) ++ rest) × (Fine q.0 × Good q.0 q.1)) m.2
+    (t.0 ∙ ap (λ (y : List ℕ). show x.0 ++ y) u.0 ∙ sym (append_assoc (show x.0) (word ++ tell m.0) rest), (t.1, u.1))
 
 -- with one space between
 pub takes_parted : {A B : Type 0} (first : Reader A) (second : A → Reader B) (show : A → List ℕ) (tell : B → List ℕ) (Fine : A → Type 0)
     (Good : A → B → Type 0) → Takes show Fine first → ((a : A) → Fine a → Takes tell (Good a) (second a))
     → Takes (λ p. show p.0 <+> tell p.1) (λ p. Fine p.0 × Good p.0 p.1) (parted_by first second)
-takes_parted first second show tell Fine Good one two = takes_parted_at 32 first second show tell Fine Good one two
+takes_parted first second show tell Fine Good one two = takes_parted_at (codes " ") first second show tell Fine Good one two
 
 pub takes_whole : {A : Type 0} (show : A → List ℕ) (Fine : A → Type 0) (reader : Reader A) → Takes show Fine reader
     → (text : List ℕ) (a : A) → whole reader text ≡ Some a → (text ≡ show a) × Fine a
@@ -150,19 +115,45 @@ takes_u64 text rest n e = let t = takes_number 0 highest_u64 (omega arith) text 
 -- ---- the forms of a kind of value, one behind the other
 
 module _ {A : Type 0} (show : A → List ℕ) (Fine : A → Type 0) where
-  -- a word alone is one value; what begins with another is one of the other forms
-  pub word_or : (word : List ℕ) (a : A) → word ≡ show a → Fine a → (other : Reader A) → Takes show Fine other
-      → Takes show Fine (behind word (given a) other)
-  word_or word a is fine other there = takes_behind word show Fine (given a) other (behind_given word show Fine a is fine) there
+  pub takes_or : (one other : Reader A) → Takes show Fine one → Takes show Fine other → Takes show Fine (one or other)
+  takes_or one other here there text rest a e = go (one text) refl e where
+    go : (o : Option (A × List ℕ)) → one text ≡ o → option_or o (other text) ≡ Some (a, rest) → (text ≡ show a ++ rest) × Fine a
+    go (Some x) s h = here text rest a (s ∙ h)
+    go None s h = there text rest a h
+
+  -- a word alone is one value
+  pub takes_word : (its : List ℕ) (a : A) → its ≡ show a → Fine a → Takes show Fine (word its a)
+  takes_word its a is fine text rest b e = go (after its text) refl e where
+    go : (o : Option (List ℕ)) → after its text ≡ o → option_map {U = A × List ℕ} (λ r. (a, r)) o ≡ Some (b, rest)
+        → (text ≡ show b ++ rest) × Fine b
+    go (Some r) s h =
+        let same : (a, r) ≡ (b, rest) = same_Some (a, r) (b, rest) h in
+        subst (λ x. (text ≡ show x.0 ++ x.1) × Fine x.0) same (word_first its text r s ∙ ap (λ (w : List ℕ). w ++ r) is, fine)
+    go None s h = absurd cc
 
   -- a word and a part behind it
-  pub part_or : (B : Type 0) (word : List ℕ) (f : B → A) (part : B → List ℕ) (Good : B → Type 0) (reader : Reader B)
-      → ((b : B) → word ++ part b ≡ show (f b)) → ((b : B) → Good b → Fine (f b)) → Takes part Good reader → (other : Reader A)
-      → Takes show Fine other → Takes show Fine (behind word (made f reader) other)
-  part_or B word f part Good reader is fine takes other there =
-      takes_behind word show Fine (made f reader) other (behind_made word show Fine f part Good reader is fine takes) there
+  pub takes_part : (B : Type 0) (its : List ℕ) (f : B → A) (part : B → List ℕ) (Good : B → Type 0) (reader : Reader B)
+      → ((b : B) → its ++ part b ≡ show (f b)) → ((b : B) → Good b → Fine (f b)) → Takes part Good reader
+      → Takes show Fine (made f (behind its reader))
+  takes_part B its f part Good reader is fine takes =
+      takes_made show Fine f (λ b. its ++ part b) Good (behind its reader) (λ b h. is b) fine (takes_behind its part Good reader takes)
 
   -- a word and a number of four bytes behind it
-  pub u32_or : (word : List ℕ) (f : ℕ → A) → ((n : ℕ) → word ++ decimal n ≡ show (f n)) → ((n : ℕ) → n ≤ highest_u32 → Fine (f n))
-      → (other : Reader A) → Takes show Fine other → Takes show Fine (behind word (made f (any_u32 true)) other)
-  u32_or word f is fine other there = part_or ℕ word f decimal (λ n. n ≤ highest_u32) (any_u32 true) is fine takes_u32 other there
+  pub takes_number_behind : (its : List ℕ) (f : ℕ → A) → ((n : ℕ) → its ++ decimal n ≡ show (f n))
+      → ((n : ℕ) → n ≤ highest_u32 → Fine (f n)) → Takes show Fine (made f (behind its (any_u32 true)))
+  takes_number_behind its f is fine = takes_part ℕ its f decimal (λ n. n ≤ highest_u32) (any_u32 true) is fine takes_u32
+
+  -- and each of them, or one of the other forms
+  pub word_or : (its : List ℕ) (a : A) → its ≡ show a → Fine a → (other : Reader A) → Takes show Fine other
+      → Takes show Fine (word its a or other)
+  word_or its a is fine other there = takes_or (word its a) other (takes_word its a is fine) there
+
+  pub part_or : (B : Type 0) (its : List ℕ) (f : B → A) (part : B → List ℕ) (Good : B → Type 0) (reader : Reader B)
+      → ((b : B) → its ++ part b ≡ show (f b)) → ((b : B) → Good b → Fine (f b)) → Takes part Good reader → (other : Reader A)
+      → Takes show Fine other → Takes show Fine (made f (behind its reader) or other)
+  part_or B its f part Good reader is fine takes other there =
+      takes_or (made f (behind its reader)) other (takes_part B its f part Good reader is fine takes) there
+
+  pub u32_or : (its : List ℕ) (f : ℕ → A) → ((n : ℕ) → its ++ decimal n ≡ show (f n)) → ((n : ℕ) → n ≤ highest_u32 → Fine (f n))
+      → (other : Reader A) → Takes show Fine other → Takes show Fine (made f (behind its (any_u32 true)) or other)
+  u32_or its f is fine other there = takes_or (made f (behind its (any_u32 true))) other (takes_number_behind its f is fine) there

@@ -6,7 +6,7 @@ use Rattle.mv_ecb.specs.declared.operation.EcbReply.{EcbReply}
 use Rattle.mv_ecb.specs.declared.operation.EcbReply.TheVariants.{Armed, Linked, Complete, Waiting, Open, Posted, Woke, Already, Word}
 use Rattle.mv_entrytext.specs.Ranges.{highest_u32, highest_ecb_code}
 use Rattle.mv_entrytext.specs.Words.{◌<+>◌}
-use Rattle.mv_entrytext.specs.Reading.{Reader, given, nothing, behind, made, number, any_u32}
+use Rattle.mv_entrytext.specs.Reading.{Reader, word, behind, ◌or◌, made, number, any_u32}
 
 -- ---- words
 
@@ -65,24 +65,22 @@ ecb_code strict = number strict 0 highest_ecb_code
 -- an operation, read
 unfoldable pub ecb_op : Bool → Reader EcbOp
 ecb_op strict =
-    behind (codes "ARM") (given Arm)
-    (behind (codes "EXTEND ") (made (λ exit. Extend exit) (exit_number strict))
-    (behind (codes "SETTLE") (given Settle)
-    (behind (codes "CLEAR") (given Clear)
-    (behind (codes "POST ") (made (λ code. Post code) (ecb_code strict))
-    (behind (codes "TEST") (given Test)
-    nothing)))))
+    word (codes "ARM") Arm
+    or made (λ exit. Extend exit) (behind (codes "EXTEND ") (exit_number strict))
+    or word (codes "SETTLE") Settle
+    or word (codes "CLEAR") Clear
+    or made (λ code. Post code) (behind (codes "POST ") (ecb_code strict))
+    or word (codes "TEST") Test
 
 -- a reply, read
 unfoldable pub ecb_reply : Bool → Reader EcbReply
 ecb_reply strict =
-    behind (codes "ARMED") (given Armed)
-    (behind (codes "LINKED ") (made (λ exit. Linked exit) (exit_number strict))
-    (behind (codes "COMPLETE ") (made (λ code. Complete code) (ecb_code strict))
-    (behind (codes "WAITING") (given Waiting)
-    (behind (codes "OPEN") (given Open)
-    (behind (codes "POSTED") (given Posted)
-    (behind (codes "WOKE ") (made (λ exit. Woke exit) (ecb_code strict))
-    (behind (codes "ALREADY ") (made (λ code. Already code) (ecb_code strict))
-    (behind (codes "WORD ") (made (λ word. Word word) (any_u32 strict))
-    nothing))))))))
+    word (codes "ARMED") Armed
+    or made (λ exit. Linked exit) (behind (codes "LINKED ") (exit_number strict))
+    or made (λ code. Complete code) (behind (codes "COMPLETE ") (ecb_code strict))
+    or word (codes "WAITING") Waiting
+    or word (codes "OPEN") Open
+    or word (codes "POSTED") Posted
+    or made (λ exit. Woke exit) (behind (codes "WOKE ") (ecb_code strict))
+    or made (λ code. Already code) (behind (codes "ALREADY ") (ecb_code strict))
+    or made (λ word. Word word) (behind (codes "WORD ") (any_u32 strict))

@@ -13,7 +13,7 @@ use Rattle.mv_element.specs.declared.operation.ElementReply.TheVariants.{Already
 use Rattle.mv_machine.specs.Limits.{highest_generation}
 use Rattle.mv_entrytext.specs.Ranges.{highest_u32, highest_release_code}
 use Rattle.mv_entrytext.specs.Words.{◌<+>◌}
-use Rattle.mv_entrytext.specs.Reading.{Reader, given, nothing, behind, made, parted, parted_by, number, any_u32}
+use Rattle.mv_entrytext.specs.Reading.{Reader, word, behind, ◌or◌, made, parted, parted_by, number, any_u32}
 
 -- ---- words
 
@@ -85,12 +85,11 @@ reached_generation strict = number strict 0 highest_generation
 -- the word of a phase, read
 unfoldable pub phase : Reader Phase
 phase =
-    behind (codes "FREE") (given Free)
-    (behind (codes "RESET") (given Reset)
-    (behind (codes "PRERELEASED") (given Prereleased)
-    (behind (codes "PAUSED") (given Paused)
-    (behind (codes "RELEASED") (given Released)
-    nothing))))
+    word (codes "FREE") Free
+    or word (codes "RESET") Reset
+    or word (codes "PAUSED") Paused
+    or word (codes "RELEASED") Released
+    or word (codes "PRERELEASED") Prereleased
 
 -- the highest code of a phase: a state that keeps none has 0
 abbrev pub highest_kept : Phase → ℕ
@@ -108,32 +107,30 @@ element_state strict =
 -- an operation, read
 unfoldable pub element_op : Bool → Reader ElementOp
 element_op strict =
-    behind (codes "OPEN") (given Open)
-    (behind (codes "PAUSE ") (made (λ generation. Pause generation) (any_u32 strict))
-    (behind (codes "RESUME ") (made (λ generation. Resume generation) (any_u32 strict))
-    (behind (codes "RELEASE ") (made (λ x. Release x.0 x.1) (parted (any_u32 strict) (release_code strict)))
-    (behind (codes "CLOSE ") (made (λ generation. Close generation) (any_u32 strict))
-    (behind (codes "TEST") (given Test)
-    nothing)))))
+    word (codes "OPEN") Open
+    or made (λ generation. Pause generation) (behind (codes "PAUSE ") (any_u32 strict))
+    or made (λ generation. Resume generation) (behind (codes "RESUME ") (any_u32 strict))
+    or made (λ x. Release x.0 x.1) (behind (codes "RELEASE ") (parted (any_u32 strict) (release_code strict)))
+    or made (λ generation. Close generation) (behind (codes "CLOSE ") (any_u32 strict))
+    or word (codes "TEST") Test
 
 -- the replies that tell something
 unfoldable pub telling_reply : Bool → Reader ElementReply
 telling_reply strict =
-    behind (codes "OPENED ") (made (λ generation. Opened generation) (reached_generation strict))
-    (behind (codes "GIVEN ") (made (λ x. Given x.0 x.1) (parted (release_code strict) (reached_generation strict)))
-    (behind (codes "SPENT ") (made (λ generation. Spent generation) (reached_generation strict))
-    (behind (codes "STATE ") (made (λ s. State s) (element_state strict))
-    nothing)))
+    made (λ generation. Opened generation) (behind (codes "OPENED ") (reached_generation strict))
+    or made (λ x. Given x.0 x.1) (behind (codes "GIVEN ") (parted (release_code strict) (reached_generation strict)))
+    or made (λ generation. Spent generation) (behind (codes "SPENT ") (reached_generation strict))
+    or made (λ s. State s) (behind (codes "STATE ") (element_state strict))
 
 -- those that are a word alone, or else one that tells something
 unfoldable pub element_reply : Bool → Reader ElementReply
 element_reply strict =
-    behind (codes "INUSE") (given InUse)
-    (behind (codes "PARKED") (given Parked)
-    (behind (codes "BUSY") (given Busy)
-    (behind (codes "NOTYET") (given NotYet)
-    (behind (codes "EARLY") (given Early)
-    (behind (codes "WOKE") (given Woke)
-    (behind (codes "ALREADY") (given Already)
-    (behind (codes "CLOSED") (given Closed)
-    (telling_reply strict))))))))
+    word (codes "INUSE") InUse
+    or word (codes "PARKED") Parked
+    or word (codes "BUSY") Busy
+    or word (codes "NOTYET") NotYet
+    or word (codes "EARLY") Early
+    or word (codes "WOKE") Woke
+    or word (codes "ALREADY") Already
+    or word (codes "CLOSED") Closed
+    or telling_reply strict

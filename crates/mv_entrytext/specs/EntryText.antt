@@ -10,7 +10,7 @@ use Rattle.mv_machine.specs.declared.entry.Entry.{Entry}
 use Rattle.mv_machine.specs.Limits.{highest_place}
 use Rattle.mv_entrytext.specs.Ranges.{highest_u32}
 use Rattle.mv_entrytext.specs.Words.{◌<+>◌}
-use Rattle.mv_entrytext.specs.Reading.{Reader, given, nothing, behind, made, parted, parted_by, parted_at, number, any_u32}
+use Rattle.mv_entrytext.specs.Reading.{Reader, word, behind, ◌or◌, made, parted, parted_by, parted_at, number, any_u32}
 use Rattle.mv_entrytext.specs.declared.version.Version.{Version}
 use Rattle.mv_entrytext.specs.declared.version.Version.TheVariants.{One, Two}
 use Rattle.mv_entrytext.specs.EcbText.{ecb_op_text, ecb_reply_text, IsEcbOpInRange, IsEcbReplyInRange, IsEcbReplyTyped, ecb_op, ecb_reply}
@@ -105,38 +105,36 @@ HasText e = IsInRange e × IsTyped e
 -- an object, read
 unfoldable pub object_read : Bool → Reader Object
 object_read strict =
-    behind (codes "E") (made (λ n. Ecb n) (any_u32 strict))
-    (behind (codes "P") (made (λ n. Element n) (any_u32 strict))
-    (behind (codes "V") (made (λ n. Volume n) (any_u32 strict))
-    (behind (codes "L") (given Latches)
-    nothing)))
+    made (λ n. Ecb n) (behind (codes "E") (any_u32 strict))
+    or made (λ n. Element n) (behind (codes "P") (any_u32 strict))
+    or made (λ n. Volume n) (behind (codes "V") (any_u32 strict))
+    or word (codes "L") Latches
 
--- a place, an operation, and behind the sign the reply
-abbrev pub event : {O R : Type 0} → Bool → Reader O → Reader R → Reader (ℕ × (O × R))
-event strict op reply = parted (number strict 0 highest_place) (parted op (behind (codes "= ") reply nothing))
+-- an operation, and behind the sign its reply
+abbrev pub deed : {O R : Type 0} → Reader O → Reader R → Reader (O × R)
+deed op reply = parted_at (codes " = ") op (λ _. reply)
+
+-- they are of the object's kind
+abbrev pub deed_on : Bool → Object → Reader (Op × Reply)
+deed_on strict (Ecb n) = made (λ x. (op_on.Ecb x.0, reply_of.Ecb x.1)) (deed (ecb_op strict) (ecb_reply strict))
+deed_on strict (Element n) = made (λ x. (op_on.Element x.0, reply_of.Element x.1)) (deed (element_op strict) (element_reply strict))
+deed_on strict (Volume n) = made (λ x. (op_on.Volume x.0, reply_of.Volume x.1)) (deed (volume_op strict) (volume_reply strict))
+deed_on strict Latches = made (λ x. (op_on.Latch x.0, reply_of.Latch x.1)) (deed (latch_op strict) (latch_reply strict))
 
 -- the entry of these parts
 abbrev pub entry_of : ℕ → Object → ℕ → Op → Reply → Entry
 entry_of caller object place op reply =
     record { caller = caller; object = object; place = place; op = op; reply = reply }
 
--- what stands behind an object is of its kind
+-- what stands behind an object: a place, and what was done there
 abbrev pub entry_on : Bool → ℕ → Object → Reader Entry
-entry_on strict caller (Ecb n) =
-    made (λ x. entry_of caller (Ecb n) x.0 (op_on.Ecb x.1.0) (reply_of.Ecb x.1.1)) (event strict (ecb_op strict) (ecb_reply strict))
-entry_on strict caller (Element n) =
-    made (λ x. entry_of caller (Element n) x.0 (op_on.Element x.1.0) (reply_of.Element x.1.1))
-    (event strict (element_op strict) (element_reply strict))
-entry_on strict caller (Volume n) =
-    made (λ x. entry_of caller (Volume n) x.0 (op_on.Volume x.1.0) (reply_of.Volume x.1.1))
-    (event strict (volume_op strict) (volume_reply strict))
-entry_on strict caller Latches =
-    made (λ x. entry_of caller Latches x.0 (op_on.Latch x.1.0) (reply_of.Latch x.1.1)) (event strict (latch_op strict) (latch_reply strict))
+entry_on strict caller object =
+    made (λ x. entry_of caller object x.0 x.1.0 x.1.1) (parted (number strict 0 highest_place) (deed_on strict object))
 
 -- a caller alone in version 1, and with the number of its call in version 2
 unfoldable pub caller_read : Bool → Version → Reader (ℕ × Option ℕ)
 caller_read strict One = made (λ caller. (caller, None)) (any_u32 strict)
-caller_read strict Two = made (λ x. (x.0, Some x.1)) (parted_at 46 (any_u32 strict) (λ caller. any_u32 strict))
+caller_read strict Two = made (λ x. (x.0, Some x.1)) (parted_at (codes ".") (any_u32 strict) (λ caller. any_u32 strict))
 
 -- an entry with the number of its call, if there is one
 unfoldable pub entry_read : Bool → Version → Reader (Option ℕ × Entry)

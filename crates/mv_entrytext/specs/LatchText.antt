@@ -10,7 +10,7 @@ use Rattle.mv_latch.specs.declared.operation.LatchReply.{LatchReply}
 use Rattle.mv_latch.specs.declared.operation.LatchReply.TheVariants.{Granted, Queued, NotNow, Waiting, Gone, Released, Purged}
 use Rattle.mv_entrytext.specs.Ranges.{highest_u32, highest_u64}
 use Rattle.mv_entrytext.specs.Words.{◌<+>◌}
-use Rattle.mv_entrytext.specs.Reading.{Reader, given, nothing, behind, made, parted, any_u32, any_u64}
+use Rattle.mv_entrytext.specs.Reading.{Reader, word, behind, ◌or◌, made, parted, any_u32, any_u64}
 
 -- ---- words
 
@@ -75,25 +75,18 @@ IsLatchReplyTyped _ = Unit {0}
 
 -- a mode, read
 unfoldable pub mode_read : Reader Mode
-mode_read =
-    behind (codes "S") (given Shared)
-    (behind (codes "X") (given Exclusive)
-    nothing)
+mode_read = word (codes "S") Shared or word (codes "X") Exclusive
 
 -- a form, read
 unfoldable pub form_read : Bool → Reader LatchForm
 form_read strict =
-    behind (codes "C") (given form.Conditional)
-    (behind (codes "W") (given form.Waiting)
-    (behind (codes "P") (made (λ ecb. form.Posted ecb) (any_u32 strict))
-    nothing))
+    word (codes "C") form.Conditional
+    or word (codes "W") form.Waiting
+    or made (λ ecb. form.Posted ecb) (behind (codes "P") (any_u32 strict))
 
 -- whether a release is conditional, read
 unfoldable pub condition : Reader Bool
-condition =
-    behind (codes "C") (given true)
-    (behind (codes "U") (given false)
-    nothing)
+condition = word (codes "C") true or word (codes "U") false
 
 -- two numbers of four bytes
 abbrev pub two_u32 : Bool → Reader (ℕ × ℕ)
@@ -103,31 +96,32 @@ two_u32 strict = parted (any_u32 strict) (any_u32 strict)
 unfoldable pub obtain_rest : Bool → Reader (ℕ × (Mode × LatchForm))
 obtain_rest strict = parted (any_u64 strict) (parted mode_read (form_read strict))
 
--- what stands behind the word of an obtain
+-- an obtain
 unfoldable pub obtain : Bool → Reader LatchOp
-obtain strict = made (λ x. Obtain x.0 x.1.0 x.1.1.0 x.1.1.1) (parted (any_u32 strict) (obtain_rest strict))
+obtain strict =
+    made (λ x. Obtain x.0 x.1.0 x.1.1.0 x.1.1.1) (behind (codes "OBTAIN ") (parted (any_u32 strict) (obtain_rest strict)))
 
--- what stands behind the word of a release
+-- a release
 unfoldable pub release : Bool → Reader LatchOp
-release strict = made (λ x. Release x.0 x.1.0 x.1.1) (parted (any_u32 strict) (parted (any_u32 strict) condition))
+release strict =
+    made (λ x. Release x.0 x.1.0 x.1.1)
+    (behind (codes "RELEASE ") (parted (any_u32 strict) (parted (any_u32 strict) condition)))
 
 -- an operation, read
 unfoldable pub latch_op : Bool → Reader LatchOp
 latch_op strict =
-    behind (codes "OBTAIN ") (obtain strict)
-    (behind (codes "CONFIRM ") (made (λ x. Confirm x.0 x.1) (two_u32 strict))
-    (behind (codes "RELEASE ") (release strict)
-    (behind (codes "PURGE ") (made (λ requestor. Purge requestor) (any_u64 strict))
-    nothing)))
+    obtain strict
+    or made (λ x. Confirm x.0 x.1) (behind (codes "CONFIRM ") (two_u32 strict))
+    or release strict
+    or made (λ requestor. Purge requestor) (behind (codes "PURGE ") (any_u64 strict))
 
 -- a reply, read
 unfoldable pub latch_reply : Bool → Reader LatchReply
 latch_reply strict =
-    behind (codes "GRANTED ") (made (λ id. Granted id) (any_u32 strict))
-    (behind (codes "QUEUED ") (made (λ id. Queued id) (any_u32 strict))
-    (behind (codes "NOTNOW ") (made (λ id. NotNow id) (any_u32 strict))
-    (behind (codes "WAITING") (given Waiting)
-    (behind (codes "GONE") (given Gone)
-    (behind (codes "RELEASED ") (made (λ granted. Released granted) (any_u32 strict))
-    (behind (codes "PURGED ") (made (λ x. Purged x.0 x.1) (two_u32 strict))
-    nothing))))))
+    made (λ id. Granted id) (behind (codes "GRANTED ") (any_u32 strict))
+    or made (λ id. Queued id) (behind (codes "QUEUED ") (any_u32 strict))
+    or made (λ id. NotNow id) (behind (codes "NOTNOW ") (any_u32 strict))
+    or word (codes "WAITING") Waiting
+    or word (codes "GONE") Gone
+    or made (λ granted. Released granted) (behind (codes "RELEASED ") (any_u32 strict))
+    or made (λ x. Purged x.0 x.1) (behind (codes "PURGED ") (two_u32 strict))

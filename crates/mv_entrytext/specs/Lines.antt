@@ -8,7 +8,7 @@ use Rattle.mv_entrytext.specs.declared.version.Version.TheVariants.{One, Two}
 use Rattle.mv_entrytext.specs.EntryText.{entry_read}
 use Rattle.mv_entrytext.specs.Journal.{Line, JournalOf, Callers, Elements, Volumes, Latches, Quota, Budget, Owner, ExitTo, Events}
 use Rattle.mv_entrytext.specs.Journal.{EntryOf, End}
-use Rattle.mv_entrytext.specs.Reading.{Reader, given, nothing, behind, made, parted, whole, any_u32}
+use Rattle.mv_entrytext.specs.Reading.{Reader, nothing, word, behind, ◌or◌, made, parted, whole, any_u32}
 
 -- which line comes next
 pub data Stage : Type 0 where
@@ -41,33 +41,29 @@ exit_read strict text = option_and_then exit_from (numbers strict (parts_at 32 t
 
 -- the lines that may stand where an exit may
 abbrev pub at_exits : Bool → Reader Line
-at_exits strict =
-    behind (codes "EXIT ") (made (λ x. ExitTo x) (exit_read strict))
-    (behind (codes "EVENTS") (given Events)
-    nothing)
+at_exits strict = word (codes "EVENTS") Events or made (λ x. ExitTo x) (behind (codes "EXIT ") (exit_read strict))
 
 -- the lines that may stand where an owner may
 abbrev pub at_owners : Bool → Reader Line
-at_owners strict = behind (codes "ECB ") (made (λ n. Owner n) (any_u32 strict)) (at_exits strict)
+at_owners strict = made (λ n. Owner n) (behind (codes "ECB ") (any_u32 strict)) or at_exits strict
 
 -- the lines of the counts, each of which has its place
 unfoldable pub count_line : Bool → Stage → Reader Line
-count_line strict AtVersion =
-    behind (codes "JOURNAL 1") (given (JournalOf One)) (behind (codes "JOURNAL 2") (given (JournalOf Two)) nothing)
-count_line strict AtCallers = behind (codes "CALLERS ") (made (λ n. Callers n) (any_u32 strict)) nothing
-count_line strict AtElements = behind (codes "ELEMENTS ") (made (λ n. Elements n) (any_u32 strict)) nothing
-count_line strict AtVolumes = behind (codes "VOLUMES ") (made (λ n. Volumes n) (any_u32 strict)) nothing
-count_line strict AtLatches = behind (codes "LATCHES ") (made (λ n. Latches n) (any_u32 strict)) nothing
-count_line strict AtQuota = behind (codes "QUOTA ") (made (λ x. Quota x.0 x.1) (parted (any_u32 strict) (any_u32 strict))) nothing
+count_line strict AtVersion = word (codes "JOURNAL 1") (JournalOf One) or word (codes "JOURNAL 2") (JournalOf Two)
+count_line strict AtCallers = made (λ n. Callers n) (behind (codes "CALLERS ") (any_u32 strict))
+count_line strict AtElements = made (λ n. Elements n) (behind (codes "ELEMENTS ") (any_u32 strict))
+count_line strict AtVolumes = made (λ n. Volumes n) (behind (codes "VOLUMES ") (any_u32 strict))
+count_line strict AtLatches = made (λ n. Latches n) (behind (codes "LATCHES ") (any_u32 strict))
+count_line strict AtQuota = made (λ x. Quota x.0 x.1) (behind (codes "QUOTA ") (parted (any_u32 strict) (any_u32 strict)))
 count_line strict _ = nothing
 
 -- the lines that may come next
 unfoldable pub next_line : Bool → Stage → Reader Line
-next_line strict AtBudgets = behind (codes "BUDGET ") (made (λ n. Budget n) (any_u32 strict)) (at_owners strict)
+next_line strict AtBudgets = made (λ n. Budget n) (behind (codes "BUDGET ") (any_u32 strict)) or at_owners strict
 next_line strict AtOwners = at_owners strict
 next_line strict AtExits = at_exits strict
 next_line strict (AtEntries version) =
-    behind (codes "END ") (made (λ n. End n) (any_u32 strict)) (made (λ x. EntryOf x.0 x.1) (entry_read strict version))
+    made (λ n. End n) (behind (codes "END ") (any_u32 strict)) or made (λ x. EntryOf x.0 x.1) (entry_read strict version)
 next_line strict s = count_line strict s
 
 -- a line without its LF, read to its end

@@ -1,8 +1,9 @@
 -- How a text is read from left to right: what is read, and what stands behind it.
-use Rattle.std.specs.Prelude.{ℕ, ◌==◌, nat_eq, Bool, List, [], ◌∷◌, take, drop, length, Option, Some, None, option_map}
+use Rattle.std.specs.Prelude.{ℕ, ◌==◌, nat_eq, Bool, List, take, drop, length, Option, Some, None, option_map, codes}
 use Rattle.std.specs.Prelude.{option_and_then, if◌then◌else◌}
 use Rattle.std.specs.Borrow.{Bor}
 use Rattle.std.specs.List.{starts_with, prefix_len}
+use Rattle.std.specs.Option.{option_or}
 use Rattle.mv_line.specs.Byte.{is_digit}
 use Rattle.mv_line.specs.Number.{number_of, within}
 use Rattle.mv_entrytext.specs.Ranges.{highest_u32, highest_u64}
@@ -15,35 +16,39 @@ Reader A = List ℕ → Option (A × List ℕ)
 abbrev pub seen : {A : Type 0} → Option (A × Bor (List ℕ)) → Option (A × List ℕ)
 seen read = option_map (λ x. (x.0, x.1.now)) read
 
--- nothing is read, and this is the value
-abbrev pub given : {A : Type 0} → A → Reader A
-given a text = Some (a, text)
-
 -- nothing can be read
 abbrev pub nothing : {A : Type 0} → Reader A
 nothing text = None
 
 -- what stands behind a word, where the text begins with it
-abbrev pub after : List ℕ → List ℕ → Option (List ℕ)
+unfoldable pub after : List ℕ → List ℕ → Option (List ℕ)
 after word text = if starts_with nat_eq text word then Some (drop (length word) text) else None
 
--- where a text begins with the word, the rest is read so, and else the text is read otherwise
-unfoldable pub behind : {A : Type 0} → List ℕ → Reader A → Reader A → Reader A
-behind word reader otherwise text = if starts_with nat_eq text word then reader (drop (length word) text) else otherwise text
+-- this value, where the text begins with its word
+abbrev pub word : {A : Type 0} → List ℕ → A → Reader A
+word its a text = option_map (λ rest. (a, rest)) (after its text)
+
+-- what is read behind a word
+unfoldable pub behind : {A : Type 0} → List ℕ → Reader A → Reader A
+behind word reader text = option_and_then reader (after word text)
+
+-- what the first of two readers reads, and where it can't, the other
+infixr 40 ◌or◌
+abbrev pub ◌or◌ : {A : Type 0} → Reader A → Reader A → Reader A
+(one or other) text = option_or (one text) (other text)
 
 -- a value is made of what is read
 abbrev pub made : {A B : Type 0} → (A → B) → Reader A → Reader B
 made f reader text = option_map (λ x. (f x.0, x.1)) (reader text)
 
--- two values with this byte between; how the second is read may depend on the first
-unfoldable pub parted_at : {A B : Type 0} → ℕ → Reader A → (A → Reader B) → Reader (A × B)
-parted_at byte first second text =
-    option_and_then (λ x.
-    option_and_then (λ rest. option_map (λ y. ((x.0, y.0), y.1)) (second x.0 rest)) (after (byte ∷ []) x.1)) (first text)
+-- two values with this word between; how the second is read may depend on the first
+unfoldable pub parted_at : {A B : Type 0} → List ℕ → Reader A → (A → Reader B) → Reader (A × B)
+parted_at word first second text =
+    option_and_then (λ x. option_map (λ y. ((x.0, y.0), y.1)) (behind word (second x.0) x.1)) (first text)
 
 -- with one space between
 abbrev pub parted_by : {A B : Type 0} → Reader A → (A → Reader B) → Reader (A × B)
-parted_by first second = parted_at 32 first second
+parted_by first second = parted_at (codes " ") first second
 
 -- two values with one space between, each read by itself
 abbrev pub parted : {A B : Type 0} → Reader A → Reader B → Reader (A × B)

@@ -6,7 +6,7 @@ use Rattle.mv_machine.specs.declared.entry.VolumeReply.{VolumeReply}
 use Rattle.mv_machine.specs.declared.entry.VolumeReply.TheVariants.{Value, Stored}
 use Rattle.mv_entrytext.specs.Ranges.{highest_u32}
 use Rattle.mv_entrytext.specs.Words.{◌<+>◌}
-use Rattle.mv_entrytext.specs.Reading.{Reader, given, nothing, behind, made, any_u32}
+use Rattle.mv_entrytext.specs.Reading.{Reader, word, behind, ◌or◌, made, any_u32}
 
 -- the words of an operation
 abbrev pub volume_op_text : VolumeOp → List ℕ
@@ -31,13 +31,11 @@ IsVolumeReplyTyped Stored = Unit {0}
 -- an operation, read
 unfoldable pub volume_op : Bool → Reader VolumeOp
 volume_op strict =
-    behind (codes "READ") (given Read)
-    (behind (codes "WRITE ") (made (λ number. Write number) (any_u32 strict))
-    nothing)
+    word (codes "READ") Read
+    or made (λ number. Write number) (behind (codes "WRITE ") (any_u32 strict))
 
 -- a reply, read
 unfoldable pub volume_reply : Bool → Reader VolumeReply
 volume_reply strict =
-    behind (codes "VALUE ") (made (λ number. Value number) (any_u32 strict))
-    (behind (codes "STORED") (given Stored)
-    nothing)
+    made (λ number. Value number) (behind (codes "VALUE ") (any_u32 strict))
+    or word (codes "STORED") Stored

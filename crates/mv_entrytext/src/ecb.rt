@@ -5,7 +5,7 @@ ghost use Rattle.mv_entrytext.specs.EcbText.{ecb_op_text, ecb_reply_text, ecb_op
 ghost use Rattle.mv_entrytext.specs.Reading.{seen};
 ghost use Rattle.mv_entrytext.specs.Widths.{op_width, reply_width};
 
-use crate::number::{after, any_u32, number_u32};
+use crate::number::{after, number_behind, u32_behind};
 use crate::reserved::{put_number, put_word};
 use mv_ecb::{EcbOp, EcbReply};
 
@@ -50,15 +50,14 @@ pub(crate) fn put_ecb_reply(out: &mut Vec<u8>, reply: EcbReply)
 const HIGHEST_CODE: u32 = 1_073_741_823;
 
 #[inline(always)]
-#[tactic(auto, unfolding(crate::specs::EcbText::ecb_op, crate::specs::Reading::behind))]
+#[tactic(auto, unfolding(crate::specs::EcbText::ecb_op))]
 pub(crate) fn read_ecb_op(strict: bool, text: &[u8]) -> Option<(EcbOp, &[u8])>
     ensures { seen result ≡ ecb_op strict text.now }
 {
     if let Some(rest) = after(text, b"ARM") {
         return Some((EcbOp::Arm, rest));
     }
-    if let Some(rest) = after(text, b"EXTEND ") {
-        let (exit, rest) = number_u32(strict, 1, HIGHEST_CODE, rest)?;
+    if let Some((exit, rest)) = number_behind(strict, 1, HIGHEST_CODE, text, b"EXTEND ") {
         return Some((EcbOp::Extend(exit), rest));
     }
     if let Some(rest) = after(text, b"SETTLE") {
@@ -67,8 +66,7 @@ pub(crate) fn read_ecb_op(strict: bool, text: &[u8]) -> Option<(EcbOp, &[u8])>
     if let Some(rest) = after(text, b"CLEAR") {
         return Some((EcbOp::Clear, rest));
     }
-    if let Some(rest) = after(text, b"POST ") {
-        let (code, rest) = number_u32(strict, 0, HIGHEST_CODE, rest)?;
+    if let Some((code, rest)) = number_behind(strict, 0, HIGHEST_CODE, text, b"POST ") {
         return Some((EcbOp::Post(code), rest));
     }
     if let Some(rest) = after(text, b"TEST") {
@@ -78,19 +76,17 @@ pub(crate) fn read_ecb_op(strict: bool, text: &[u8]) -> Option<(EcbOp, &[u8])>
 }
 
 #[inline(always)]
-#[tactic(auto, unfolding(crate::specs::EcbText::ecb_reply, crate::specs::Reading::behind))]
+#[tactic(auto, unfolding(crate::specs::EcbText::ecb_reply))]
 pub(crate) fn read_ecb_reply(strict: bool, text: &[u8]) -> Option<(EcbReply, &[u8])>
     ensures { seen result ≡ ecb_reply strict text.now }
 {
     if let Some(rest) = after(text, b"ARMED") {
         return Some((EcbReply::Armed, rest));
     }
-    if let Some(rest) = after(text, b"LINKED ") {
-        let (exit, rest) = number_u32(strict, 1, HIGHEST_CODE, rest)?;
+    if let Some((exit, rest)) = number_behind(strict, 1, HIGHEST_CODE, text, b"LINKED ") {
         return Some((EcbReply::Linked(exit), rest));
     }
-    if let Some(rest) = after(text, b"COMPLETE ") {
-        let (code, rest) = number_u32(strict, 0, HIGHEST_CODE, rest)?;
+    if let Some((code, rest)) = number_behind(strict, 0, HIGHEST_CODE, text, b"COMPLETE ") {
         return Some((EcbReply::Complete(code), rest));
     }
     if let Some(rest) = after(text, b"WAITING") {
@@ -102,16 +98,13 @@ pub(crate) fn read_ecb_reply(strict: bool, text: &[u8]) -> Option<(EcbReply, &[u
     if let Some(rest) = after(text, b"POSTED") {
         return Some((EcbReply::Posted, rest));
     }
-    if let Some(rest) = after(text, b"WOKE ") {
-        let (exit, rest) = number_u32(strict, 0, HIGHEST_CODE, rest)?;
+    if let Some((exit, rest)) = number_behind(strict, 0, HIGHEST_CODE, text, b"WOKE ") {
         return Some((EcbReply::Woke(exit), rest));
     }
-    if let Some(rest) = after(text, b"ALREADY ") {
-        let (code, rest) = number_u32(strict, 0, HIGHEST_CODE, rest)?;
+    if let Some((code, rest)) = number_behind(strict, 0, HIGHEST_CODE, text, b"ALREADY ") {
         return Some((EcbReply::Already(code), rest));
     }
-    if let Some(rest) = after(text, b"WORD ") {
-        let (word, rest) = any_u32(strict, rest)?;
+    if let Some((word, rest)) = u32_behind(strict, text, b"WORD ") {
         return Some((EcbReply::Word(word), rest));
     }
     None

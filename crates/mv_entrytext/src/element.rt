@@ -6,7 +6,7 @@ ghost use Rattle.mv_entrytext.specs.ElementText.{element_state, element_op, tell
 ghost use Rattle.mv_entrytext.specs.Reading.{seen};
 ghost use Rattle.mv_entrytext.specs.Widths.{op_width, phase_width, reply_width};
 
-use crate::number::{after, any_u32, number_u32, two_numbers};
+use crate::number::{after, number_behind, number_u32, pair_behind, u32_behind};
 use crate::reserved::{put_number, put_pair, put_word};
 use mv_element::{ElementOp, ElementReply, ElementState, Phase};
 use mv_machine::HIGHEST_GENERATION;
@@ -83,31 +83,28 @@ pub(crate) fn put_element_reply(out: &mut Vec<u8>, reply: ElementReply)
 /// The highest release code: three bytes.
 const HIGHEST_RELEASE_CODE: u32 = 16_777_215;
 
-#[tactic(auto, unfolding(crate::specs::ElementText::element_op, crate::specs::Reading::behind))]
+#[tactic(auto, unfolding(crate::specs::ElementText::element_op))]
 pub(crate) fn read_element_op(strict: bool, text: &[u8]) -> Option<(ElementOp, &[u8])>
     ensures { seen result ≡ element_op strict text.now }
 {
     if let Some(rest) = after(text, b"OPEN") {
         return Some((ElementOp::Open, rest));
     }
-    if let Some(rest) = after(text, b"PAUSE ") {
-        let (generation, rest) = any_u32(strict, rest)?;
+    if let Some((generation, rest)) = u32_behind(strict, text, b"PAUSE ") {
         return Some((ElementOp::Pause(generation), rest));
     }
-    if let Some(rest) = after(text, b"RESUME ") {
-        let (generation, rest) = any_u32(strict, rest)?;
+    if let Some((generation, rest)) = u32_behind(strict, text, b"RESUME ") {
         return Some((ElementOp::Resume(generation), rest));
     }
-    if let Some(rest) = after(text, b"RELEASE ") {
-        let ((generation, code), rest) = two_numbers(
-            strict,
-            (u32::MAX, HIGHEST_RELEASE_CODE),
-            rest,
-        )?;
+    if let Some(((generation, code), rest)) = pair_behind(
+        strict,
+        (u32::MAX, HIGHEST_RELEASE_CODE),
+        text,
+        b"RELEASE ",
+    ) {
         return Some((ElementOp::Release(generation, code), rest));
     }
-    if let Some(rest) = after(text, b"CLOSE ") {
-        let (generation, rest) = any_u32(strict, rest)?;
+    if let Some((generation, rest)) = u32_behind(strict, text, b"CLOSE ") {
         return Some((ElementOp::Close(generation), rest));
     }
     if let Some(rest) = after(text, b"TEST") {
@@ -116,7 +113,7 @@ pub(crate) fn read_element_op(strict: bool, text: &[u8]) -> Option<(ElementOp, &
     None
 }
 
-#[tactic(auto, unfolding(crate::specs::ElementText::phase, crate::specs::Reading::behind))]
+#[tactic(auto, unfolding(crate::specs::ElementText::phase))]
 fn read_phase(text: &[u8]) -> Option<(Phase, &[u8])>
     ensures { seen result ≡ phase text.now }
 {
@@ -126,14 +123,14 @@ fn read_phase(text: &[u8]) -> Option<(Phase, &[u8])>
     if let Some(rest) = after(text, b"RESET") {
         return Some((Phase::Reset, rest));
     }
-    if let Some(rest) = after(text, b"PRERELEASED") {
-        return Some((Phase::Prereleased, rest));
-    }
     if let Some(rest) = after(text, b"PAUSED") {
         return Some((Phase::Paused, rest));
     }
     if let Some(rest) = after(text, b"RELEASED") {
         return Some((Phase::Released, rest));
+    }
+    if let Some(rest) = after(text, b"PRERELEASED") {
+        return Some((Phase::Prereleased, rest));
     }
     None
 }
@@ -148,13 +145,13 @@ fn highest_kept(phase: Phase) -> u32
     }
 }
 
-#[tactic(auto, unfolding(crate::specs::ElementText::element_state, crate::specs::Reading::parted_at))]
+#[tactic(auto, unfolding(crate::specs::ElementText::element_state, crate::specs::Reading::parted_at, crate::specs::Reading::behind))]
 fn read_state(strict: bool, text: &[u8]) -> Option<(ElementState, &[u8])>
     ensures { seen result ≡ element_state strict text.now }
 {
     let (generation, rest) = number_u32(strict, 0, HIGHEST_GENERATION, text)?;
     let (phase, rest) = read_phase(after(rest, b" ")?)?;
-    let (code, rest) = number_u32(strict, 0, highest_kept(phase), after(rest, b" ")?)?;
+    let (code, rest) = number_behind(strict, 0, highest_kept(phase), rest, b" ")?;
     Some((ElementState::in_phase(phase, generation, code), rest))
 }
 
@@ -163,30 +160,37 @@ fn read_state(strict: bool, text: &[u8]) -> Option<(ElementState, &[u8])>
 fn read_telling_reply(strict: bool, text: &[u8]) -> Option<(ElementReply, &[u8])>
     ensures { seen result ≡ telling_reply strict text.now }
 {
-    if let Some(rest) = after(text, b"OPENED ") {
-        let (generation, rest) = number_u32(strict, 0, HIGHEST_GENERATION, rest)?;
+    if let Some((generation, rest)) = number_behind(
+        strict,
+        0,
+        HIGHEST_GENERATION,
+        text,
+        b"OPENED ",
+    ) {
         return Some((ElementReply::Opened(generation), rest));
     }
-    if let Some(rest) = after(text, b"GIVEN ") {
-        let ((code, next), rest) = two_numbers(
-            strict,
-            (HIGHEST_RELEASE_CODE, HIGHEST_GENERATION),
-            rest,
-        )?;
+    if let Some(((code, next), rest)) = pair_behind(
+        strict,
+        (HIGHEST_RELEASE_CODE, HIGHEST_GENERATION),
+        text,
+        b"GIVEN ",
+    ) {
         return Some((ElementReply::Given { code, next }, rest));
     }
-    if let Some(rest) = after(text, b"SPENT ") {
-        let (generation, rest) = number_u32(strict, 0, HIGHEST_GENERATION, rest)?;
+    if let Some((generation, rest)) = number_behind(
+        strict,
+        0,
+        HIGHEST_GENERATION,
+        text,
+        b"SPENT ",
+    ) {
         return Some((ElementReply::Spent(generation), rest));
     }
-    if let Some(rest) = after(text, b"STATE ") {
-        let (state, rest) = read_state(strict, rest)?;
-        return Some((ElementReply::State(state), rest));
-    }
-    None
+    let (state, rest) = read_state(strict, after(text, b"STATE ")?)?;
+    Some((ElementReply::State(state), rest))
 }
 
-#[tactic(auto, unfolding(crate::specs::ElementText::element_reply, crate::specs::Reading::behind))]
+#[tactic(auto, unfolding(crate::specs::ElementText::element_reply))]
 pub(crate) fn read_element_reply(strict: bool, text: &[u8]) -> Option<(ElementReply, &[u8])>
     ensures { seen result ≡ element_reply strict text.now }
 {

@@ -9,12 +9,12 @@ ghost use Rattle.mv_entrytext.specs.LatchText.{latch_op, latch_reply};
 ghost use Rattle.mv_entrytext.specs.Reading.{seen};
 ghost use Rattle.mv_entrytext.specs.Widths.{caller_width, entry_width, event_width, front_width, object_width, op_width, reply_width};
 ghost use Rattle.mv_entrytext.specs.EntryText.{caller_text, caller_read, object_text, op_text, reply_text, entry_text, object_read};
-ghost use Rattle.mv_entrytext.specs.EntryText.{event, entry_on, entry_read};
+ghost use Rattle.mv_entrytext.specs.EntryText.{deed, deed_on, entry_on, entry_read};
 
 use crate::ecb::{put_ecb_op, put_ecb_reply, read_ecb_op, read_ecb_reply};
 use crate::element::{put_element_op, put_element_reply, read_element_op, read_element_reply};
 use crate::latch::{put_latch_op, put_latch_reply, read_latch_op, read_latch_reply};
-use crate::number::{after, any_u32, number_u32};
+use crate::number::{after, any_u32, number_u32, u32_behind};
 use crate::reserved::{put_number, put_word};
 use crate::version::Version;
 use crate::volume::{put_volume_op, put_volume_reply, read_volume_op, read_volume_reply};
@@ -125,20 +125,17 @@ pub(crate) fn put_entry(out: &mut Vec<u8>, call: Option<u32>, entry: &Entry)
     put_event(out, entry);
 }
 
-#[tactic(auto, unfolding(crate::specs::EntryText::object_read, crate::specs::Reading::behind))]
+#[tactic(auto, unfolding(crate::specs::EntryText::object_read))]
 fn read_object(strict: bool, text: &[u8]) -> Option<(Object, &[u8])>
     ensures { seen result ≡ object_read strict text.now }
 {
-    if let Some(rest) = after(text, b"E") {
-        let (n, rest) = any_u32(strict, rest)?;
+    if let Some((n, rest)) = u32_behind(strict, text, b"E") {
         return Some((Object::Ecb(n), rest));
     }
-    if let Some(rest) = after(text, b"P") {
-        let (n, rest) = any_u32(strict, rest)?;
+    if let Some((n, rest)) = u32_behind(strict, text, b"P") {
         return Some((Object::Element(n), rest));
     }
-    if let Some(rest) = after(text, b"V") {
-        let (n, rest) = any_u32(strict, rest)?;
+    if let Some((n, rest)) = u32_behind(strict, text, b"V") {
         return Some((Object::Volume(n), rest));
     }
     if let Some(rest) = after(text, b"L") {
@@ -147,82 +144,80 @@ fn read_object(strict: bool, text: &[u8]) -> Option<(Object, &[u8])>
     None
 }
 
-// A place, an operation on an event control block, and its reply. Most entries of a run are of these, so what reads them is
-// inlined.
+// An operation on an event control block, and its reply. Most entries of a run have these, so what reads them is inlined.
 #[inline(always)]
 #[tactic(auto, unfolding(crate::specs::Reading::parted_at, crate::specs::Reading::behind))]
-fn read_ecb_event(strict: bool, text: &[u8]) -> Option<((u32, (EcbOp, EcbReply)), &[u8])>
-    ensures { seen result ≡ event strict (ecb_op strict) (ecb_reply strict) text.now }
+fn read_ecb_deed(strict: bool, text: &[u8]) -> Option<((EcbOp, EcbReply), &[u8])>
+    ensures { seen result ≡ deed (ecb_op strict) (ecb_reply strict) text.now }
 {
-    let (place, rest) = number_u32(strict, 0, HIGHEST_PLACE, text)?;
-    let (op, rest) = read_ecb_op(strict, after(rest, b" ")?)?;
-    let rest = after(after(rest, b" ")?, b"= ")?;
-    let (reply, rest) = read_ecb_reply(strict, rest)?;
-    Some(((place, (op, reply)), rest))
+    let (op, rest) = read_ecb_op(strict, text)?;
+    let (reply, rest) = read_ecb_reply(strict, after(rest, b" = ")?)?;
+    Some(((op, reply), rest))
 }
 
 // The same on a pause element.
 #[tactic(auto, unfolding(crate::specs::Reading::parted_at, crate::specs::Reading::behind))]
-fn read_element_event(
-    strict: bool,
-    text: &[u8],
-) -> Option<((u32, (ElementOp, ElementReply)), &[u8])>
-    ensures { seen result ≡ event strict (element_op strict) (element_reply strict) text.now }
+fn read_element_deed(strict: bool, text: &[u8]) -> Option<((ElementOp, ElementReply), &[u8])>
+    ensures { seen result ≡ deed (element_op strict) (element_reply strict) text.now }
 {
-    let (place, rest) = number_u32(strict, 0, HIGHEST_PLACE, text)?;
-    let (op, rest) = read_element_op(strict, after(rest, b" ")?)?;
-    let rest = after(after(rest, b" ")?, b"= ")?;
-    let (reply, rest) = read_element_reply(strict, rest)?;
-    Some(((place, (op, reply)), rest))
+    let (op, rest) = read_element_op(strict, text)?;
+    let (reply, rest) = read_element_reply(strict, after(rest, b" = ")?)?;
+    Some(((op, reply), rest))
 }
 
 // The same on a volume.
 #[tactic(auto, unfolding(crate::specs::Reading::parted_at, crate::specs::Reading::behind))]
-fn read_volume_event(strict: bool, text: &[u8]) -> Option<((u32, (VolumeOp, VolumeReply)), &[u8])>
-    ensures { seen result ≡ event strict (volume_op strict) (volume_reply strict) text.now }
+fn read_volume_deed(strict: bool, text: &[u8]) -> Option<((VolumeOp, VolumeReply), &[u8])>
+    ensures { seen result ≡ deed (volume_op strict) (volume_reply strict) text.now }
 {
-    let (place, rest) = number_u32(strict, 0, HIGHEST_PLACE, text)?;
-    let (op, rest) = read_volume_op(strict, after(rest, b" ")?)?;
-    let rest = after(after(rest, b" ")?, b"= ")?;
-    let (reply, rest) = read_volume_reply(strict, rest)?;
-    Some(((place, (op, reply)), rest))
+    let (op, rest) = read_volume_op(strict, text)?;
+    let (reply, rest) = read_volume_reply(strict, after(rest, b" = ")?)?;
+    Some(((op, reply), rest))
 }
 
 // The same on the latch set.
 #[tactic(auto, unfolding(crate::specs::Reading::parted_at, crate::specs::Reading::behind))]
-fn read_latch_event(strict: bool, text: &[u8]) -> Option<((u32, (LatchOp, LatchReply)), &[u8])>
-    ensures { seen result ≡ event strict (latch_op strict) (latch_reply strict) text.now }
+fn read_latch_deed(strict: bool, text: &[u8]) -> Option<((LatchOp, LatchReply), &[u8])>
+    ensures { seen result ≡ deed (latch_op strict) (latch_reply strict) text.now }
 {
-    let (place, rest) = number_u32(strict, 0, HIGHEST_PLACE, text)?;
-    let (op, rest) = read_latch_op(strict, after(rest, b" ")?)?;
-    let rest = after(after(rest, b" ")?, b"= ")?;
-    let (reply, rest) = read_latch_reply(strict, rest)?;
-    Some(((place, (op, reply)), rest))
+    let (op, rest) = read_latch_op(strict, text)?;
+    let (reply, rest) = read_latch_reply(strict, after(rest, b" = ")?)?;
+    Some(((op, reply), rest))
 }
 
-// What stands behind an object is of its kind. It is inlined since an entry is large, and would be moved once more.
+// What was done on an object is of its kind. It is inlined, as what reads an entry is: an entry is large, and would be moved once more.
 #[inline(always)]
+fn read_deed(strict: bool, object: Object, text: &[u8]) -> Option<((Op, Reply), &[u8])>
+    ensures { seen result ≡ deed_on strict object text.now }
+{
+    match object {
+        Object::Ecb(_) => {
+            let ((op, reply), rest) = read_ecb_deed(strict, text)?;
+            Some(((Op::Ecb(op), Reply::Ecb(reply)), rest))
+        }
+        Object::Element(_) => {
+            let ((op, reply), rest) = read_element_deed(strict, text)?;
+            Some(((Op::Element(op), Reply::Element(reply)), rest))
+        }
+        Object::Volume(_) => {
+            let ((op, reply), rest) = read_volume_deed(strict, text)?;
+            Some(((Op::Volume(op), Reply::Volume(reply)), rest))
+        }
+        Object::Latches => {
+            let ((op, reply), rest) = read_latch_deed(strict, text)?;
+            Some(((Op::Latch(op), Reply::Latch(reply)), rest))
+        }
+    }
+}
+
+// A place, and what was done there.
+#[inline(always)]
+#[tactic(auto, unfolding(crate::specs::Reading::parted_at, crate::specs::Reading::behind))]
 fn read_entry_on(strict: bool, caller: u32, object: Object, text: &[u8]) -> Option<(Entry, &[u8])>
     ensures { seen result ≡ entry_on strict caller object text.now }
 {
-    let (place, op, reply, rest) = match object {
-        Object::Ecb(_) => {
-            let ((place, (op, reply)), rest) = read_ecb_event(strict, text)?;
-            (place, Op::Ecb(op), Reply::Ecb(reply), rest)
-        }
-        Object::Element(_) => {
-            let ((place, (op, reply)), rest) = read_element_event(strict, text)?;
-            (place, Op::Element(op), Reply::Element(reply), rest)
-        }
-        Object::Volume(_) => {
-            let ((place, (op, reply)), rest) = read_volume_event(strict, text)?;
-            (place, Op::Volume(op), Reply::Volume(reply), rest)
-        }
-        Object::Latches => {
-            let ((place, (op, reply)), rest) = read_latch_event(strict, text)?;
-            (place, Op::Latch(op), Reply::Latch(reply), rest)
-        }
-    };
+    let (place, rest) = number_u32(strict, 0, HIGHEST_PLACE, text)?;
+    let ((op, reply), rest) = read_deed(strict, object, after(rest, b" ")?)?;
     let entry = Entry {
         caller,
         object,
@@ -242,14 +237,14 @@ fn read_caller(strict: bool, version: Version, text: &[u8]) -> Option<((u32, Opt
     match version {
         Version::One => Some(((caller, None), rest)),
         Version::Two => {
-            let (call, rest) = any_u32(strict, after(rest, b".")?)?;
+            let (call, rest) = u32_behind(strict, rest, b".")?;
             Some(((caller, Some(call)), rest))
         }
     }
 }
 
 /// Reads an entry from the front of a text, with the number of its call in version 2.
-#[tactic(auto, unfolding(crate::specs::EntryText::entry_read, crate::specs::Reading::parted_at))]
+#[tactic(auto, unfolding(crate::specs::EntryText::entry_read, crate::specs::Reading::parted_at, crate::specs::Reading::behind))]
 pub(crate) fn read_entry(
     strict: bool,
     version: Version,

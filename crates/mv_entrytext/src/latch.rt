@@ -6,7 +6,7 @@ ghost use Rattle.mv_entrytext.specs.LatchText.{form_read, condition, obtain_rest
 ghost use Rattle.mv_entrytext.specs.Reading.{seen};
 ghost use Rattle.mv_entrytext.specs.Widths.{object_width, op_width, reply_width};
 
-use crate::number::{after, any_u32, any_u64, two_numbers};
+use crate::number::{after, any_u32, any_u64, pair_behind, u32_behind};
 use crate::reserved::{put_number, put_pair, put_wide, put_word};
 use mv_latch::{LatchForm, LatchOp, LatchReply, Mode};
 
@@ -112,7 +112,7 @@ pub(crate) fn put_latch_reply(out: &mut Vec<u8>, reply: LatchReply)
     }
 }
 
-#[tactic(auto, unfolding(crate::specs::LatchText::mode_read, crate::specs::Reading::behind))]
+#[tactic(auto, unfolding(crate::specs::LatchText::mode_read))]
 fn read_mode(text: &[u8]) -> Option<(Mode, &[u8])>
     ensures { seen result ≡ mode_read text.now }
 {
@@ -125,7 +125,7 @@ fn read_mode(text: &[u8]) -> Option<(Mode, &[u8])>
     None
 }
 
-#[tactic(auto, unfolding(crate::specs::LatchText::form_read, crate::specs::Reading::behind))]
+#[tactic(auto, unfolding(crate::specs::LatchText::form_read))]
 fn read_form(strict: bool, text: &[u8]) -> Option<(LatchForm, &[u8])>
     ensures { seen result ≡ form_read strict text.now }
 {
@@ -135,14 +135,13 @@ fn read_form(strict: bool, text: &[u8]) -> Option<(LatchForm, &[u8])>
     if let Some(rest) = after(text, b"W") {
         return Some((LatchForm::Waiting, rest));
     }
-    if let Some(rest) = after(text, b"P") {
-        let (ecb, rest) = any_u32(strict, rest)?;
+    if let Some((ecb, rest)) = u32_behind(strict, text, b"P") {
         return Some((LatchForm::Posted(ecb), rest));
     }
     None
 }
 
-#[tactic(auto, unfolding(crate::specs::LatchText::condition, crate::specs::Reading::behind))]
+#[tactic(auto, unfolding(crate::specs::LatchText::condition))]
 fn read_condition(text: &[u8]) -> Option<(bool, &[u8])>
     ensures { seen result ≡ condition text.now }
 {
@@ -156,7 +155,7 @@ fn read_condition(text: &[u8]) -> Option<(bool, &[u8])>
 }
 
 // The requestor, the mode and the form of an obtain.
-#[tactic(auto, unfolding(crate::specs::LatchText::obtain_rest, crate::specs::Reading::parted_at))]
+#[tactic(auto, unfolding(crate::specs::LatchText::obtain_rest, crate::specs::Reading::parted_at, crate::specs::Reading::behind))]
 fn read_obtain_rest(strict: bool, text: &[u8]) -> Option<((u64, (Mode, LatchForm)), &[u8])>
     ensures { seen result ≡ obtain_rest strict text.now }
 {
@@ -166,11 +165,11 @@ fn read_obtain_rest(strict: bool, text: &[u8]) -> Option<((u64, (Mode, LatchForm
     Some(((requestor, (mode, form)), rest))
 }
 
-#[tactic(auto, unfolding(crate::specs::LatchText::obtain, crate::specs::Reading::parted_at))]
+#[tactic(auto, unfolding(crate::specs::LatchText::obtain, crate::specs::Reading::parted_at, crate::specs::Reading::behind))]
 fn read_obtain(strict: bool, text: &[u8]) -> Option<(LatchOp, &[u8])>
     ensures { seen result ≡ obtain strict text.now }
 {
-    let (latch, rest) = any_u32(strict, text)?;
+    let (latch, rest) = any_u32(strict, after(text, b"OBTAIN ")?)?;
     let ((requestor, (mode, form)), rest) = read_obtain_rest(strict, after(rest, b" ")?)?;
     let op = LatchOp::Obtain {
         latch,
@@ -181,11 +180,11 @@ fn read_obtain(strict: bool, text: &[u8]) -> Option<(LatchOp, &[u8])>
     Some((op, rest))
 }
 
-#[tactic(auto, unfolding(crate::specs::LatchText::release, crate::specs::Reading::parted_at))]
+#[tactic(auto, unfolding(crate::specs::LatchText::release, crate::specs::Reading::parted_at, crate::specs::Reading::behind))]
 fn read_release(strict: bool, text: &[u8]) -> Option<(LatchOp, &[u8])>
     ensures { seen result ≡ release strict text.now }
 {
-    let (latch, rest) = any_u32(strict, text)?;
+    let (latch, rest) = any_u32(strict, after(text, b"RELEASE ")?)?;
     let (id, rest) = any_u32(strict, after(rest, b" ")?)?;
     let (conditional, rest) = read_condition(after(rest, b" ")?)?;
     let op = LatchOp::Release {
@@ -200,37 +199,35 @@ fn read_release(strict: bool, text: &[u8]) -> Option<(LatchOp, &[u8])>
 pub(crate) fn read_latch_op(strict: bool, text: &[u8]) -> Option<(LatchOp, &[u8])>
     ensures { seen result ≡ latch_op strict text.now }
 {
-    if let Some(rest) = after(text, b"OBTAIN ") {
-        return read_obtain(strict, rest);
+    if let Some(read) = read_obtain(strict, text) {
+        return Some(read);
     }
-    if let Some(rest) = after(text, b"CONFIRM ") {
-        let ((latch, id), rest) = two_numbers(strict, (u32::MAX, u32::MAX), rest)?;
+    if let Some(((latch, id), rest)) = pair_behind(
+        strict,
+        (u32::MAX, u32::MAX),
+        text,
+        b"CONFIRM ",
+    ) {
         return Some((LatchOp::Confirm { latch, id }, rest));
     }
-    if let Some(rest) = after(text, b"RELEASE ") {
-        return read_release(strict, rest);
+    if let Some(read) = read_release(strict, text) {
+        return Some(read);
     }
-    if let Some(rest) = after(text, b"PURGE ") {
-        let (requestor, rest) = any_u64(strict, rest)?;
-        return Some((LatchOp::Purge { requestor }, rest));
-    }
-    None
+    let (requestor, rest) = any_u64(strict, after(text, b"PURGE ")?)?;
+    Some((LatchOp::Purge { requestor }, rest))
 }
 
-#[tactic(auto, unfolding(crate::specs::LatchText::latch_reply, crate::specs::Reading::behind))]
+#[tactic(auto, unfolding(crate::specs::LatchText::latch_reply))]
 pub(crate) fn read_latch_reply(strict: bool, text: &[u8]) -> Option<(LatchReply, &[u8])>
     ensures { seen result ≡ latch_reply strict text.now }
 {
-    if let Some(rest) = after(text, b"GRANTED ") {
-        let (id, rest) = any_u32(strict, rest)?;
+    if let Some((id, rest)) = u32_behind(strict, text, b"GRANTED ") {
         return Some((LatchReply::Granted(id), rest));
     }
-    if let Some(rest) = after(text, b"QUEUED ") {
-        let (id, rest) = any_u32(strict, rest)?;
+    if let Some((id, rest)) = u32_behind(strict, text, b"QUEUED ") {
         return Some((LatchReply::Queued(id), rest));
     }
-    if let Some(rest) = after(text, b"NOTNOW ") {
-        let (id, rest) = any_u32(strict, rest)?;
+    if let Some((id, rest)) = u32_behind(strict, text, b"NOTNOW ") {
         return Some((LatchReply::NotNow(id), rest));
     }
     if let Some(rest) = after(text, b"WAITING") {
@@ -239,12 +236,15 @@ pub(crate) fn read_latch_reply(strict: bool, text: &[u8]) -> Option<(LatchReply,
     if let Some(rest) = after(text, b"GONE") {
         return Some((LatchReply::Gone, rest));
     }
-    if let Some(rest) = after(text, b"RELEASED ") {
-        let (granted, rest) = any_u32(strict, rest)?;
+    if let Some((granted, rest)) = u32_behind(strict, text, b"RELEASED ") {
         return Some((LatchReply::Released { granted }, rest));
     }
-    if let Some(rest) = after(text, b"PURGED ") {
-        let ((removed, granted), rest) = two_numbers(strict, (u32::MAX, u32::MAX), rest)?;
+    if let Some(((removed, granted), rest)) = pair_behind(
+        strict,
+        (u32::MAX, u32::MAX),
+        text,
+        b"PURGED ",
+    ) {
         return Some((LatchReply::Purged { removed, granted }, rest));
     }
     None

@@ -9,7 +9,7 @@ ghost use Rattle.mv_entrytext.specs.Lines.{count_line, next_line, line_read};
 ghost use Rattle.mv_entrytext.specs.Said.{said, entry_said, stage_of, line_seen, entry_line_seen};
 
 use crate::entry::read_entry;
-use crate::number::{after, any_u32, two_numbers};
+use crate::number::{after, any_u32, pair_behind, u32_behind};
 use crate::version::Version;
 use mv_io::NoMemory;
 use mv_line::split_part;
@@ -104,7 +104,7 @@ fn read_exit(alloc: Global, strict: bool, text: &[u8]) -> Result<Option<Exit>, N
 }
 
 // The first line.
-#[tactic(auto, unfolding(crate::specs::Lines::count_line, crate::specs::Reading::behind))]
+#[tactic(auto, unfolding(crate::specs::Lines::count_line))]
 fn read_version(text: &[u8]) -> Option<(Line, &[u8])>
     ensures { line_seen result ≡ count_line true AtVersion text.now }
 {
@@ -115,43 +115,47 @@ fn read_version(text: &[u8]) -> Option<(Line, &[u8])>
 }
 
 // The counts of the head, each in its place.
-#[tactic(auto, unfolding(crate::specs::Lines::count_line, crate::specs::Reading::behind))]
+#[tactic(auto, unfolding(crate::specs::Lines::count_line))]
 fn read_count(strict: bool, stage: Stage, text: &[u8]) -> Option<(Line, &[u8])>
     ensures { line_seen result ≡ count_line strict (stage_of stage) text.now }
 {
     match stage {
         Stage::Version => read_version(text),
         Stage::Callers => {
-            let (n, rest) = any_u32(strict, after(text, b"CALLERS ")?)?;
+            let (n, rest) = u32_behind(strict, text, b"CALLERS ")?;
             Some((Line::Callers(n), rest))
         }
         Stage::Elements => {
-            let (n, rest) = any_u32(strict, after(text, b"ELEMENTS ")?)?;
+            let (n, rest) = u32_behind(strict, text, b"ELEMENTS ")?;
             Some((Line::Elements(n), rest))
         }
         Stage::Volumes => {
-            let (n, rest) = any_u32(strict, after(text, b"VOLUMES ")?)?;
+            let (n, rest) = u32_behind(strict, text, b"VOLUMES ")?;
             Some((Line::Volumes(n), rest))
         }
         Stage::Latches => {
-            let (n, rest) = any_u32(strict, after(text, b"LATCHES ")?)?;
+            let (n, rest) = u32_behind(strict, text, b"LATCHES ")?;
             Some((Line::Latches(n), rest))
         }
         Stage::Quota => {
-            let (both, rest) = two_numbers(strict, (u32::MAX, u32::MAX), after(text, b"QUOTA ")?)?;
-            Some((Line::Quota(both.0, both.1), rest))
+            let ((quota, posted), rest) = pair_behind(
+                strict,
+                (u32::MAX, u32::MAX),
+                text,
+                b"QUOTA ",
+            )?;
+            Some((Line::Quota(quota, posted), rest))
         }
         _ => None,
     }
 }
 
 // An entry, or the end.
-#[tactic(auto, unfolding(crate::specs::Lines::next_line, crate::specs::Reading::behind))]
+#[tactic(auto, unfolding(crate::specs::Lines::next_line))]
 fn read_entry_or_end(strict: bool, version: Version, text: &[u8]) -> Option<(EntryLine, &[u8])>
     ensures { entry_line_seen result ≡ next_line strict (AtEntries version) text.now }
 {
-    if let Some(rest) = after(text, b"END ") {
-        let (n, rest) = any_u32(strict, rest)?;
+    if let Some((n, rest)) = u32_behind(strict, text, b"END ") {
         return Some((EntryLine::End(n), rest));
     }
     let ((call, entry), rest) = read_entry(strict, version, text)?;
@@ -175,42 +179,35 @@ type Read<'a> = Result<Option<(Line, &'a [u8])>, NoMemory>;
 fn read_at_exits(alloc: Global, strict: bool, text: &[u8]) -> Read<'_>
     ensures { IfOk result (λ o. line_seen o ≡ at_exits strict text.now) }
 {
-    if let Some(rest) = after(text, b"EXIT ") {
-        return match read_exit(alloc, strict, rest)? {
-            Some(exit) => Ok(Some((Line::Exit(exit), &[]))),
-            None => Ok(None),
-        };
-    }
     if let Some(rest) = after(text, b"EVENTS") {
         return Ok(Some((Line::Events, rest)));
     }
-    Ok(None)
+    let Some(rest) = after(text, b"EXIT ") else {
+        return Ok(None);
+    };
+    match read_exit(alloc, strict, rest)? {
+        Some(exit) => Ok(Some((Line::Exit(exit), &[]))),
+        None => Ok(None),
+    }
 }
 
 // An owner, or what may stand behind the owners.
-#[tactic(auto, unfolding(crate::specs::Reading::behind))]
 fn read_at_owners(alloc: Global, strict: bool, text: &[u8]) -> Read<'_>
     ensures { IfOk result (λ o. line_seen o ≡ at_owners strict text.now) }
 {
-    if let Some(rest) = after(text, b"ECB ") {
-        return match any_u32(strict, rest) {
-            Some((owner, rest)) => Ok(Some((Line::Owner(owner), rest))),
-            None => Ok(None),
-        };
+    if let Some((owner, rest)) = u32_behind(strict, text, b"ECB ") {
+        return Ok(Some((Line::Owner(owner), rest)));
     }
     read_at_exits(alloc, strict, text)
 }
 
 // A budget, or what may stand behind the budgets.
-#[tactic(auto, unfolding(crate::specs::Lines::next_line, crate::specs::Reading::behind))]
+#[tactic(auto, unfolding(crate::specs::Lines::next_line))]
 fn read_at_budgets(alloc: Global, strict: bool, text: &[u8]) -> Read<'_>
     ensures { IfOk result (λ o. line_seen o ≡ next_line strict AtBudgets text.now) }
 {
-    if let Some(rest) = after(text, b"BUDGET ") {
-        return match any_u32(strict, rest) {
-            Some((budget, rest)) => Ok(Some((Line::Budget(budget), rest))),
-            None => Ok(None),
-        };
+    if let Some((budget, rest)) = u32_behind(strict, text, b"BUDGET ") {
+        return Ok(Some((Line::Budget(budget), rest)));
     }
     read_at_owners(alloc, strict, text)
 }

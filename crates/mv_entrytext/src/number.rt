@@ -1,11 +1,11 @@
 //! Numbers in a text: `specs/Reading.antt`.
 
-ghost use Rattle.std.specs.Prelude.{◌≡◌, ◌≤◌, ◌<◌, ◌++◌, OnOk, IfSome, MatchOption, true, false};
-ghost use Rattle.std.specs.Prelude.{nat_eq, Bool, Some, decimal, drop, take, length};
+ghost use Rattle.std.specs.Prelude.{◌≡◌, ◌≤◌, ◌<◌, ◌++◌, OnOk, IfSome, true};
+ghost use Rattle.std.specs.Prelude.{nat_eq, option_map, Bool, Some, decimal, take, length};
 ghost use Rattle.std.specs.List.{starts_with};
 ghost use Rattle.mv_line.specs.Number.{is_number, number_of, value_behind, within};
 ghost use Rattle.mv_entrytext.specs.Words.{◌<+>◌};
-ghost use Rattle.mv_entrytext.specs.Reading.{seen, digit_count, number as number_at, any_u32, any_u64, parted};
+ghost use Rattle.mv_entrytext.specs.Reading.{seen, after, behind, digit_count, number as number_at, any_u32, any_u64, parted};
 
 use crate::reserved::{NUMBER_WIDTH, put_digits};
 use mv_io::NoMemory;
@@ -63,9 +63,9 @@ pub(crate) fn push_pair(
 /// What stands behind a word, where the text begins with it. Each caller's word is a constant, and inlined the comparison is of
 /// so many bytes.
 #[inline(always)]
+#[tactic(auto, unfolding(crate::specs::Reading::after))]
 pub(crate) fn after<'a>(text: &'a [u8], word: &[u8]) -> Option<&'a [u8]>
-    ensures { MatchOption result (starts_with nat_eq text.now word.now ≡ false)
-        (λ rest. (starts_with nat_eq text.now word.now ≡ true) × (rest.now ≡ drop (length word.now) text.now)) }
+    ensures { option_map (λ rest. rest.now) result ≡ after word.now text.now }
 {
     if begins_with(text, word) {
         Some(&text[word.len()..])
@@ -118,18 +118,51 @@ pub(crate) fn any_u64(strict: bool, text: &[u8]) -> Option<(u64, &[u8])>
     number(strict, 0, u64::MAX, text)
 }
 
-/// Two numbers of four bytes with one space between, each at most so high.
-#[tactic(auto, unfolding(crate::specs::Reading::parted_at))]
-pub(crate) fn two_numbers(
+/// A number of four bytes, within these bounds, behind a word.
+#[inline(always)]
+#[tactic(auto, unfolding(crate::specs::Reading::behind))]
+pub(crate) fn number_behind<'a>(
+    strict: bool,
+    low: u32,
+    high: u32,
+    text: &'a [u8],
+    word: &[u8],
+) -> Option<(u32, &'a [u8])>
+    ensures { seen result ≡ behind word.now (number_at strict low high) text.now }
+{
+    number_u32(strict, low, high, after(text, word)?)
+}
+
+/// A number of four bytes behind a word.
+#[inline(always)]
+pub(crate) fn u32_behind<'a>(strict: bool, text: &'a [u8], word: &[u8]) -> Option<(u32, &'a [u8])>
+    ensures { seen result ≡ behind word.now (any_u32 strict) text.now }
+{
+    number_behind(strict, 0, u32::MAX, text, word)
+}
+
+/// Two numbers of four bytes with one space between, each at most so high, behind a word.
+#[inline(always)]
+#[tactic(auto, unfolding(crate::specs::Reading::behind))]
+pub(crate) fn pair_behind<'a>(
     strict: bool,
     highest: (u32, u32),
-    text: &[u8],
-) -> Option<((u32, u32), &[u8])>
+    text: &'a [u8],
+    word: &[u8],
+) -> Option<((u32, u32), &'a [u8])>
+    ensures { seen result
+        ≡ behind word.now (parted (number_at strict 0 highest.0) (number_at strict 0 highest.1)) text.now }
+{
+    two_numbers(strict, highest, after(text, word)?)
+}
+
+// The two numbers.
+#[tactic(auto, unfolding(crate::specs::Reading::parted_at))]
+fn two_numbers(strict: bool, highest: (u32, u32), text: &[u8]) -> Option<((u32, u32), &[u8])>
     ensures { seen result ≡ parted (number_at strict 0 highest.0) (number_at strict 0 highest.1) text.now }
 {
     let (first, rest) = number_u32(strict, 0, highest.0, text)?;
-    let rest = after(rest, b" ")?;
-    let (second, rest) = number_u32(strict, 0, highest.1, rest)?;
+    let (second, rest) = number_behind(strict, 0, highest.1, rest, b" ")?;
     Some(((first, second), rest))
 }
 

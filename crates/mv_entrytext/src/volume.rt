@@ -5,7 +5,7 @@ ghost use Rattle.mv_entrytext.specs.VolumeText.{volume_op_text, volume_reply_tex
 ghost use Rattle.mv_entrytext.specs.Reading.{seen};
 ghost use Rattle.mv_entrytext.specs.Widths.{op_width, reply_width};
 
-use crate::number::{after, any_u32};
+use crate::number::{after, u32_behind};
 use crate::reserved::{put_number, put_word};
 use mv_machine::{VolumeOp, VolumeReply};
 
@@ -35,26 +35,24 @@ pub(crate) fn put_volume_reply(out: &mut Vec<u8>, reply: VolumeReply)
     }
 }
 
-#[tactic(auto, unfolding(crate::specs::VolumeText::volume_op, crate::specs::Reading::behind))]
+#[tactic(auto, unfolding(crate::specs::VolumeText::volume_op))]
 pub(crate) fn read_volume_op(strict: bool, text: &[u8]) -> Option<(VolumeOp, &[u8])>
     ensures { seen result ≡ volume_op strict text.now }
 {
     if let Some(rest) = after(text, b"READ") {
         return Some((VolumeOp::Read, rest));
     }
-    if let Some(rest) = after(text, b"WRITE ") {
-        let (number, rest) = any_u32(strict, rest)?;
+    if let Some((number, rest)) = u32_behind(strict, text, b"WRITE ") {
         return Some((VolumeOp::Write(number), rest));
     }
     None
 }
 
-#[tactic(auto, unfolding(crate::specs::VolumeText::volume_reply, crate::specs::Reading::behind))]
+#[tactic(auto, unfolding(crate::specs::VolumeText::volume_reply))]
 pub(crate) fn read_volume_reply(strict: bool, text: &[u8]) -> Option<(VolumeReply, &[u8])>
     ensures { seen result ≡ volume_reply strict text.now }
 {
-    if let Some(rest) = after(text, b"VALUE ") {
-        let (number, rest) = any_u32(strict, rest)?;
+    if let Some((number, rest)) = u32_behind(strict, text, b"VALUE ") {
         return Some((VolumeReply::Value(number), rest));
     }
     if let Some(rest) = after(text, b"STORED") {
