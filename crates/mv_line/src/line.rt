@@ -1,4 +1,4 @@
-//! Lines of a text, and what of a line counts (`specs/Line.antt`).
+//! Lines of a text, a pass over them, and what of a line counts (`specs/Line.antt`; `IsPassed` of `specs/Fault.antt`).
 
 ghost use Rattle.std.specs.Prelude.{◌≡◌, ◌+◌, ◌-◌, ◌^◌, ◌<◌, [], ◌∷◌, length, MatchOption};
 ghost use Rattle.mv_line.specs.Line.{lines_of, without_cr as text_without_cr, without_first_spaces as from_first_field};
