@@ -1,6 +1,6 @@
 -- One cell of one table is written: that is the machine's step.
-use Rattle.std.proofs.Common.{Vec, Global, vec_capacity, ◌≡◌, ℕ, ◌+◌, ◌<◌, ◌==◌, true, false, length, get_or, None, Some, refl, cond}
-use Rattle.std.proofs.Common.{ap, ◌∙◌}
+use Rattle.std.proofs.Common.{Vec, Global, vec_capacity, ◌≡◌, ℕ, ◌+◌, ◌<◌, ◌==◌, nat_lt, true, false, length, get_or, None, Some, refl}
+use Rattle.std.proofs.Common.{cond, ap, ◌∙◌}
 use Rattle.std.specs.Vec.{with_item}
 use Rattle.std.proofs.lemmas.List.{get_or_read, length-set}
 use Rattle.mv_ecb.specs.declared.operation.EcbOp.{EcbOp}
@@ -188,6 +188,14 @@ same_wakes : (c : Setup) (s : State) (k : ℕ) (o : Object) (op : Op) → admitt
     → wakes_of s ≡ wakes_after c (system_of s) (wakes_of s) k o op
 same_wakes c s k Latches (op_on.Latch op) not_so = rw not_so refl
 same_wakes c s k o op not_so = refl
+
+-- no operation of one who is no caller is admitted
+pub no_caller : (c : Setup) (s : System) (k : ℕ) (o : Object) (op : Op) → nat_lt k c.callers ≡ false → admitted c s k o op ≡ false
+no_caller c s k (Ecb n) (op_on.Ecb op) none = rw none refl
+no_caller c s k (Element n) (op_on.Element op) none = rw none refl
+no_caller c s k (Volume n) (op_on.Volume op) none = rw none refl
+no_caller c s k Latches (op_on.Latch op) none = rw none refl
+no_caller c s k o op none = refl
 
 -- an operation that is not admitted changes nothing
 pub refused : (c : Setup) (s : State) (k : ℕ) (o : Object) (op : Op) → IsOpenedWith c s → admitted c (system_of s) k o op ≡ false

@@ -5,7 +5,7 @@ use Rattle.mv_latch.specs.declared.operation.LatchReply.{LatchReply}
 use Rattle.mv_latch.specs.declared.request.Request.{Request}
 use Rattle.mv_latch.specs.LatchSet.{LatchLists, latch_admitted, latch_step}
 use Rattle.mv_machine.specs.System.{latches_of}
-use Rattle.mv_machine.proofs.Writes.{latches_made, same_latches}
+use Rattle.mv_machine.proofs.Writes.{latches_made, same_latches, refused}
 use Rattle.mv_machine.proofs.state.State.advance_latches.Goals as goal
 
 pub returns : goal.returns
@@ -22,3 +22,7 @@ returns c =
     c.in_ok-reply.ensures.quotas ∙ ap (λ l. let r : LatchLists = record s.latches { lists = l } in r) lists in
     latches_made config s c.args.caller c.args.op c.requires.opened c.apply.new.self c.apply.new.wakes c.in_ok-reply.reply set reply
     c.in_ok-reply.ensures.wakes c.in_ok-reply.ensures.capacity (grind (arith, common_steps, allowed))
+
+pub returns-then-not-posts_own_ecb : goal.returns-then-not-posts_own_ecb
+returns-then-not-posts_own_ecb c =
+    refused c.args.config.now c.args.self.now c.args.caller _ _ c.requires.opened (grind (arith, common_steps))
