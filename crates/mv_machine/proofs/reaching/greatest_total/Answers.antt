@@ -1,12 +1,29 @@
 -- One exit back on the chain.
 use Rattle.std.proofs.Common.{◌≡◌, ℕ, ◌-◌, ◌<◌, length, map, max, take, get_or, slice_get, slice_index, Some, ap, ◌∙◌, arith}
 use Rattle.std.proofs.lemmas.List.{get_or_read, length-map}
-use Rattle.mv_machine.specs.Chains.{IsLast}
+use Rattle.mv_machine.specs.Chains.{HasFewGoodTargets, IsLast}
 use Rattle.mv_machine.specs.Config.{exit_of}
 use Rattle.mv_machine.specs.Reach.{exits_of, greatest, total}
 use Rattle.mv_machine.specs.Setup.{SetupExit}
 use Rattle.mv_machine.proofs.Chains.{one_back, found}
+use Rattle.mv_machine.proofs.Lists.{all_got}
 use Rattle.mv_machine.proofs.reaching.greatest_total.Goals as goal
+use Rattle.mv_machine.proofs.reaching.greatest_total.Goals.{After-index-exits-at}
+
+-- the exit at hand has few targets, which are blocks
+good_exit : (c : After-index-exits-at) → HasFewGoodTargets (length c.args.reaches.now) (exit_of c.index-exits-at.result)
+good_exit c =
+    let k = c.loop-at.at in
+    let exits = c.args.exits.now in
+    let e = c.index-exits-at.result in
+    all_got (HasFewGoodTargets (length c.args.reaches.now)) (map exit_of exits) (k - 1) (exit_of e)
+    (found exits (k - 1) e (omega (arith, c.loop-at.invariant.below)) c.index-exits-at.is) c.requires.good
+
+pub total-requires-clause-few : goal.total-requires-clause-few
+total-requires-clause-few c = rw c.deref.ensures.value (good_exit (goal.at.total-requires-clause-few c).After-index-exits-at).few
+
+pub total-requires-clause-good : goal.total-requires-clause-good
+total-requires-clause-good c = rw c.deref.ensures.value (good_exit (goal.at.total-requires-clause-good c).After-index-exits-at).good
 
 pub loop-at-preserved : goal.loop-at-preserved
 loop-at-preserved c =
