@@ -1,6 +1,7 @@
 //! The log of a caller: its entries, in 40 bytes each. Clauses cite `specs/Log.antt`.
 
-ghost use Rattle.std.specs.Prelude.{◌≡◌, ◌<◌, ◌+◌, ◌^◌, [], length, slice_get, option_map, IfOk, IfSome};
+ghost use Rattle.std.specs.Prelude.{◌≡◌, ◌<◌, ◌+◌, ◌^◌, [], length, map, slice_get, option_map, IfOk, IfSome};
+ghost use Rattle.mv_machine.specs.Compact.{entry_of};
 ghost use Rattle.mv_machine.specs.Log.{subject_of, with_entry};
 
 use crate::compact::CompactEntry;
@@ -50,8 +51,7 @@ impl Log {
     pub fn get(&self, at: usize) -> Option<Entry>
         ensures { result ≡ slice_get self.now at }
     {
-        let compact = self.compact.get(at)?;
-        Some(compact.entry(self.caller))
+        entry_at(&self.compact, self.caller, at)
     }
 }
 
@@ -108,8 +108,7 @@ impl OpenLog {
     pub fn get(&self, at: usize) -> Option<Entry>
         ensures { result ≡ slice_get self.now.entries at }
     {
-        let compact = self.compact.get(at)?;
-        Some(compact.entry(self.caller))
+        entry_at(&self.compact, self.caller, at)
     }
 
     /// The log, which gets no more entries.
@@ -121,4 +120,13 @@ impl OpenLog {
             compact: self.compact,
         }
     }
+}
+
+// The entry at this position, which is this caller's.
+#[inline]
+fn entry_at(compact: &[CompactEntry], caller: u32, at: usize) -> Option<Entry>
+    ensures { result ≡ slice_get (map (entry_of caller) compact.now) at }
+{
+    let found = compact.get(at)?;
+    Some(found.entry(caller))
 }
