@@ -1,7 +1,6 @@
 -- A list read as a table, after one element was written.
-use Rattle.std.proofs.Common.{◌≡◌, ℕ, ◌<◌, List, length, set, get_or, replicate, take, ◌-◌, ◌++◌, [], inl, inr, ap, ◌∙◌, arith}
+use Rattle.std.proofs.Common.{◌≡◌, ℕ, ◌<◌, List, length, set, get_or, replicate, [], inl, inr, ap, ◌∙◌, arith}
 use mathlib.Core.Path.{fun_ext}
-use Rattle.std.proofs.lemmas.Grind.{common_steps}
 use Rattle.std.proofs.lemmas.Bool.{cases_eq, cases_lt}
 use Rattle.std.proofs.lemmas.List.{get_or-set_same, get_or-set_other, get_or-replicate, get_or_past, length-replicate}
 use Rattle.mv_machine.specs.System.{opening, with_at}
@@ -26,10 +25,6 @@ one_of_all d n k = elim (cases_lt k n) [
 
 pub table-replicate : {A B : Type 0} (view : A → B) (d : A) (n : ℕ) → table view d (replicate n d) ≡ (λ k. view d)
 table-replicate view d n = fun_ext (λ k. ap view (one_of_all d n k))
-
--- a new list that was filled up
-pub filled : {A : Type 0} (xs ys : List A) (n m : ℕ) (d : A) → ys ≡ take n xs ++ replicate (n - m) d → xs ≡ [] → m ≡ 0 → ys ≡ replicate n d
-filled xs ys n m d e none zero = grind (arith, common_steps)
 
 -- a state of new cells alone is the opening
 pub opens : (c : Setup) (s : State) (n m k : ℕ) → s.ecbs.items ≡ replicate n no_ecb → s.elements.items ≡ replicate m no_element

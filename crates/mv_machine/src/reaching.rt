@@ -26,8 +26,7 @@ fn chains_of(alloc: Global, ecbs: usize, exits: &[Exit]) -> Result<Chains, Alloc
     requires few { length exits.now < 2 ^ 31 }
     ensures { IfOk result (λ c. AreChains ecbs (map exit_of exits.now) (length exits.now) c.last.items c.before.items) }
 {
-    let mut last = Vec::new(alloc);
-    last.resize(ecbs, 0)?;
+    let mut last = vec![in alloc; 0; ecbs]?;
     let mut before = Vec::new(alloc);
     for (i, exit) in exits.iter().enumerate() {
         let source = exit.source as usize;
@@ -80,8 +79,7 @@ pub(crate) fn reaches_of(alloc: Global, config: &Config) -> Result<Vec<u32>, All
 {
     let ecbs = config.owners.len();
     let chains = chains_of(alloc, ecbs, &config.exits)?;
-    let mut reaches = Vec::new(alloc);
-    reaches.resize(ecbs, 0)?;
+    let mut reaches = vec![in alloc; 0; ecbs]?;
     let mut ecb = ecbs;
     while ecb > 0 {
         ecb -= 1;

@@ -62,24 +62,21 @@ impl State {
         ensures opened { IfOk result (λ s. IsOpenedWith config.now s) }
     {
         let given = config.config();
-        let mut ecbs = Vec::new(alloc);
         let zero = EcbCell {
             place: 0,
             word: EcbWord::zero(),
         };
-        ecbs.resize(given.owners.len(), zero)?;
-        let mut elements = Vec::new(alloc);
+        let ecbs = vec![in alloc; zero; given.owners.len()]?;
         let free = ElementCell {
             place: 0,
             state: ElementState::free(0),
         };
-        elements.resize(config.elements() as usize, free)?;
-        let mut volumes = Vec::new(alloc);
+        let elements = vec![in alloc; free; config.elements() as usize]?;
         let empty = VolumeCell {
             place: 0,
             number: 0,
         };
-        volumes.resize(given.volumes as usize, empty)?;
+        let volumes = vec![in alloc; empty; given.volumes as usize]?;
         let latches = config.open_latches(alloc)?;
         let wakes = Vec::with_capacity(alloc, config.most_wakes())?;
         Ok(State {

@@ -1,5 +1,6 @@
 -- The exit at hand is the last of its block.
 use Rattle.std.proofs.Common.{◌≡◌, ◌<◌, length, map, get_or, arith}
+use Rattle.std.proofs.lemmas.Grind.{common_steps}
 use Rattle.std.proofs.lemmas.List.{length-map, get_or_read}
 use Rattle.mv_machine.specs.Chains.{HasFewGoodTargets}
 use Rattle.mv_machine.specs.Config.{exit_of}
@@ -15,6 +16,9 @@ good_source c =
     let h : HasFewGoodTargets c.args.ecbs (exit_of e) = all_got (HasFewGoodTargets c.args.ecbs) (map exit_of c.args.exits.now) c.loop-i.i
     (exit_of e) (found c.args.exits.now c.loop-i.i e (omega arith) c.index-exits-i.is) c.requires.good in
     h.source
+
+pub loop-i-init : goal.loop-i-init
+loop-i-init c = let zeros = c.in_ok-last.ensures.items_if_clones_equal (λ y e. e) in grind (arith, common_steps)
 
 pub index-requires : goal.index-requires
 index-requires c = omega (arith, good_source (goal.at.index-requires c).After-index-exits-i, c.loop-i.invariant.blocks)

@@ -1,5 +1,5 @@
 -- Each block's reach by those above it.
-use Rattle.std.proofs.Common.{◌≡◌, ℕ, ◌+◌, ◌-◌, ◌<◌, ◌≤◌, List, length, map, replicate, slice_index, vec_len, inl, inr, ap, ◌∙◌, sym, arith}
+use Rattle.std.proofs.Common.{◌≡◌, ℕ, ◌+◌, ◌-◌, ◌<◌, ◌≤◌, List, length, map, replicate, slice_index, inl, inr, ap, ◌∙◌, sym, arith}
 use Rattle.std.proofs.lemmas.Bool.{cases_eq}
 use Rattle.std.proofs.lemmas.Grind.{get_or-set_at}
 use Rattle.std.proofs.lemmas.List.{length-set, length-replicate, get_or-set_other}
@@ -9,7 +9,6 @@ use Rattle.mv_machine.specs.Reach.{cut, exits_of, greatest, total, reach}
 use Rattle.mv_machine.specs.Setup.{SetupExit}
 use Rattle.mv_machine.proofs.Chains.{all_set, all_copies}
 use Rattle.mv_machine.proofs.Reaches.{all_good, next_reach}
-use Rattle.mv_machine.proofs.Tables.{filled}
 use Rattle.mv_machine.proofs.reaching.reaches_of.Goals as goal
 
 pub chains_of-requires-clause-good : goal.chains_of-requires-clause-good
@@ -20,9 +19,7 @@ chains_of-requires-clause-good c =
 pub loop-ecb-init : goal.loop-ecb-init
 loop-ecb-init c =
     let n : c.len-ecbs.result ≡ length c.args.config.now.owners.items = omega arith in
-    let zeros : c.resize.new.self.items ≡ replicate c.len-ecbs.result 0 =
-    filled c.new-reaches.result.items c.resize.new.self.items c.len-ecbs.result
-    (vec_len c.new-reaches.result) 0 c.in_ok-resize.ensures.items c.new-reaches.ensures.items c.new-reaches.ensures.len in
+    let zeros : c.in_ok-reaches.reaches.items ≡ replicate c.len-ecbs.result 0 = c.in_ok-reaches.ensures.items_if_clones_equal (λ y e. e) in
     record {
       within = omega arith;
       blocks = ap length zeros ∙ length-replicate c.len-ecbs.result 0 ∙ n;

@@ -1,5 +1,5 @@
 -- Each list holds new cells alone.
-use Rattle.std.proofs.Common.{◌≡◌, replicate, vec_len, refl, ap, arith}
+use Rattle.std.proofs.Common.{◌≡◌, replicate, refl, ap, arith}
 use Rattle.std.proofs.lemmas.Grind.{common_steps}
 use Rattle.std.proofs.lemmas.List.{length-replicate}
 use Rattle.mv_machine.specs.Config.{setup_of}
@@ -8,28 +8,24 @@ use Rattle.mv_machine.specs.declared.state.State.{State}
 use Rattle.mv_machine.proofs.LatchIds.{none_in_new}
 use Rattle.mv_machine.proofs.Writes.{same_fits}
 use Rattle.mv_machine.specs.State.{no_ecb, no_element, no_volume}
-use Rattle.mv_machine.proofs.Tables.{filled, opens}
+use Rattle.mv_machine.proofs.Tables.{opens}
 use Rattle.mv_machine.proofs.state.State.opening.Goals as goal
 
-new_ecbs : (c : goal.In_ok-wakes) → c.resize.new.self.items ≡ replicate c.len.result no_ecb
-new_ecbs c = rw c.zero.ensures at (filled c.new-ecbs.result.items c.resize.new.self.items c.len.result
-    (vec_len c.new-ecbs.result) _ c.in_ok-resize.ensures.items c.new-ecbs.ensures.items c.new-ecbs.ensures.len)
+new_ecbs : (c : goal.In_ok-wakes) → c.in_ok-ecbs.ecbs.items ≡ replicate c.len.result no_ecb
+new_ecbs c = rw c.zero.ensures at (c.in_ok-ecbs.ensures.items_if_clones_equal (λ y e. e))
 
-new_elements : (c : goal.In_ok-wakes) → c.resize-2.new.self.items ≡ replicate c.elements.result no_element
-new_elements c = rw c.free.ensures at (filled c.new-elements.result.items c.resize-2.new.self.items c.elements.result
-    (vec_len c.new-elements.result) _ c.in_ok-resize-2.ensures.items c.new-elements.ensures.items c.new-elements.ensures.len)
+new_elements : (c : goal.In_ok-wakes) → c.in_ok-elements.elements.items ≡ replicate c.elements.result no_element
+new_elements c = rw c.free.ensures at (c.in_ok-elements.ensures.items_if_clones_equal (λ y e. e))
 
-new_volumes : (c : goal.In_ok-wakes) → c.resize-3.new.self.items ≡ replicate c.config-given.result.now.volumes no_volume
-new_volumes c = filled c.new-volumes.result.items c.resize-3.new.self.items c.config-given.result.now.volumes
-    (vec_len c.new-volumes.result) no_volume c.in_ok-resize-3.ensures.items c.new-volumes.ensures.items c.new-volumes.ensures.len
+new_volumes : (c : goal.In_ok-wakes) → c.in_ok-volumes.volumes.items ≡ replicate c.config-given.result.now.volumes no_volume
+new_volumes c = c.in_ok-volumes.ensures.items_if_clones_equal (λ y e. e)
 
 abbrev the_state : goal.In_ok-wakes → State
 the_state c = record {
-  ecbs = c.resize.new.self;
-  elements = c.resize-2.new.self;
-  volumes = c.resize-3.new.self;
-  latches =
-      c.in_ok-latches.latches;
+  ecbs = c.in_ok-ecbs.ecbs;
+  elements = c.in_ok-elements.elements;
+  volumes = c.in_ok-volumes.volumes;
+  latches = c.in_ok-latches.latches;
   latch_place = 0;
   wakes = c.in_ok-wakes.wakes;
 }
