@@ -41,50 +41,59 @@ returns-then-not-is_name-clause-kinds c = λ n v earlier b.
     let parts = c.args.parts.now in
     job_bad_name n earlier (jobs_of earlier) name (map part_data parts)
     (elim c.then-not-is_name.branch [
-      | then-not-is_name-via-then-not-is_name w ↦ named_badly name parts (cc)
-      | then-not-is_name-via-else-not-is_name+then-has_bad_name w ↦ awaits_badly name parts (cc)
+      | then-not-is_name-via-then-not-is_name w ↦ named_badly name parts (sym w.if-not-is_name.ensures)
+      | then-not-is_name-via-else-not-is_name+then-has_bad_name w ↦ awaits_badly name parts (sym w.if-has_bad_name.ensures)
     ])
 
 pub returns-then-has_bad_code-clause-kinds : goal.returns-then-has_bad_code-clause-kinds
 returns-then-has_bad_code-clause-kinds c = λ n v earlier b.
     let name = c.args.name.now in
     let parts = c.args.parts.now in
-    job_misnumbered n earlier (jobs_of earlier) name (map part_data parts) (named_well name parts (cc) (cc))
-    (codes_are name parts ∙ cc) (sym b.ended ∙ c.if-self.true)
+    let well = named_well name parts (sym c.if-not-is_name.ensures) (sym c.if-has_bad_name.ensures) in
+    job_misnumbered n earlier (jobs_of earlier) name (map part_data parts) well
+    (codes_are name parts ∙ sym c.if-has_bad_code.ensures) (sym b.ended ∙ c.if-self.true)
 
 pub returns-else-has_bad_code-clause-kinds : goal.returns-else-has_bad_code-clause-kinds
 returns-else-has_bad_code-clause-kinds c = λ n v earlier b.
     let name = c.args.name.now in
     let parts = c.args.parts.now in
-    job_misplaced n earlier (jobs_of earlier) name (map part_data parts) (named_well name parts (cc) (cc))
-    (codes_are name parts ∙ cc) (sym b.ended ∙ c.if-self.true)
+    let well = named_well name parts (sym c.if-not-is_name.ensures) (sym c.if-has_bad_name.ensures) in
+    job_misplaced n earlier (jobs_of earlier) name (map part_data parts) well
+    (codes_are name parts ∙ sym c.if-has_bad_code.ensures) (sym b.ended ∙ c.if-self.true)
 
 pub returns-then-is_some-clause-kinds : goal.returns-then-is_some-clause-kinds
 returns-then-is_some-clause-kinds c = λ n v earlier b.
     let name = c.args.name.now in
     let parts = c.args.parts.now in
-    job_repeats n earlier (jobs_of earlier) name (map part_data parts) (named_well name parts (cc) (cc))
-    (placed name parts n v earlier c.args.self.now b c.if-self.false) (ap is_some (sym (b.kept.named name)) ∙ cc)
+    let well = named_well name parts (sym c.if-not-is_name.ensures) (sym c.if-has_bad_name.ensures) in
+    let taken = ap is_some (sym c.place.ensures) ∙ sym c.if-is_some.ensures in
+    job_repeats n earlier (jobs_of earlier) name (map part_data parts) well
+    (placed name parts n v earlier c.args.self.now b c.if-self.false) (ap is_some (sym (b.kept.named name)) ∙ taken)
 
 pub returns-then-lacks_one-clause-kinds : goal.returns-then-lacks_one-clause-kinds
 returns-then-lacks_one-clause-kinds c = λ n v earlier b.
     let name = c.args.name.now in
     let parts = c.args.parts.now in
     let r = c.args.self.now in
-    job_unknown n earlier (jobs_of earlier) name (map part_data parts) (named_well name parts (cc) (cc))
-    (placed name parts n v earlier r b c.if-self.false) (new name parts n v earlier r b (cc))
-    (unknown_are name parts (jobs_of earlier) r.names b.kept.named ∙ cc)
+    let well = named_well name parts (sym c.if-not-is_name.ensures) (sym c.if-has_bad_name.ensures) in
+    let unplaced = ap is_some (sym c.place.ensures) ∙ sym c.if-is_some.ensures in
+    job_unknown n earlier (jobs_of earlier) name (map part_data parts) well
+    (placed name parts n v earlier r b c.if-self.false) (new name parts n v earlier r b unplaced)
+    (unknown_are name parts (jobs_of earlier) r.names b.kept.named ∙ sym c.if-lacks_one.ensures)
 
 pub returns-then-parts-gt-MOST_AFTER-clause-kinds : goal.returns-then-parts-gt-MOST_AFTER-clause-kinds
 returns-then-parts-gt-MOST_AFTER-clause-kinds c = λ n v earlier b.
     let name = c.args.name.now in
     let parts = c.args.parts.now in
     let r = c.args.self.now in
-    job_crowded n earlier (jobs_of earlier) name (map part_data parts) (named_well name parts (cc) (cc))
-    (placed name parts n v earlier r b c.if-self.false) (new name parts n v earlier r b (cc)) (known name parts n v earlier r b (cc))
+    let well = named_well name parts (sym c.if-not-is_name.ensures) (sym c.if-has_bad_name.ensures) in
+    let unplaced = ap is_some (sym c.place.ensures) ∙ sym c.if-is_some.ensures in
+    job_crowded n earlier (jobs_of earlier) name (map part_data parts) well
+    (placed name parts n v earlier r b c.if-self.false) (new name parts n v earlier r b unplaced)
+    (known name parts n v earlier r b (sym c.if-lacks_one.ensures))
     (elim c.then-parts-gt-MOST_AFTER.branch [
       | then-parts-gt-MOST_AFTER-via-then-parts-gt-MOST_AFTER w ↦ too_many name parts (omega arith)
-      | then-parts-gt-MOST_AFTER-via-else-parts-gt-MOST_AFTER+then-has_double w ↦ doubled name parts (cc)
+      | then-parts-gt-MOST_AFTER-via-else-parts-gt-MOST_AFTER+then-has_double w ↦ doubled name parts (sym w.if-has_double.ensures)
     ])
 
 pub returns-then-has_bad_code-2-clause-kinds : goal.returns-then-has_bad_code-2-clause-kinds
@@ -92,20 +101,25 @@ returns-then-has_bad_code-2-clause-kinds c = λ n v earlier b.
     let name = c.args.name.now in
     let parts = c.args.parts.now in
     let r = c.args.self.now in
-    job_numbered n earlier (jobs_of earlier) name (map part_data parts) (named_well name parts (cc) (cc))
-    (placed name parts n v earlier r b c.if-self.false) (new name parts n v earlier r b (cc)) (known name parts n v earlier r b (cc))
-    (few name parts (omega arith) (cc)) (codes_are name parts ∙ cc)
+    let well = named_well name parts (sym c.if-not-is_name.ensures) (sym c.if-has_bad_name.ensures) in
+    let unplaced = ap is_some (sym c.place.ensures) ∙ sym c.if-is_some.ensures in
+    job_numbered n earlier (jobs_of earlier) name (map part_data parts) well
+    (placed name parts n v earlier r b c.if-self.false) (new name parts n v earlier r b unplaced)
+    (known name parts n v earlier r b (sym c.if-lacks_one.ensures))
+    (few name parts (omega arith) (sym c.if-has_double.ensures)) (codes_are name parts ∙ sym c.if-has_bad_code-2.ensures)
 
 pub returns-clause-kinds : goal.returns-clause-kinds
 returns-clause-kinds c = λ n v earlier b.
     let name = c.args.name.now in
     let parts = c.args.parts.now in
     let r = c.args.self.now in
+    let well = named_well name parts (sym c.if-not-is_name.ensures) (sym c.if-has_bad_name.ensures) in
+    let unplaced = ap is_some (sym c.place.ensures) ∙ sym c.if-is_some.ensures in
     record {
-      name = named_well name parts (cc) (cc);
+      name = well;
       place = placed name parts n v earlier r b c.if-self.false;
-      new = new name parts n v earlier r b (cc);
-      known = known name parts n v earlier r b (cc);
-      few = few name parts (omega arith) (cc);
-      codes = codes_are name parts ∙ cc;
+      new = new name parts n v earlier r b unplaced;
+      known = known name parts n v earlier r b (sym c.if-lacks_one.ensures);
+      few = few name parts (omega arith) (sym c.if-has_double.ensures);
+      codes = codes_are name parts ∙ sym c.if-has_bad_code-2.ensures;
     }
