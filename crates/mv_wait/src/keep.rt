@@ -21,14 +21,14 @@ use slab::Slab;
 use std::alloc::Global;
 
 /// One of a task's own elements.
-#[derive(Clone, Copy, Debug, PartialEq, Eq)]
+#[derive(Clone, Copy)]
 pub(crate) struct OwnElement {
     pub in_use: bool,
     pub generation: u32,
 }
 
 /// A latch request that stands, and its latch.
-#[derive(Clone, Copy, Debug, PartialEq, Eq)]
+#[derive(Clone, Copy)]
 pub(crate) struct HeldRequest {
     pub latch: u32,
     pub request: Request,

@@ -63,7 +63,7 @@ pub(crate) fn value(reply: Reply) -> u32
 }
 
 /// What the reply to a post says.
-#[derive(Clone, Copy, Debug, PartialEq, Eq)]
+#[derive(Clone, Copy)]
 pub(crate) enum Came {
     Posted,
     Woke(u32),
