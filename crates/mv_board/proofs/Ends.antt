@@ -1,8 +1,8 @@
 -- How a board ends: what the joined seats hold is one history, by the callers in their order.
 use Rattle.std.proofs.Common.{◌≡◌, ℕ, zero, suc, ◌+◌, ◌*◌, ◌^◌, ◌<◌, List, [], ◌∷◌, ◌++◌, length, get_or, map, refl, sym, ap, ◌∙◌}
-use Rattle.std.proofs.Common.{subst, arith, append-nil}
+use Rattle.std.proofs.Common.{subst, arith, append-nil, append_assoc}
 use Rattle.std.specs.List.{AllByRecursion}
-use Rattle.std.proofs.lemmas.List.{nil_from_length}
+use Rattle.std.proofs.lemmas.List.{nil_from_length, map-append}
 use mathlib.Core.Option.{some}
 use lib.ListN.{get_elem?}
 use Rattle.atomic_table.specs.Table.{Final, Seen}
@@ -116,6 +116,21 @@ pub next_left : (b : BoardFace) (callers before left rest : List CallerFace) (x 
     → before ++ left ≡ callers → left ≡ x ∷ rest → IsOf b x × (x.number ≡ length (map part_of before) + 0)
 next_left b callers before left rest x order whole first =
     next_in_order b 0 before x rest (subst (AreInOrder b 0) (sym whole ∙ ap (λ xs. before ++ xs) first) order)
+
+-- one more of them was taken from those that are left
+pub taken_more : {A : Type 0} → (before left rest all : List A) (x : A) → before ++ left ≡ all → left ≡ x ∷ rest
+    → (before ++ x ∷ []) ++ rest ≡ all
+taken_more before left rest all x whole first =
+    append_assoc before (x ∷ []) rest ∙ (ap (λ xs. before ++ xs) (sym first) ∙ whole)
+
+-- and one less is left
+pub left_less : {A : Type 0} → (left rest : List A) (x : A) (n m : ℕ) → n ≡ length left → left ≡ x ∷ rest → m + 1 ≡ n → m ≡ length rest
+left_less left rest x n m all first less = let more = ap length first in omega arith
+
+-- and one part more has come back
+pub back_more : (before : List CallerFace) (x : CallerFace) (ps : List Part) → ps ≡ map part_of before
+    → ps ++ part_of x ∷ [] ≡ map part_of (before ++ x ∷ [])
+back_more before x ps back = ap (λ qs. qs ++ part_of x ∷ []) back ∙ sym (map-append part_of before (x ∷ []))
 
 -- behind the last of them the parts of all have come back
 pub all_back : (before rest all : List CallerFace) (ps : List Part) → before ++ rest ≡ all → length rest ≡ 0 → ps ≡ map part_of before

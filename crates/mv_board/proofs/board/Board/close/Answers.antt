@@ -4,7 +4,7 @@ use Rattle.mv_machine.specs.Legal.{Legal, after}
 use Rattle.mv_machine.specs.Merge.{merged}
 use Rattle.mv_machine.specs.Parts.{KeepsBudgets}
 use Rattle.mv_board.specs.Faces.{BoardFace, IsOf, AreHeld, part_of}
-use Rattle.mv_board.proofs.Ends.{next_left, all_back, each_in, logs_of_parts}
+use Rattle.mv_board.proofs.Ends.{next_left, taken_more, left_less, back_more, all_back, each_in, logs_of_parts}
 use Rattle.mv_board.proofs.board.Board.close.Goals as goal
 
 pub take_back-requires-clause-board : goal.take_back-requires-clause-board
@@ -20,6 +20,16 @@ take_back-requires-clause-next c =
     (next_left c.args.self _ _ _ _ c.in-Some.caller c.requires.order i.yielded c.in-Some.ensures.steps.0).1 in
     let back = ap length i.back in
     omega arith
+
+pub loop-caller-preserved : goal.loop-caller-preserved
+loop-caller-preserved c =
+    let i = c.loop-caller.invariant in
+    let step = c.in-Some.ensures.steps in record {
+      yielded = taken_more c.loop-caller.yielded _ _ _ c.in-Some.caller i.yielded step.0;
+      count = left_less _ _ c.in-Some.caller _ _ i.count step.0 step.1;
+      board = c.take_back.ensures.board ∙ i.board;
+      back = c.take_back.ensures.back ∙ back_more c.loop-caller.yielded c.in-Some.caller _ i.back;
+    }
 
 -- behind the last caller as many parts have come back as there are callers
 pub done-requires : goal.done-requires
