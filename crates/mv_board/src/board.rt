@@ -1,11 +1,13 @@
 //! The board: how it is opened, and its calls on objects. Clauses cite `specs/Faces.antt`, and of its steps `specs/Steps.antt`,
 //! `specs/View.antt` and `specs/Words.antt`; what contracts see of it is `specs/Board.antt`, and its table keeps `specs/Rule.antt`.
 
-ghost use Rattle.std.specs.Prelude.{◌≡◌, ◌<◌, ◌∷◌, [], true, length, IfOk, MatchResult, Some};
+ghost use Rattle.std.specs.Prelude.{◌≡◌, ◌<◌, ◌≤◌, ◌∷◌, [], true, length, vec_capacity, IfOk, MatchResult, Some};
 ghost use Rattle.std.specs.List.{Contains};
+ghost use Rattle.mv_machine.specs.Check.{IsValid};
 ghost use Rattle.mv_machine.specs.Kept.{allowed};
 ghost use Rattle.mv_machine.specs.Parts.{IsPossible};
 ghost use Rattle.mv_machine.specs.Owned.{owner_at};
+ghost use Rattle.mv_machine.specs.Room.{IsRoomFor};
 ghost use Rattle.mv_board.specs.Faces.{IsOf, IsFresh, AreFresh, Happened, Found, Exchanged, Missed, IsAsListed, MayWatch, PeekedAt, Peeks};
 ghost use Rattle.mv_board.specs.declared.watch.Watch.{Watch as AnyWatch};
 ghost use Rattle.mv_machine.specs.System.{opening};
@@ -71,33 +73,15 @@ impl Board {
         ensures count { IfOk result (λ r. length r.1.items ≡ config.callers) }
     {
         let (table, first) = table_of(alloc, &config)?;
-        let room = MergeRoom::new(alloc, &config)?;
-        let logs = Vec::with_capacity(alloc, config.config().callers as usize)?;
+        let callers = seats(alloc, &config, &table, first)?;
+        let (room, logs) = rooms_of(alloc, &config)?;
         let board = Board {
             config,
             table,
             room,
             logs,
         };
-        let callers = board.seats(alloc, first)?;
         Ok((board, callers))
-    }
-
-    // All callers, of which the first has this seat.
-    fn seats(&self, alloc: Global, mut first: Seat<Item, View>) -> Result<Vec<Caller>, NoMemory>
-        requires board { first.table_id ≡ self.now.table }
-        requires first { first.me ≡ (first_view self.now.config, []) }
-        ensures callers { IfOk result (λ fs. AreFresh self.now 0 fs.items) }
-        ensures count { IfOk result (λ fs. length fs.items ≡ self.now.config.callers) }
-    {
-        let count = self.config.config().callers;
-        let mut callers = Vec::with_capacity(alloc, count as usize)?;
-        for number in 1..count {
-            let seat = self.table.shared.split_seat::<Seats>(&mut first);
-            callers.push_reserved(seated(alloc, &self.config, number, seat)?);
-        }
-        callers.insert(0, seated(alloc, &self.config, 0, first)?)?;
-        Ok(callers)
     }
 
     /// The configuration that it was opened with.
@@ -322,6 +306,42 @@ fn table_of(
         return Err(NoMemory);
     };
     Ok(table)
+}
+
+// The callers of a new table, in order, of which the first has this seat.
+fn seats(
+    alloc: Global,
+    config: &ValidConfig,
+    table: &Table<Item, View, ValidConfig, OneHistory, Global>,
+    mut first: Seat<Item, View>,
+) -> Result<Vec<Caller>, NoMemory>
+    requires key { table.now.shared.key ≡ config.now }
+    requires words { table.now.shared.table_id.words ≡ word_count config.now }
+    requires table { first.table_id ≡ table.now.shared.table_id }
+    requires first { first.me ≡ (first_view config.now, []) }
+    ensures callers { IfOk result (λ fs. AreFresh record { table = table.now.shared.table_id; config = config.now } 0 fs.items) }
+    ensures count { IfOk result (λ fs. length fs.items ≡ config.now.callers) }
+{
+    let count = config.config().callers;
+    let mut callers = Vec::with_capacity(alloc, count as usize)?;
+    for number in 1..count {
+        let seat = table.shared.split_seat::<Seats>(&mut first);
+        callers.push_reserved(seated(alloc, config, number, seat)?);
+    }
+    callers.insert(0, seated(alloc, config, 0, first)?)?;
+    Ok(callers)
+}
+
+// What `close` uses: room for the history of a configuration, and for its callers' logs.
+fn rooms_of(alloc: Global, config: &ValidConfig) -> Result<(MergeRoom, Vec<Log>), NoMemory>
+    ensures valid { IsValid config.now }
+    ensures room { IfOk result (λ r. IsRoomFor config.now r.0) }
+    ensures none { IfOk result (λ r. r.1.items ≡ []) }
+    ensures logs { IfOk result (λ r. config.now.callers ≤ vec_capacity r.1) }
+{
+    let logs = Vec::with_capacity(alloc, config.config().callers as usize)?;
+    let room = MergeRoom::new(alloc, config)?;
+    Ok((room, logs))
 }
 
 // The empty lists of a configuration's latch set.
