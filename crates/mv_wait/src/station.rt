@@ -17,7 +17,7 @@ use crate::task::Task;
 use crossbeam_utils::sync::Unparker;
 use mv_board::{Board, Caller, Closed, Moved, Watch};
 use mv_io::NoMemory;
-use mv_machine::{Object, Op, Reply, ValidConfig};
+use mv_machine::{Config, Object, Op, Reply, ValidConfig};
 use std::alloc::Global;
 use std::marker::Model;
 use std::sync::Wait;
@@ -242,11 +242,22 @@ fn tasks_of(
     let mut tasks = Vec::with_capacity(alloc, callers.len())?;
     let mut unparkers = Vec::with_capacity(alloc, callers.len())?;
     for caller in callers {
-        let (pauses, unparker) = Pauses::open(alloc)?;
+        let (task, unparker) = opened(alloc, board.config(), caller)?;
         unparkers.push_reserved(unparker);
-        tasks.push_reserved(task_of(alloc, board.config(), caller, pauses)?);
+        tasks.push_reserved(task);
     }
     Ok((tasks, unparkers))
+}
+
+// A task with this caller, and what it is woken with.
+fn opened(alloc: Global, config: &ValidConfig, caller: Caller) -> Result<(Task, Unparker), NoMemory>
+    requires about { caller.about ≡ config.now ∷ [] }
+    requires new { caller.log ≡ [] }
+    ensures { IfOk result (λ r. r.0 ≡ caller) }
+{
+    let (pauses, unparker) = Pauses::open(alloc)?;
+    let task = task_of(alloc, config, caller, pauses)?;
+    Ok((task, unparker))
 }
 
 // A task with this caller, whose tables are empty and have room for all its events.
@@ -262,8 +273,7 @@ fn task_of(
 {
     let left = caller.left() as usize;
     let keep = Keep::empty(alloc, config, caller.number(), left)?;
-    let pending = Vec::with_capacity(alloc, left)?;
-    let places = vec![in alloc; 0; config.config().owners.len()]?;
+    let (pending, places) = rooms_of(alloc, config.config(), left)?;
     Ok(Task {
         caller,
         keep,
@@ -271,4 +281,15 @@ fn task_of(
         pending,
         places,
     })
+}
+
+// Room for so many posts that are pending, and a place for each block.
+fn rooms_of(alloc: Global, config: &Config, left: usize) -> Result<(Vec<u32>, Vec<u32>), NoMemory>
+    ensures idle { IfOk result (λ r. r.0.items ≡ []) }
+    ensures room { IfOk result (λ r. left ≤ vec_capacity r.0) }
+    ensures places { IfOk result (λ r. vec_len r.1 ≡ length config.now.owners.items) }
+{
+    let pending = Vec::with_capacity(alloc, left)?;
+    let places = vec![in alloc; 0; config.owners.len()]?;
+    Ok((pending, places))
 }

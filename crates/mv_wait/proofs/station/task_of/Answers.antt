@@ -20,10 +20,8 @@ invariant_of-result c =
     let k = c.in_ok-keep.keep in
     let made = c.in_ok-keep.ensures in
     let number = c.number.ensures.number in
-    let given = c.config.ensures.given in
     let left = c.left-left.ensures.left in
     let few = c.left-left.ensures.few in
-    let owners = ap (λ (s : Setup). length s.owners) given in
     let exists = subst (AllByRecursion (λ (s : Setup). c.number.result < s.callers)) c.requires.about c.number.ensures.exists in
     let one : Fits c.args.caller k c.args.config.now = record {
       valid = c.config.ensures.valid;
@@ -45,9 +43,8 @@ invariant_of-result c =
         few = (let none = made.room.0 in omega arith);
         room = (let none = made.room.0 in let room = made.room.1 in omega arith);
       };
-      idle = c.in_ok-pending.ensures.items;
-      room = (let much = c.in_ok-pending.ensures.capacity in omega arith);
-      places = (let places = c.in_ok-places.ensures.len in
-          let blocks = c.len.ensures in
-          let about = ap blocks_in c.requires.about in omega (arith, c.config.result.now.owners.ok.0));
+      idle = c.in_ok-pending.ensures.idle;
+      room = (let much = c.in_ok-pending.ensures.room in omega arith);
+      places = c.in_ok-pending.ensures.places
+          ∙ (ap (λ (s : Setup). length s.owners) c.config.ensures.given ∙ sym (ap blocks_in c.requires.about));
     }
