@@ -1,10 +1,10 @@
-use Rattle.std.proofs.Common.{◌≡◌, ◌++◌, length, map, sym, ap, ◌∙◌, subst, arith}
+use Rattle.std.proofs.Common.{◌≡◌, [], ◌∷◌, ◌++◌, length, map, sym, ap, ◌∙◌, subst, arith}
 use Rattle.std.proofs.lemmas.List.{length-map}
 use Rattle.mv_machine.specs.Legal.{Legal, after}
 use Rattle.mv_machine.specs.Merge.{merged}
 use Rattle.mv_machine.specs.Parts.{KeepsBudgets}
 use Rattle.mv_board.specs.Faces.{BoardFace, CallerFace, AreInOrder, IsOf, AreHeld, part_of}
-use Rattle.mv_board.proofs.Ends.{next_in_order, all_back, each_in, logs_of_parts}
+use Rattle.mv_board.proofs.Ends.{next_in_order, taken_more, left_less, back_more, all_back, each_in, logs_of_parts}
 use Rattle.mv_wait.proofs.station.Station.close.Goals as goal
 
 pub take_back-requires : goal.take_back-requires
@@ -18,6 +18,18 @@ take_back-requires c =
       board = subst (λ (d : CallerFace). IsOf c.loop-task.closing.board d) (sym c.into_caller.ensures)
           (subst (λ (b : BoardFace). IsOf b c.in-Some.task) (sym i.board) next.0);
       next = omega arith;
+    }
+
+pub loop-task-preserved : goal.loop-task-preserved
+loop-task-preserved c =
+    let i = c.loop-task.invariant in
+    let task = c.in-Some.task in
+    let step = c.in-Some.ensures.steps in record {
+      yielded = taken_more c.loop-task.yielded _ _ _ task i.yielded step.0;
+      count = left_less _ _ task _ _ i.count step.0 step.1;
+      board = c.take_back.ensures.board ∙ i.board;
+      back = c.take_back.ensures.back ∙ (ap (λ (d : CallerFace). c.loop-task.closing.back ++ part_of d ∷ []) c.into_caller.ensures
+          ∙ back_more c.loop-task.yielded task _ i.back);
     }
 
 -- behind the last task as many parts have come back as there are tasks
