@@ -1,7 +1,7 @@
 -- What a task keeps follows its events.
 use Rattle.std.proofs.Common.{◌≡◌, ℕ, ◌+◌, ◌*◌, ◌^◌, ◌<◌, ◌≤◌, ◌==◌, Bool, true, false, [], ◌∷◌, ◌++◌, length}
 use Rattle.std.proofs.Common.{cond, Some, refl, sym, ap, ◌∙◌, subst, arith, length-append}
-use Rattle.std.proofs.lemmas.Bool.{false≢true, eqb-true}
+use Rattle.std.proofs.lemmas.Bool.{false≢true, eqb-true, ltb-true, and_parts}
 use Rattle.std.specs.List.{AllByRecursion}
 use Rattle.slab.specs.Slab.{slab_len}
 use Rattle.mv_element.specs.declared.element.ElementState.{ElementState}
@@ -17,7 +17,7 @@ use Rattle.mv_machine.specs.declared.entry.Op.TheVariants as op_on
 use Rattle.mv_machine.specs.declared.entry.Reply.{Reply}
 use Rattle.mv_machine.specs.declared.entry.Reply.TheVariants as reply_of
 use Rattle.mv_machine.specs.Check.{IsValid}
-use Rattle.mv_machine.specs.Kept.{standing, stands_with}
+use Rattle.mv_machine.specs.Kept.{allowed, standing, stands_with}
 use Rattle.mv_machine.specs.Legal.{after}
 use Rattle.mv_machine.specs.Limits.{highest_generation}
 use Rattle.mv_machine.specs.Parts.{IsPossible}
@@ -35,7 +35,7 @@ use Rattle.mv_calls.specs.Keeping.{Kept, kept_of, kept_after, nothing_kept}
 use Rattle.mv_calls.proofs.ExtendedBlocks.{extended_starts_exit}
 use Rattle.mv_calls.proofs.Making.{kept_caller}
 use Rattle.mv_wait.specs.declared.keep.Keep.{Keep}
-use Rattle.mv_wait.specs.Keep.{Keeps, IsOfKind, ClosesBelow}
+use Rattle.mv_wait.specs.Keep.{Keeps, Reaches, IsOfKind, ClosesBelow}
 use Rattle.mv_wait.specs.Run.{Went}
 use Rattle.mv_wait.specs.Task.{Fits, IsRecorded, IsTask, blocks_in}
 use Rattle.mv_wait.specs.declared.task.Task.TheInside.{Inside}
@@ -247,6 +247,31 @@ still_task x u new is same left r =
 -- the configuration, as a task and a station are seen from inside
 pub about_inside : (b d : BoardFace) (t r : CallerFace) → r ≡ t → d ≡ b → IsOf b t → r.about ≡ d.config ∷ []
 about_inside b d t r same is of = (λ i. (same i).about) ∙ (of.1 ∙ sym (λ i. (is i).config ∷ []))
+
+-- that the task is of the station, seen so
+pub of_inside : (b d : BoardFace) (t r : CallerFace) → r ≡ t → d ≡ b → IsOf b t → IsOf d r
+of_inside b d t r same is of = ((λ i. (same i).table) ∙ (of.0 ∙ sym (λ i. (is i).table)), about_inside b d t r same is of)
+
+-- and what it may do
+pub allowed_inside : (b d : BoardFace) (t r : CallerFace) (k : Keep) (o : Object) (op : Op) → r ≡ t → d ≡ b → IsOf b t → IsRecorded r k
+    → (t.number < b.config.callers → allowed b.config t.number t.log o op ≡ true) → allowed d.config r.number r.log o op ≡ true
+allowed_inside b d t r k o op same is of recorded may =
+    let fits = fits_of d.config r k (about_inside b d t r same is of) recorded in
+    (λ i. allowed (is i).config (same i).number (same i).log o op)
+    ∙ may (subst (λ (z : BoardFace × CallerFace). z.1.number < z.0.config.callers) (λ i. (is i, same i)) fits.caller)
+
+-- a block that it may use has its place in the table
+pub reached : (c : Setup) (r : CallerFace) (k : Keep) (o : Object) (op : Op) → Fits r k c → allowed c r.number r.log o op ≡ true
+    → Reaches o k
+reached c r k (Ecb n) (op_on.Ecb op) fits may =
+    let size = fits.blocks in
+    let there : n < length c.owners = ltb-true n (length c.owners) (and_parts _ _ (and_parts _ _ may).0).1 in omega arith
+reached c r k (Ecb n) (op_on.Element op) fits may = absurd (false≢true may)
+reached c r k (Ecb n) (op_on.Volume op) fits may = absurd (false≢true may)
+reached c r k (Ecb n) (op_on.Latch op) fits may = absurd (false≢true may)
+reached c r k (Element n) op fits may = tt
+reached c r k (Volume n) op fits may = tt
+reached c r k Latches op fits may = tt
 
 -- ---- a read keeps all that is kept
 

@@ -1,7 +1,31 @@
-use Rattle.std.proofs.Common.{arith}
-use Rattle.mv_wait.proofs.Recording.{reply_kind, closes_below, recorded_on, still_task, about_inside}
+use Rattle.std.proofs.Common.{◌<◌, sym, subst, arith}
+use Rattle.mv_machine.specs.Parts.{IsPossible}
+use Rattle.mv_board.specs.Faces.{BoardFace, CallerFace, Happened, IsAsListed}
+use Rattle.mv_wait.proofs.Recording.{reply_kind, closes_below, recorded_on, still_task, about_inside, of_inside, allowed_inside, reached}
 use Rattle.mv_wait.proofs.Low.{fits_of, names_low}
 use Rattle.mv_wait.proofs.station.Station.event.Goals as goal
+
+pub event-reply-requires-clause-board : goal.event-reply-requires-clause-board
+event-reply-requires-clause-board g c =
+    of_inside c.args.self.now c.self.inside.board c.args.task.now c.task.inside.caller c.task.view_is c.self.view_is c.requires.task
+
+pub event-reply-requires-clause-left : goal.event-reply-requires-clause-left
+event-reply-requires-clause-left g c = subst (λ (d : CallerFace). 0 < d.left) (sym c.task.view_is) c.requires.left
+
+pub event-reply-requires-clause-admitted : goal.event-reply-requires-clause-admitted
+event-reply-requires-clause-admitted g c =
+    allowed_inside c.args.self.now c.self.inside.board c.args.task.now c.task.inside.caller c.task.inside.keep c.args.object c.args.op
+    c.task.view_is c.self.view_is c.requires.task c.task.invariant.recorded c.requires.admitted
+
+pub follow-requires-clause-block : goal.follow-requires-clause-block
+follow-requires-clause-block g c =
+    let d = c.self.inside.board.config in
+    let r = c.task.inside.caller in
+    let k = c.task.inside.keep in
+    let about = about_inside c.args.self.now c.self.inside.board c.args.task.now r c.task.view_is c.self.view_is c.requires.task in
+    reached d r k c.args.object c.args.op (fits_of d r k about c.task.invariant.recorded)
+    (allowed_inside c.args.self.now c.self.inside.board c.args.task.now r k c.args.object c.args.op c.task.view_is c.self.view_is
+    c.requires.task c.task.invariant.recorded c.requires.admitted)
 
 pub follow-requires-clause-kinds : goal.follow-requires-clause-kinds
 follow-requires-clause-kinds g c =
@@ -35,3 +59,17 @@ returns-clause-low g c =
     names_low c.self.inside.board.config c.task.inside.caller c.event-reply.new.caller c.args.object c.args.op c.event-reply.result
     c.event-reply.ensures.event c.event-reply.ensures.possible
     (fits_of c.self.inside.board.config c.task.inside.caller c.task.inside.keep about c.task.invariant.recorded).valid
+
+pub returns-clause-event : goal.returns-clause-event
+returns-clause-event g c =
+    subst (λ (d : CallerFace). Happened d c.args.object c.args.op c.event-reply.result c.event-reply.new.caller) c.task.view_is
+    c.event-reply.ensures.event
+
+pub returns-clause-possible : goal.returns-clause-possible
+returns-clause-possible g c =
+    let u = c.event-reply.new.caller in
+    subst (λ (b : BoardFace). IsPossible b.config u.number u.log u.told) c.self.view_is c.event-reply.ensures.possible
+
+pub returns-clause-listed : goal.returns-clause-listed
+returns-clause-listed g c =
+    subst (λ (d : CallerFace). IsAsListed d c.args.object c.args.op c.event-reply.result) c.task.view_is c.event-reply.ensures.listed

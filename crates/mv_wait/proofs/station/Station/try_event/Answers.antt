@@ -1,8 +1,30 @@
-use Rattle.std.proofs.Common.{arith}
-use Rattle.mv_board.specs.Faces.{Happened}
-use Rattle.mv_wait.proofs.Recording.{reply_kind, closes_below, recorded_on, still_task, about_inside}
+use Rattle.std.proofs.Common.{◌<◌, sym, subst, arith}
+use Rattle.mv_board.specs.Faces.{CallerFace, Happened}
+use Rattle.mv_wait.proofs.Recording.{reply_kind, closes_below, recorded_on, still_task, about_inside, of_inside, allowed_inside, reached}
 use Rattle.mv_wait.proofs.Low.{fits_of, names_low}
 use Rattle.mv_wait.proofs.station.Station.try_event.Goals as goal
+
+pub try_event-answer-requires-clause-board : goal.try_event-answer-requires-clause-board
+try_event-answer-requires-clause-board c =
+    of_inside c.args.self.now c.self.inside.board c.args.task.now c.task.inside.caller c.task.view_is c.self.view_is c.requires.task
+
+pub try_event-answer-requires-clause-left : goal.try_event-answer-requires-clause-left
+try_event-answer-requires-clause-left c = subst (λ (d : CallerFace). 0 < d.left) (sym c.task.view_is) c.requires.left
+
+pub try_event-answer-requires-clause-admitted : goal.try_event-answer-requires-clause-admitted
+try_event-answer-requires-clause-admitted c =
+    allowed_inside c.args.self.now c.self.inside.board c.args.task.now c.task.inside.caller c.task.inside.keep c.args.object c.args.op
+    c.task.view_is c.self.view_is c.requires.task c.task.invariant.recorded c.requires.admitted
+
+pub follow-requires-clause-block : goal.follow-requires-clause-block
+follow-requires-clause-block c =
+    let d = c.self.inside.board.config in
+    let r = c.task.inside.caller in
+    let k = c.task.inside.keep in
+    let about = about_inside c.args.self.now c.self.inside.board c.args.task.now r c.task.view_is c.self.view_is c.requires.task in
+    reached d r k c.args.object c.args.op (fits_of d r k about c.task.invariant.recorded)
+    (allowed_inside c.args.self.now c.self.inside.board c.args.task.now r k c.args.object c.args.op c.task.view_is c.self.view_is
+    c.requires.task c.task.invariant.recorded c.requires.admitted)
 
 pub follow-requires-clause-kinds : goal.follow-requires-clause-kinds
 follow-requires-clause-kinds c =
