@@ -14,6 +14,14 @@ not_owned-requires-clause-blocks c =
     subst (λ (s : Setup). AllByRecursion (λ e. e < length s.owners) c.args.ecbs.now)
     (sym (c.config.ensures ∙ ap (λ (b : BoardFace). b.config) c.self.view_is)) c.requires.blocks
 
+pub returns-in-Some-clause-refusal : goal.returns-in-Some-clause-refusal
+returns-in-Some-clause-refusal c =
+    let t = c.args.task.now in
+    refusal_is c.args.self.now.config c.args.count t.number c.args.ecbs.now t.log (Some (Doubled c.in-Some.p))
+    (refused_at NotOwnerAt (λ e. not (owner_of c.args.self.now.config e == t.number)) 0 c.args.ecbs.now)
+    (refused_at ExtendedAt (kept_of t.number t.log).extended 0 c.args.ecbs.now) c.if-ecbs-count.false
+    (sym (ap (λ o. option_map (λ p. Doubled p) o) c.in-Some.is) ∙ c.doubled.ensures.first) refl refl
+
 pub returns-in-Some-not_owned-clause-refusal : goal.returns-in-Some-not_owned-clause-refusal
 returns-in-Some-not_owned-clause-refusal c =
     let config = c.config.ensures ∙ ap (λ (b : BoardFace). b.config) c.self.view_is in

@@ -5,7 +5,7 @@ use Rattle.mv_calls.specs.Waits.{wait}
 use Rattle.mv_wait.specs.Answers.{wait_refused, slots_of}
 use Rattle.mv_wait.specs.Run.{Went, IsServed}
 use Rattle.mv_wait.specs.Task.{blocks_in}
-use Rattle.mv_wait.specs.Waiting.{ArePlain}
+use Rattle.mv_wait.specs.Waiting.{IsArmedFor, ArePlain, AreOwn}
 use Rattle.mv_wait.proofs.Parts.{still_of, same_view, plain_still}
 use Rattle.mv_wait.proofs.Recording.{recorded_looked}
 use Rattle.mv_wait.proofs.Runs.{same_then, went_log}
@@ -28,6 +28,13 @@ await_complete-requires-clause-task g c =
     let r = c.task.inside.caller in
     let same = (c.in_default.ensures.armed.arms Wrong).went.same in
     still_of c.args.self.now c.args.self.now t r (same_then t u r same (same_view u r c.task.view_is)) c.requires.task refl
+
+pub await_complete-requires-clause-own : goal.await_complete-requires-clause-own
+await_complete-requires-clause-own g c =
+    subst (λ (d : CallerFace). AreOwn c.args.self.now.config d.number c.args.ecbs.now) (sym c.task.view_is) c.in_default.ensures.armed.own
+
+pub await_complete-requires-clause-distinct : goal.await_complete-requires-clause-distinct
+await_complete-requires-clause-distinct g c = c.in_default.ensures.armed.distinct
 
 pub await_complete-requires-clause-places : goal.await_complete-requires-clause-places
 await_complete-requires-clause-places g c =
@@ -59,6 +66,22 @@ settle_wait-requires-clause-task g c =
     let same = (c.in_default.ensures.armed.arms Wrong).went.same in
     still_of c.args.self.now c.args.self.now t v
     (same_then t r v (same_then t u r same (same_view u r c.task.view_is)) c.await_complete.ensures.went.same) c.requires.task refl
+
+pub settle_wait-requires-clause-waits : goal.settle_wait-requires-clause-waits
+settle_wait-requires-clause-waits g c =
+    subst (IsArmedFor c.args.ecbs.now) (sym (went_log c.task.inside.caller c.await_complete.new.caller c.await_complete.ensures.went))
+    (subst (λ (d : CallerFace). IsArmedFor c.args.ecbs.now d.log) (sym c.task.view_is) c.in_default.ensures.armed.waits)
+
+pub settle_wait-requires-clause-own : goal.settle_wait-requires-clause-own
+settle_wait-requires-clause-own g c =
+    let number = c.await_complete.ensures.went.same.number ∙ ap (λ (d : CallerFace). d.number) c.task.view_is in
+    subst (λ k. AreOwn c.args.self.now.config k c.args.ecbs.now) (sym number) c.in_default.ensures.armed.own
+
+pub settle_wait-requires-clause-distinct : goal.settle_wait-requires-clause-distinct
+settle_wait-requires-clause-distinct g c = c.in_default.ensures.armed.distinct
+
+pub settle_wait-requires-clause-listed : goal.settle_wait-requires-clause-listed
+settle_wait-requires-clause-listed g c = c.await_complete.ensures.listed
 
 pub settle_wait-requires-clause-plain : goal.settle_wait-requires-clause-plain
 settle_wait-requires-clause-plain g c =
