@@ -1,5 +1,5 @@
 -- What a task keeps follows its events.
-use Rattle.std.proofs.Common.{◌≡◌, ℕ, ◌+◌, ◌*◌, ◌^◌, ◌<◌, ◌≤◌, ◌==◌, Bool, true, false, [], ◌∷◌, ◌++◌, length}
+use Rattle.std.proofs.Common.{◌≡◌, ℕ, ◌+◌, ◌*◌, ◌^◌, ◌<◌, ◌≤◌, ◌==◌, Bool, true, false, List, [], ◌∷◌, ◌++◌, length}
 use Rattle.std.proofs.Common.{cond, Some, refl, sym, ap, ◌∙◌, subst, arith, length-append}
 use Rattle.std.proofs.lemmas.Bool.{false≢true, eqb-true, ltb-true, and_parts}
 use Rattle.std.specs.List.{AllByRecursion}
@@ -10,6 +10,7 @@ use Rattle.mv_element.specs.declared.element.Phase.TheVariants.{Free, Reset, Pre
 use Rattle.mv_element.specs.declared.operation.ElementOp.TheVariants as element_op
 use Rattle.mv_element.specs.declared.operation.ElementReply.TheVariants as element_reply
 use Rattle.mv_element.specs.Table.{element_step, is_current, close_step}
+use Rattle.mv_machine.specs.declared.entry.Entry.{Entry}
 use Rattle.mv_machine.specs.declared.entry.Object.{Object}
 use Rattle.mv_machine.specs.declared.entry.Object.TheVariants.{Ecb, Element, Volume, Latches}
 use Rattle.mv_machine.specs.declared.entry.Op.{Op}
@@ -23,6 +24,7 @@ use Rattle.mv_machine.specs.Limits.{highest_generation}
 use Rattle.mv_machine.specs.Parts.{IsPossible}
 use Rattle.mv_machine.specs.Setup.{Setup}
 use Rattle.mv_machine.specs.System.{System, admitted, reply_to, volume_step}
+use Rattle.mv_ecb.specs.declared.operation.EcbOp.{EcbOp}
 use Rattle.mv_ecb.specs.Table.{ecb_step}
 use Rattle.mv_latch.specs.LatchSet.{latch_step}
 use Rattle.mv_machine.proofs.Budgets.{no_high_generation}
@@ -261,11 +263,14 @@ allowed_inside b d t r k o op same is of recorded may =
     ∙ may (subst (λ (z : BoardFace × CallerFace). z.1.number < z.0.config.callers) (λ i. (is i, same i)) fits.caller)
 
 -- a block that it may use has its place in the table
+is_block : (c : Setup) (k n : ℕ) (op : EcbOp) (log : List Entry) → allowed c k log (Ecb n) (op_on.Ecb op) ≡ true → n < length c.owners
+is_block c k n op log may = ltb-true n (length c.owners) (and_parts _ _ (and_parts _ _ may).0).1
+
 pub reached : (c : Setup) (r : CallerFace) (k : Keep) (o : Object) (op : Op) → Fits r k c → allowed c r.number r.log o op ≡ true
     → Reaches o k
 reached c r k (Ecb n) (op_on.Ecb op) fits may =
     let size = fits.blocks in
-    let there : n < length c.owners = ltb-true n (length c.owners) (and_parts _ _ (and_parts _ _ may).0).1 in omega arith
+    let there = is_block c r.number n op r.log may in omega arith
 reached c r k (Ecb n) (op_on.Element op) fits may = absurd (false≢true may)
 reached c r k (Ecb n) (op_on.Volume op) fits may = absurd (false≢true may)
 reached c r k (Ecb n) (op_on.Latch op) fits may = absurd (false≢true may)

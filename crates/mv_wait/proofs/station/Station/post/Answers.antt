@@ -1,13 +1,15 @@
-use Rattle.std.proofs.Common.{◌≡◌, ℕ, ◌<◌, ◌≤◌, length, List, reverse, ◌++◌, ◌∷◌, [], refl, sym, ap, ◌∙◌, subst, arith}
+use Rattle.std.proofs.Common.{◌≡◌, ℕ, ◌+◌, ◌<◌, ◌≤◌, length, List, reverse, ◌++◌, ◌∷◌, [], refl, sym, ap, ◌∙◌, subst, arith}
 use Rattle.std.proofs.lemmas.List.{reverse-append, reverse-reverse}
 use Rattle.std.specs.List.{AllByRecursion}
 use Rattle.mv_calls.specs.Posts.{posted_next}
-use Rattle.mv_machine.specs.Reach.{reach}
+use Rattle.mv_machine.specs.Reach.{reach, total}
 use Rattle.mv_board.specs.Faces.{CallerFace}
 use Rattle.mv_calls.specs.Rest.{IsAtRest}
 use Rattle.mv_wait.specs.Task.{blocks_in}
 use Rattle.mv_wait.proofs.Posts.{Underway, begun, going, ended, all_below}
 use Rattle.mv_wait.proofs.station.Station.post.Given as bound
+use Rattle.mv_wait.proofs.Parts.{still_of}
+use Rattle.mv_wait.proofs.Recording.{of_inside}
 use Rattle.mv_wait.proofs.station.Station.post.Goals as goal
 use Rattle.mv_wait.proofs.station.Station.post.Goals.{In-Some}
 
@@ -106,3 +108,32 @@ invariant_of-task g c = record {
   room = subst (λ n. c.loop-next.task-inside.caller.left ≤ n) (sym c.in_default.ensures.capacity) c.loop-next.invariant.room;
   places = c.loop-next.invariant.places;
 }
+
+pub post_one-answer-requires-clause-task : goal.post_one-answer-requires-clause-task
+post_one-answer-requires-clause-task g c =
+    of_inside c.args.self.now c.args.self.now c.args.task.now c.task.inside.caller c.task.view_is refl c.requires.task
+
+pub post_one-answer-requires-clause-blocks : goal.post_one-answer-requires-clause-blocks
+post_one-answer-requires-clause-blocks g c =
+    subst (λ (xs : List ℕ). AllByRecursion (λ e. e < length c.args.self.now.config.owners) (reverse xs)) (sym c.task.invariant.idle) tt
+
+nothing_more : (n m : ℕ) → n ≤ m → n + 0 ≤ m
+nothing_more n m few = omega arith
+
+pub post_one-answer-requires-clause-left : goal.post_one-answer-requires-clause-left
+post_one-answer-requires-clause-left g c =
+    let config = c.args.self.now.config in
+    let left = subst (λ (d : CallerFace). reach config c.args.ecb ≤ d.left) (sym c.task.view_is) c.requires.left in
+    subst (λ (xs : List ℕ). total (reach config) (c.args.ecb ∷ reverse xs) ≤ c.task.inside.caller.left) (sym c.task.invariant.idle)
+    (nothing_more (reach config c.args.ecb) c.task.inside.caller.left left)
+
+pub post_one-requires-clause-task : goal.post_one-requires-clause-task
+post_one-requires-clause-task g c =
+    still_of c.args.self.now c.args.self.now c.args.task.now c.loop-next.task-inside.caller
+    c.loop-next.invariant.underway.2.runs.went.same c.requires.task refl
+
+pub post_one-requires-clause-left : goal.post_one-requires-clause-left
+post_one-requires-clause-left g c =
+    let work = next_first c.loop-next.task-inside.pending.items c.pop.new.self.items c.in-Some.next c.in-Some.ensures.items in
+    subst (λ (ns : List ℕ). total (reach c.args.self.now.config) ns ≤ c.loop-next.task-inside.caller.left) work
+    c.loop-next.invariant.underway.2.left
