@@ -8,7 +8,7 @@ ghost use Rattle.mv_work.specs.Parts.{lowest_complete, pair_of};
 use mv_wait::WaitSlot;
 
 /// A block that was found complete.
-#[derive(Clone, Copy, Debug)]
+#[derive(Clone, Copy)]
 pub(crate) struct Found {
     /// Its position in the list, from 0.
     pub position: usize,

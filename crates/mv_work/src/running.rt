@@ -30,7 +30,7 @@ use std::sync::Wait;
 const ENDED: u32 = 0;
 
 /// A job that a scheduler's code names.
-#[derive(Clone, Copy, Debug)]
+#[derive(Clone, Copy)]
 pub(crate) struct Named {
     /// Its place in the deck, from 0.
     pub job: u32,
@@ -39,7 +39,7 @@ pub(crate) struct Named {
 }
 
 /// What a step came to.
-#[derive(Clone, Copy, Debug)]
+#[derive(Clone, Copy)]
 pub(crate) enum Did {
     /// It was done.
     Went,

@@ -5,7 +5,7 @@ use mv_element::Token;
 use mv_latchset::LatchToken;
 
 /// Where the scheduler waits.
-#[derive(Clone, Copy, Debug)]
+#[derive(Clone, Copy)]
 pub(crate) enum SchedulerStage {
     /// For the entry of this job.
     Entry(u32),
@@ -18,7 +18,7 @@ pub(crate) enum SchedulerStage {
 }
 
 /// Where an initiator waits.
-#[derive(Clone, Copy, Debug)]
+#[derive(Clone, Copy)]
 pub(crate) enum InitiatorStage {
     /// For a code, in this round.
     Pause(u32),
@@ -27,7 +27,7 @@ pub(crate) enum InitiatorStage {
 }
 
 /// A job that an initiator runs.
-#[derive(Clone, Copy, Debug)]
+#[derive(Clone, Copy)]
 pub(crate) struct Running {
     /// The round of the initiator, from 0.
     pub round: u32,
@@ -44,7 +44,7 @@ pub(crate) struct Running {
 }
 
 /// Where a task waits. The writer waits for the end of a job.
-#[derive(Clone, Copy, Debug)]
+#[derive(Clone, Copy)]
 pub(crate) enum Stage {
     Scheduler(SchedulerStage),
     Initiator(InitiatorStage),
