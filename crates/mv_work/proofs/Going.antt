@@ -1,5 +1,5 @@
--- From what was told to a task, and what it did then, to where it has come. Used by begin and go_on.
-use Rattle.std.proofs.Common.{◌≡◌, ℕ, ◌-◌, List, [], length, Option, Some, None, subst, arith}
+-- From what was told to a task, and what it did then, to where it has come. Used by the steps of go_on.
+use Rattle.std.proofs.Common.{◌≡◌, ℕ, ◌-◌, ◌<◌, List, length, vec_capacity, Option, Some, None, sym, subst, arith}
 use Rattle.mv_board.specs.Faces.{BoardFace, CallerFace}
 use Rattle.mv_deck.specs.Deck.{JobData}
 use Rattle.mv_work.specs.declared.need.Got.{Got}
@@ -8,35 +8,46 @@ use Rattle.mv_work.specs.declared.stage.InitiatorStage.{InitiatorStage}
 use Rattle.mv_work.specs.declared.stage.SchedulerStage.{SchedulerStage}
 use Rattle.mv_work.specs.declared.stage.Stage.TheVariants as stage
 use Rattle.mv_work.specs.declared.work.SpoolWork.{SpoolWork}
-use Rattle.mv_work.specs.Initiating.{InitiatorComes, initiator_left}
+use Rattle.mv_work.specs.Initiating.{InitiatorComes, IsInitiatorAnswer, initiator_left}
 use Rattle.mv_work.specs.Needs.{answer_of}
 use Rattle.mv_work.specs.Noting.{initiating_noted}
-use Rattle.mv_work.specs.Ran.{RanOut}
-use Rattle.mv_work.specs.Scheduling.{scheduler_left}
+use Rattle.mv_work.specs.Scheduling.{SchedulerComes, scheduler_left}
 use Rattle.mv_work.specs.Works.{HasCome, ToldAt, WaitsAt, ends_found}
-use Rattle.mv_work.specs.Writing.{writer_left}
+use Rattle.mv_work.specs.Writing.{WriterComes, writer_left}
 use Rattle.mv_work.proofs.Meeting.{scheduler_worked, writer_worked, initiator_worked}
-use Rattle.mv_work.proofs.Runs.{leads_out}
 use Rattle.mv_work.proofs.Waits.{comes_on}
 
 module _ (b : BoardFace) (deck : List JobData) (i : ℕ) (w new : SpoolWork) {t u : CallerFace} (v : CallerFace) (g : Got) where
-  -- the scheduler was told its last
-  pub scheduler_over : (s : SchedulerStage) → ToldAt b deck i w (Some (stage.Scheduler s)) t g u
-      → RanOut (scheduler_left b.config deck i s (answer_of g)) [] u v → HasCome b deck i new t None v
-  scheduler_over s told x =
-      let out = leads_out told.1.leads x in (out.ran.went.same, scheduler_worked b.config deck i new told.0 out)
+  -- the scheduler was told something, and has come to its end or to its next wait
+  module _ (s : SchedulerStage) (told : ToldAt b deck i w (Some (stage.Scheduler s)) t g u) where
+    pub scheduler_over : SchedulerComes b deck i (scheduler_left b.config deck i s (answer_of g)) u None v → HasCome b deck i new t None v
+    scheduler_over x =
+        let out = (comes_on told.1.leads x).come in (out.ran.went.same, scheduler_worked b.config deck i new told.0 out)
+
+    pub scheduler_next : (next : SchedulerStage) (n : Need)
+        → SchedulerComes b deck i (scheduler_left b.config deck i s (answer_of g)) u (Some (next, n)) v
+        → WaitsAt b deck i new (Some (stage.Scheduler next)) t n v
+    scheduler_next next n x = (told.0, (comes_on told.1.leads x).come)
 
   -- and so was the writer
-  pub writer_over : (j : ℕ) → ToldAt b deck i w (Some (stage.Writer j)) t g u
-      → RanOut (writer_left b.config (length deck) (ends_found w) j (answer_of g)) (ends_found new) u v
-      → HasCome b deck i new t None v
-  writer_over j told x =
-      let out = leads_out told.1.leads x in (out.ran.went.same, writer_worked b.config deck i new told.0 out)
+  module _ (j : ℕ) (told : ToldAt b deck i w (Some (stage.Writer j)) t g u) where
+    pub writer_over : WriterComes b i (length deck) (vec_capacity new.ends - length new.ends.items) (ends_found new)
+        (writer_left b.config (length deck) (ends_found w) j (answer_of g)) u None v → HasCome b deck i new t None v
+    writer_over x = let out = (comes_on told.1.leads x).come in (out.ran.went.same, writer_worked b.config deck i new told.0 out)
 
-  -- an initiator was told something, and has come to its end or to its next wait
+    pub writer_next : (next : ℕ) (n : Need)
+        → WriterComes b i (length deck) (vec_capacity new.ends - length new.ends.items) (ends_found new)
+        (writer_left b.config (length deck) (ends_found w) j (answer_of g)) u (Some (next, n)) v
+        → WaitsAt b deck i new (Some (stage.Writer next)) t n v
+    writer_next next n x = (told.0, (comes_on told.1.leads x).come)
+
+  -- and an initiator
   module _ (s : InitiatorStage) (told : ToldAt b deck i w (Some (stage.Initiator s)) t g u) (index : ℕ) (is : index ≡ u.number - 2) where
     initiator_is : index ≡ told.0
     initiator_is = let number = told.2 in let same = told.3.same.number in omega arith
+
+    pub initiator_told : (index < i) × IsInitiatorAnswer deck index w.notes s g
+    initiator_told = subst (λ me. (me < i) × IsInitiatorAnswer deck me w.notes s g) (sym initiator_is) (told.1, told.3.answers)
 
     initiator_on : (next : Option (InitiatorStage × Need))
         → InitiatorComes b deck index new.notes (initiator_left b.config deck index w.notes s (answer_of g)) u next v

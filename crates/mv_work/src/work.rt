@@ -1,17 +1,18 @@
 //! The work of a task, wait by wait. Clauses cite `specs/Works.antt` and `specs/Waiting.antt`.
 
-ghost use Rattle.std.specs.Prelude.{◌<◌, ◌≤◌, ◌+◌, IfOk};
+ghost use Rattle.std.specs.Prelude.{◌<◌, ◌≤◌, ◌+◌, Some, IfOk};
 ghost use Rattle.mv_board.specs.Faces.{CallerFace, IsFresh};
 ghost use Rattle.mv_deck.specs.Weight.{most_initiators};
 ghost use Rattle.mv_work.specs.Parts.{jobs_of};
 ghost use Rattle.mv_work.specs.Waiting.{IsSpool};
-ghost use Rattle.mv_work.specs.Works.{HasCome, IsNew, WasTold};
+ghost use Rattle.mv_work.specs.Works.{HasCome, IsNew, ToldAt, WasTold};
+ghost use Rattle.mv_work.specs.declared.stage.Stage.TheVariants as at;
 
 use crate::initiator::{self, Notes, initiate};
 use crate::need::{Got, Need};
 use crate::reader::read;
 use crate::scheduler::{self, schedule};
-use crate::stage::Stage;
+use crate::stage::{InitiatorStage, SchedulerStage, Stage};
 use crate::writer::{on_end, write};
 use mv_deck::Job;
 use mv_io::NoMemory;
@@ -120,30 +121,90 @@ impl SpoolWork {
         };
         match waits {
             Stage::Scheduler(stage) => {
-                let (stage, need) = scheduler::go_on(
-                    rt, station, task, deck, initiators, gate, stage, got,
-                )?;
-                self.stage = Some(Stage::Scheduler(stage));
-                Some(need)
+                self.go_on_scheduler(rt, station, task, deck, initiators, gate, stage, got)
             }
             Stage::Initiator(stage) => {
-                let index = task.number() - FIRST_INITIATOR;
-                let notes = &mut self.notes;
-                let (stage, need) = initiator::go_on(
-                    rt, station, task, deck, initiators, gate, index, notes, stage, got,
-                )?;
-                self.stage = Some(Stage::Initiator(stage));
-                Some(need)
+                self.go_on_initiator(rt, station, task, deck, initiators, gate, stage, got)
             }
             Stage::Writer(job) => {
-                let Got::Code(end) = got else { unreachable!() };
-                let ends = &mut self.ends;
-                let (job, need) = on_end(
-                    rt, station, task, deck, initiators, gate, ends, job, end,
-                )?;
-                self.stage = Some(Stage::Writer(job));
-                Some(need)
+                self.go_on_writer(rt, station, task, deck, initiators, gate, job, got)
             }
         }
+    }
+
+    // The same of the scheduler, which waits at this stage.
+    fn go_on_scheduler<R: Wait, G: Gate>(
+        &mut self,
+        rt: &R,
+        station: &Station,
+        task: &mut Task,
+        deck: &[Job],
+        initiators: u32,
+        gate: &G,
+        stage: SchedulerStage,
+        got: Got,
+    ) -> Option<Need>
+        requires spool { IsSpool station.now deck.now initiators }
+        requires told { (t : CallerFace) × ToldAt station.now (jobs_of deck.now) initiators self.old (Some (at.Scheduler stage)) t got
+            task.old }
+        ensures { (t : CallerFace) → ToldAt station.now (jobs_of deck.now) initiators self.old (Some (at.Scheduler stage)) t got task.old
+            → HasCome station.now (jobs_of deck.now) initiators self.new t result task.new }
+    {
+        let (stage, need) = scheduler::go_on(
+            rt, station, task, deck, initiators, gate, stage, got,
+        )?;
+        self.stage = Some(Stage::Scheduler(stage));
+        Some(need)
+    }
+
+    // And of an initiator.
+    fn go_on_initiator<R: Wait, G: Gate>(
+        &mut self,
+        rt: &R,
+        station: &Station,
+        task: &mut Task,
+        deck: &[Job],
+        initiators: u32,
+        gate: &G,
+        stage: InitiatorStage,
+        got: Got,
+    ) -> Option<Need>
+        requires spool { IsSpool station.now deck.now initiators }
+        requires told { (t : CallerFace) × ToldAt station.now (jobs_of deck.now) initiators self.old (Some (at.Initiator stage)) t got
+            task.old }
+        ensures { (t : CallerFace) → ToldAt station.now (jobs_of deck.now) initiators self.old (Some (at.Initiator stage)) t got task.old
+            → HasCome station.now (jobs_of deck.now) initiators self.new t result task.new }
+    {
+        let index = task.number() - FIRST_INITIATOR;
+        let notes = &mut self.notes;
+        let (stage, need) = initiator::go_on(
+            rt, station, task, deck, initiators, gate, index, notes, stage, got,
+        )?;
+        self.stage = Some(Stage::Initiator(stage));
+        Some(need)
+    }
+
+    // And of the writer, which waits for the end of this job.
+    fn go_on_writer<R: Wait, G: Gate>(
+        &mut self,
+        rt: &R,
+        station: &Station,
+        task: &mut Task,
+        deck: &[Job],
+        initiators: u32,
+        gate: &G,
+        job: u32,
+        got: Got,
+    ) -> Option<Need>
+        requires spool { IsSpool station.now deck.now initiators }
+        requires told { (t : CallerFace) × ToldAt station.now (jobs_of deck.now) initiators self.old (Some (at.Writer job)) t got task.old }
+        ensures { (t : CallerFace) → ToldAt station.now (jobs_of deck.now) initiators self.old (Some (at.Writer job)) t got task.old
+            → HasCome station.now (jobs_of deck.now) initiators self.new t result task.new }
+    {
+        let Got::Code(end) = got else { unreachable!() };
+        let ends = &mut self.ends;
+        let (job, need) = on_end(rt, station, task, deck, initiators, gate, ends, job, end)?;
+        self.stage = Some(Stage::Writer(job));
+        Some(need)
     }
 }

@@ -1,21 +1,31 @@
-use Rattle.std.proofs.Common.{rules, ◌≡◌, ℕ, ◌-◌, ◌*◌, ◌≤◌, List, [], length, get_or, vec_capacity, Option, Some, None, sym, ap, ◌∙◌, arith}
+use Rattle.std.proofs.Common.{rules, ◌≡◌, ℕ, ◌-◌, ◌*◌, ◌≤◌, List, [], length, get_or, vec_capacity, Option, Some, None, sym, ap, ◌∙◌, subst, arith}
 use Rattle.std.specs.List.{range_with_len}
 use Rattle.mv_deck.specs.Deck.{JobData}
 use Rattle.mv_machine.specs.Setup.{Setup}
-use Rattle.mv_work.specs.Initiating.{steps_events}
+use Rattle.mv_work.specs.Initiating.{AreGiven, jobs_of_records, steps_events}
 use Rattle.mv_work.specs.Parts.{jobs_of}
+use Rattle.mv_work.specs.Records.{JobRecord}
 use Rattle.mv_work.specs.Scheduling.{jobs_due}
 use Rattle.mv_work.specs.Writing.{IsWriterNeed, WriterComes, ends_from, writer_stages}
 use Rattle.mv_work.specs.Waiting.{Asks, IsResting}
 use Rattle.mv_work.specs.declared.need.Need.{Need}
+use Rattle.mv_plan.specs.SpoolSetup.{task_budgets}
 use Rattle.mv_plan.specs.SpoolTasks.{ends_kept, writing}
 use Rattle.mv_work.proofs.Decks.{initiator_budget, job_count, writer_budget}
 use Rattle.mv_work.proofs.Meeting.{reader_worked, scheduler_worked, writer_worked, initiator_worked}
-use Rattle.mv_work.proofs.Rounds.{left_all}
+use Rattle.mv_work.proofs.Rounds.{left_all, none_given}
 use Rattle.mv_work.proofs.Waits.{asks_first, comes_as}
 use Rattle.mv_work.proofs.work.SpoolWork.begin.Given as bound
 use Rattle.mv_work.proofs.work.SpoolWork.begin.Goals as goal
 use Rattle.mv_work.proofs.work.SpoolWork.begin.Goals.{After-write}
+
+pub read-requires-clause-rests : goal.read-requires-clause-rests
+read-requires-clause-rests g c =
+    let budget = c.requires.fresh.left ∙ ap (λ (s : Setup). get_or s.budgets c.args.task.now.number 0) c.requires.spool.config
+    ∙ ap (λ k. get_or (task_budgets (jobs_of c.args.deck.now) c.args.initiators) k 0)
+    (sym c.number-number.ensures.number ∙ c.if-number-eq-READER.true) in
+    let count = job_count c.args.deck.now in
+    record { board = c.requires.fresh.board; quiet = search rules; left = omega arith }
 
 pub returns-then-number-eq-READER : goal.returns-then-number-eq-READER
 returns-then-number-eq-READER g c = (
@@ -35,6 +45,13 @@ returns-in_err-stage g c =
       out.ran.went.same,
       scheduler_worked b.config deck i c.args.self.now
           (sym c.number-number.ensures.number ∙ c.if-number-eq-SCHEDULER.true) out,
+    )
+
+pub returns-then-number-eq-SCHEDULER : goal.returns-then-number-eq-SCHEDULER
+returns-then-number-eq-SCHEDULER g c =
+    let rests : IsResting c.args.station.now (jobs_due (jobs_of c.args.deck.now) c.args.initiators 0) c.args.task.now = search rules in (
+      sym c.number-number.ensures.number ∙ c.if-number-eq-SCHEDULER.true,
+      (asks_first c.in_ok-stage.ensures rests).come,
     )
 
 -- the writer's ends from the first on are all
@@ -83,6 +100,17 @@ returns-then-number-writer g c = (
   (write_first g (goal.at.returns-then-number-writer g c).After-write (Some (c.in_ok-job.job, c.in_ok-job.need)) c.in_ok-job.ensures).come,
 )
 
+pub initiate-requires-clause-between : goal.initiate-requires-clause-between
+initiate-requires-clause-between g c =
+    let new = c.requires.new in record {
+      round = omega arith;
+      size = new.size (omega arith) (omega arith);
+      given = subst (λ (rs : List JobRecord). AreGiven (jobs_of_records rs) c.args.self.now.notes.given.items) (sym new.none.0)
+          (none_given c.args.self.now.notes.given.items new.given);
+      none = new.none.1;
+      room = new.room (omega arith) (omega arith);
+    }
+
 pub initiate-requires-clause-rests : goal.initiate-requires-clause-rests
 initiate-requires-clause-rests g c =
     let deck = jobs_of c.args.deck.now in
@@ -104,3 +132,6 @@ returns-in_err-stage-2 g c =
       initiator_worked b.config (jobs_of c.args.deck.now) c.args.initiators c.args.self.now (c.number-number.result - 2) (omega arith)
           (omega arith) out,
     )
+
+pub returns : goal.returns
+returns g c = (c.number-number.result - 2, omega arith, omega arith, c.in_ok-stage-2.ensures.come)
