@@ -1,8 +1,8 @@
--- The steps of a job, one by one. Used by do_step and run_on.
-use Rattle.std.proofs.Common.{◌≡◌, ℕ, ◌+◌, ◌<◌, ◌≤◌, ◌==◌, Bool, true, false, List, [], ◌∷◌, ◌++◌, length, set, Option, Some, None, refl}
+-- The steps of a job, one by one. Used by on_granted and run_on.
+use Rattle.std.proofs.Common.{◌≡◌, ℕ, ◌+◌, ◌<◌, ◌≤◌, ◌==◌, Bool, true, false, List, [], ◌∷◌, ◌++◌, length, get_or, set, Option, Some, None, refl}
 use Rattle.std.proofs.Common.{option_map, sym, ap, ◌∙◌, subst, if◌then◌else◌, arith}
 use Rattle.std.proofs.lemmas.Bool.{eq-eqb, eqb-true}
-use Rattle.std.proofs.lemmas.List.{get_or-set_same, get_or-set_other}
+use Rattle.std.proofs.lemmas.List.{get_or-set_same, get_or-set_other, length-set}
 use Rattle.mv_machine.specs.System.{with_at}
 use Rattle.mv_deck.specs.Deck.{JobData}
 use Rattle.mv_latchset.specs.declared.token.LatchToken.{LatchToken}
@@ -10,7 +10,7 @@ use Rattle.mv_plan.proofs.lists.{all_get}
 use Rattle.mv_work.specs.declared.initiator.Notes.{Notes}
 use Rattle.mv_work.specs.Initiating.{AreGiven, IsAtJob, jobs_of_records}
 use Rattle.mv_work.specs.Records.{Recorded}
-use Rattle.mv_work.specs.Steps.{requests_of}
+use Rattle.mv_work.specs.Steps.{AreKept, requests_of}
 
 -- the number of a request
 abbrev pub id_of : LatchToken → ℕ
@@ -29,6 +29,22 @@ kept_with tokens latch token lt i k = by_case (k == latch) refl i where
   by_case false is =
       ap (λ o. option_map id_of o) (get_or-set_other tokens latch k (Some token) None (λ q. absurd (cc (sym is ∙ eq-eqb k latch q))))
       ∙ sym (ap (λ (b : Bool). if b then Some token.id else requests_of tokens k) is)
+
+-- each is still of its latch
+pub still_kept : {tokens : List (Option LatchToken)} (latch : ℕ) (token : LatchToken) → latch < length tokens → token.latch ≡ latch
+    → AreKept tokens → AreKept (set tokens latch (Some token))
+still_kept {tokens} latch token lt own kept = record {
+  count = length-set tokens latch (Some token) ∙ kept.count;
+  own = λ k t is. by_case k t (k == latch) refl is;
+} where
+  by_case : (k : ℕ) (t : LatchToken) (b : Bool) → (k == latch) ≡ b → get_or (set tokens latch (Some token)) k None ≡ Some t → t.latch ≡ k
+  by_case k t true e is =
+      let same = eqb-true k latch e in
+      let here = get_or-set_same tokens latch (Some token) None lt in
+      let one : token ≡ t = cc in
+      ap (λ (x : LatchToken). x.latch) (sym one) ∙ own ∙ sym same
+  by_case k t false e is =
+      kept.own k t (sym (get_or-set_other tokens latch k (Some token) None (λ q. absurd (cc (sym e ∙ eq-eqb k latch q)))) ∙ is)
 
 -- a job that begins has no request yet
 pub no_requests : requests_of (None ∷ None ∷ None ∷ None ∷ None ∷ None ∷ None ∷ None ∷ []) ≡ (λ (latch : ℕ). None)

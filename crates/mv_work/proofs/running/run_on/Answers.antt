@@ -18,10 +18,10 @@ use Rattle.mv_work.specs.Ran.{Leads}
 use Rattle.mv_work.specs.Steps.{IsGoodDid, requests_of}
 use Rattle.mv_work.proofs.Decks.{job_numbers}
 use Rattle.mv_work.proofs.Reaches.{release_cost_is}
-use Rattle.mv_work.proofs.Runs.{leads_astray, leads_on, leads_same, leads_then, leads_under}
+use Rattle.mv_work.proofs.Runs.{leads_all, leads_astray, leads_on, leads_same, leads_then, leads_under}
 use Rattle.mv_work.proofs.Calls.{latch_asked}
 use Rattle.mv_work.proofs.Steps.{still_at}
-use Rattle.mv_work.proofs.Waits.{comes_astray, comes_on}
+use Rattle.mv_work.proofs.Waits.{comes_astray, comes_on, rests_less}
 use Rattle.mv_work.proofs.running.run_on.Given as bound
 use Rattle.mv_work.proofs.running.run_on.Goals as goal
 use Rattle.mv_work.proofs.running.run_on.Goals.{After-index-steps-place}
@@ -45,6 +45,9 @@ is_next g c =
       events = ap steps_events begins ∙ sum_by-cons step_events next (drop (place + 1) steps);
       marks = ap steps_marks begins ∙ sum_by-cons step_marks next (drop (place + 1) steps);
     })
+
+pub loop-place-init : goal.loop-place-init
+loop-place-init g c = record { rests = c.requires.rests; at = c.requires.running.at; leads = leads_all _ c.args.task.now }
 
 pub do_step-requires-clause-config : goal.do_step-requires-clause-config
 do_step-requires-clause-config g c =
@@ -80,6 +83,25 @@ loop-place-preserved g c =
       at = still_at c.do_step.new.noted _ step.jobs (let few = step.room in omega arith) since.at;
       leads = rw step.jobs (leads_then (rw next.begins at since.leads) (leads_under _ (does _) step.rest));
     }
+
+pub end_job-requires-clause-at : goal.end_job-requires-clause-at
+end_job-requires-clause-at g c =
+    let next = is_next g (goal.at.end_job-requires-clause-at g c).After-index-steps-place in
+    let step = c.in-Ok-Ended.ensures in
+    still_at c.do_step.new.noted 0 step.jobs (let marks = next.marks in let few = step.room in omega arith) c.loop-place.invariant.at
+
+pub end_job-requires-clause-rests : goal.end_job-requires-clause-rests
+end_job-requires-clause-rests g c =
+    let next = is_next g (goal.at.end_job-requires-clause-rests g c).After-index-steps-place in
+    let step = c.in-Ok-Ended.ensures in
+    let left = c.loop-place.invariant.rests.left in
+    record { board = step.board; quiet = step.rest; left = (let few = step.few in omega arith) }
+
+pub end_job-requires-2-clause-at : goal.end_job-requires-2-clause-at
+end_job-requires-2-clause-at g c = still_at c.loop-place.notes.noted 0 refl (omega arith) c.loop-place.invariant.at
+
+pub end_job-requires-2-clause-rests : goal.end_job-requires-2-clause-rests
+end_job-requires-2-clause-rests g c = rests_less c.loop-place.invariant.rests (omega arith)
 
 pub returns-in-Ok-Ended : goal.returns-in-Ok-Ended
 returns-in-Ok-Ended g c =
