@@ -1,4 +1,4 @@
--- From tasks that are all finished to what they have made. Used by run_tasks.
+-- From tasks that are all finished to what they have made. Used by spool.
 use Rattle.std.proofs.Common.{◌≡◌, ℕ, zero, suc, ◌+◌, ◌<◌, Bool, true, false, not, cond, List, [], ◌∷◌, length}
 use Rattle.std.proofs.Common.{get_or, map, None, refl, sym, ap, ◌∙◌, subst, arith}
 use Rattle.std.specs.List.{AllByRecursion}

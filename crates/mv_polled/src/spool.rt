@@ -170,6 +170,32 @@ fn poll_all<R: Wait, O: Order>(
     tasks
 }
 
+// Polls the tasks of a station until all are finished, and closes it.
+fn run_all<R: Wait, O: Order>(
+    rt: &R,
+    station: Station,
+    deck: &[Job],
+    initiators: u32,
+    order: &mut O,
+    tasks: Vec<Polled>,
+    room: Room,
+) -> Left
+    requires some { 1 ≤ initiators }
+    requires spool { IsSpool station deck.now initiators }
+    requires count { length tasks.items ≡ initiators + 3 }
+    requires polled { ArePolled station (jobs_of deck.now) initiators tasks.items }
+    requires tasks { (room.tasks.items ≡ []) × (initiators + 3 ≤ vec_capacity room.tasks) }
+    requires works { (room.works.items ≡ []) × (initiators + 3 ≤ vec_capacity room.works) }
+    requires records { (room.records.items ≡ []) × (initiators + 3 ≤ vec_capacity room.records) }
+    ensures { IsLeft (jobs_of deck.now) initiators result.closed result.brought }
+{
+    let polled = poll_all(rt, &station, deck, initiators, order, tasks);
+    let (tasks, works, records) = parted(polled, room);
+    let closed = station.close(tasks);
+    let brought: Brought = brought_by(works, records);
+    Left { closed, brought }
+}
+
 // Opens a station of this configuration, has its tasks do their work, and closes it.
 fn run_tasks<R: Wait, O: Order>(
     rt: &R,
@@ -188,11 +214,7 @@ fn run_tasks<R: Wait, O: Order>(
     let room = room_for(alloc, initiators as usize + 3)?;
     let (station, tasks) = Station::open(alloc, config)?;
     let polled = all_polled(alloc, tasks, deck, initiators)?;
-    let polled = poll_all(rt, &station, deck, initiators, order, polled);
-    let (tasks, works, records) = parted(polled, room);
-    let closed = station.close(tasks);
-    let brought: Brought = brought_by(works, records);
-    Ok(Left { closed, brought })
+    Ok(run_all(rt, station, deck, initiators, order, polled, room))
 }
 
 /// Runs a deck by a reader, a scheduler, so many initiators and a writer on this one thread, and answers what it came to. Again
