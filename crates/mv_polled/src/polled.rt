@@ -50,11 +50,12 @@ impl Polled {
         ensures task { IfOk result (λ p. p.task ≡ task) }
         ensures new { IfOk result (IsUnpolled (jobs_of deck.now) initiators) }
     {
+        let meeting = Meeting::new(alloc)?;
         let work = SpoolWork::new(alloc, deck, initiators, task.number())?;
         Ok(Polled {
             task,
             work,
-            meeting: Meeting::new(alloc)?,
+            meeting,
             state: State::New,
         })
     }
