@@ -1,7 +1,9 @@
 -- Facts on lists.
 use Rattle.std.proofs.Common.{◌≡◌, ℕ, zero, suc, ◌+◌, ◌<◌, List, [], ◌∷◌, ◌++◌, length, get_or, map, take}
-use Rattle.std.proofs.Common.{refl, ap, ◌∙◌, arith}
+use Rattle.std.proofs.Common.{refl, sym, ap, ◌∙◌, subst, arith, below_more, length-append}
 use Rattle.std.specs.Prelude.{slice_get}
+use Rattle.std.proofs.Math.Seq.{get_or-append_seam}
+use Rattle.std.proofs.lemmas.List.{get_or_append_left}
 use Rattle.std.specs.List.{AllByRecursion, range_with_len}
 use Rattle.mv_machine.proofs.Lists.{all_front, all_back}
 
@@ -24,3 +26,13 @@ is_mapped f (x ∷ xs) a each =
     ap (λ y. y ∷ xs) (each zero x (omega arith) ∙ ap f (let e : a + 0 ≡ a = omega arith in e))
     ∙ ap (λ ys. f a ∷ ys) (is_mapped f xs (a + 1) (λ k d lt.
     each (suc k) d (omega arith) ∙ ap f (let e : a + suc k ≡ a + 1 + k = omega arith in e)))
+
+-- what holds of each two in one place, and of one more, holds of each
+pub each_more : {A B : Type 0} (P : A → B → Type 0) (xs : List A) (a : A) (ys : List B) (y : B)
+    → ((k : ℕ) (d : B) → k < length ys → P (get_or xs k a) (get_or ys k d)) → P (get_or xs (length ys) a) y
+    → (k : ℕ) (d : B) → k < length (ys ++ y ∷ []) → P (get_or xs k a) (get_or (ys ++ y ∷ []) k d)
+each_more P xs a ys y each one k d lt =
+    let n = length-append ys (y ∷ []) in
+    below_more (λ j. P (get_or xs j a) (get_or (ys ++ y ∷ []) j d)) (length ys)
+    (λ j low. subst (P (get_or xs j a)) (sym (get_or_append_left ys (y ∷ []) d j low)) (each j d low))
+    (subst (P (get_or xs (length ys) a)) (sym (get_or-append_seam ys y [] d)) one) k (omega arith)

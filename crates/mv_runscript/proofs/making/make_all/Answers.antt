@@ -1,13 +1,54 @@
-use Rattle.std.proofs.Common.{◌≤◌, ◌+◌, ◌∷◌, [], length, take, sym, ap, ◌∙◌, subst, arith, length-append}
+use Rattle.std.proofs.Common.{◌≤◌, ◌+◌, ◌∷◌, [], length, take, refl, sym, ap, ◌∙◌, subst, arith, length-append, length-take}
 use Rattle.std.specs.Prelude.{count_by}
+use Rattle.std.proofs.lemmas.List.Sums.{count_by-le-length}
 use Rattle.mv_script.specs.declared.call.Call.{Call}
 use Rattle.mv_script.specs.Fault.{obtain_meant}
 use Rattle.mv_script.specs.Script.{is_obtain}
 use Rattle.mv_script.specs.Sound.{IfThere}
-use Rattle.mv_runscript.specs.Making.{AreGoodIn, MakesCalls, is_wait}
+use Rattle.mv_runscript.specs.Making.{AreGoodIn, AreOfLatches, MakesCalls, is_wait}
 use Rattle.mv_runscript.proofs.Scripts.{sound_at}
 use Rattle.mv_runscript.proofs.Steps.{cost_more, counted_more, left_more, path_more, call_spends, call_rests, call_keeps_board}
 use Rattle.mv_runscript.proofs.making.make_all.Goals as goal
+
+-- nothing was answered or asked yet
+pub loop-call-init : goal.loop-call-init
+loop-call-init g c =
+    let room = c.requires.room in
+    record {
+      board = c.requires.task;
+      quiet = c.requires.rest;
+      left = c.requires.left;
+      requests = subst AreOfLatches (sym room.none_asked) tt;
+      count = ap length room.none_asked;
+      request_room = room.requests;
+      answers = ap length room.none_answered;
+      answer_room = room.answers;
+      slots = room.slots;
+      rooms = room.waits;
+      makes = subst (λ answers. MakesCalls c.args.station.now.config c.args.table.now [] answers [] c.args.room.now.requests.items
+          c.args.task.now c.args.task.now) (sym room.none_answered) (room.none_asked, refl);
+    }
+
+pub make-answer-requires-clause-left : goal.make-answer-requires-clause-left
+make-answer-requires-clause-left g c =
+    let cost = cost_more c.args.calls.now c.loop-call.call-index c.call-item.result c.loop-call-test.true c.call-item.is
+    c.args.station.now.config in
+    let left = c.loop-call.invariant.left in
+    omega arith
+
+pub make-answer-requires-clause-room : goal.make-answer-requires-clause-room
+make-answer-requires-clause-room g c obtains =
+    let asked = count_by-le-length is_obtain (take c.loop-call.call-index c.args.calls.now) in
+    let made = length-take c.loop-call.call-index c.args.calls.now in
+    let count = c.loop-call.invariant.count in
+    let room = c.loop-call.invariant.request_room in
+    omega arith
+
+pub make-answer-requires-clause-rooms : goal.make-answer-requires-clause-rooms
+make-answer-requires-clause-rooms g c =
+    let waits = left_more c.args.calls.now c.loop-call.call-index c.call-item.result c.loop-call-test.true c.call-item.is is_wait in
+    let rooms = c.loop-call.invariant.rooms in
+    omega arith
 
 pub make-answer-requires-clause-numbers : goal.make-answer-requires-clause-numbers
 make-answer-requires-clause-numbers g c =

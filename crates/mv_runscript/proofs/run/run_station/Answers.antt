@@ -13,6 +13,18 @@ use Rattle.mv_runscript.proofs.Tasks.{IsRunOf, answers_of, run_made}
 use Rattle.mv_runscript.proofs.run.run_station.Goals.{After-lists_of}
 use Rattle.mv_runscript.proofs.run.run_station.Goals as goal
 
+pub run_tasks-requires-clause-rooms : goal.run_tasks-requires-clause-rooms
+run_tasks-requires-clause-rooms g c κ lives =
+    c.in_ok-rooms.ensures.count ∙ sym (task_count c.args.config c.args.table.now c.args.tasks.now c.requires.sound)
+    ∙ sym c.in_ok-station.ensures.count
+
+pub run_tasks-requires-clause-start : goal.run_tasks-requires-clause-start
+run_tasks-requires-clause-start g c κ lives k s lt =
+    let tasks = c.args.tasks.now in (
+      subst (λ (s : Setup). IsSound (script_with s c.args.table.now tasks)) (sym c.in_ok-station.ensures.config) c.requires.sound,
+      c.in_ok-rooms.ensures.room k s lt,
+    )
+
 -- the history that they made is a run, whose answers are theirs
 made : (g : _) (c : After-lists_of g) → IsRunOf (script_with c.args.config c.args.table.now c.args.tasks.now) c.lists_of.result.items
     c.close-closed.result.history.coming
