@@ -1,10 +1,12 @@
 -- The request that an obtain got, behind those of the OBTAINs before.
 use Rattle.std.proofs.Common.{◌≡◌, ℕ, ◌<◌, Bool, true, false, List, [], ◌∷◌, ◌++◌, Option, Some, None, Result, Ok, Err, refl, sym, ap, ◌∙◌}
 use Rattle.std.proofs.Common.{subst, arith}
-use Rattle.std.specs.Prelude.{nat_lt, not, IfOk, MatchResult, option_map}
+use Rattle.std.specs.Prelude.{nat_lt, not, length, IfOk, IfSome, MatchResult, option_map}
 use Rattle.std.proofs.lemmas.Bool.{ltb-true}
 use Rattle.std.proofs.lemmas.List.{map-append}
+use Rattle.mv_latch.specs.Request.{posted_ecb}
 use Rattle.mv_latch.specs.declared.request.LatchForm.{LatchForm}
+use Rattle.mv_latch.specs.declared.request.LatchForm.TheVariants.{Conditional, Waiting, Posted}
 use Rattle.mv_latch.specs.declared.request.Mode.{Mode}
 use Rattle.mv_latchset.specs.declared.obtaining.Obtained.{Obtained}
 use Rattle.mv_latchset.specs.declared.obtaining.Obtained.TheVariants.{Granted, Pending}
@@ -17,13 +19,14 @@ use Rattle.mv_board.specs.Faces.{CallerFace}
 use Rattle.mv_machine.specs.Check.{or_else}
 use Rattle.mv_machine.specs.Setup.{Setup}
 use Rattle.mv_machine.proofs.Lists.{all_push}
+use Rattle.mv_calls.specs.declared.table.Table.{Table}
 use Rattle.mv_calls.specs.Keeping.{Kept, kept_of}
 use Rattle.mv_calls.specs.LatchCalls.{obtain_refusal}
 use Rattle.mv_calls.specs.Refusal.{Refusal}
 use Rattle.mv_calls.specs.Refusal as refusal
 use Rattle.mv_calls.specs.Waits.{refused_if}
 use Rattle.mv_script.specs.Limits.{latches}
-use Rattle.mv_script.specs.Sound.{IfThere}
+use Rattle.mv_script.specs.Sound.{IfThere, HasEcb}
 use Rattle.mv_script.specs.Tasks.{request_in}
 use Rattle.mv_runscript.specs.Making.{asked_by, requests_of, token_in, AreOfLatches, IsForScripts}
 
@@ -76,3 +79,11 @@ module _ (latch : ℕ) (outcome : Result Obtained ObtainRefusal) (token : Option
   tokens_more low all =
       subst AreOfLatches (sym put) (all_push (IfThere (λ (t : LatchToken). t.latch < latches)) old token all
       (subst (IfThere (λ (t : LatchToken). t.latch < latches)) (sym got) (fits latch outcome own low)))
+
+-- a form of a good OBTAIN posts a block that there is, if it posts one
+pub posts_there : (c : Setup) (table : Option Table) (form : LatchForm)
+    → HasEcb (record { tasks = c.callers; ecbs = length c.owners; table = table }) form
+    → IfSome (posted_ecb form) (λ e. e < length c.owners)
+posts_there c table Conditional has = tt
+posts_there c table Waiting has = tt
+posts_there c table (Posted e) has = has

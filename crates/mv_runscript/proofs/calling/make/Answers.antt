@@ -1,9 +1,40 @@
-use Rattle.std.proofs.Common.{ℕ, List, refl, subst, ◌∙◌}
+use Rattle.std.proofs.Common.{◌≡◌, ℕ, ◌*◌, ◌<◌, ◌≤◌, List, ◌∷◌, [], length, refl, sym, ap, ◌∙◌, subst, arith, length-append}
+use Rattle.std.specs.Prelude.{count_by}
+use Rattle.std.specs.List.{AllByRecursion}
 use Rattle.mv_calls.specs.Services as service
+use Rattle.mv_machine.proofs.Lists.{all_front, all_back}
+use Rattle.mv_wait.specs.declared.waiting.WaitSlot.{WaitSlot}
+use Rattle.mv_script.specs.declared.call.Call.{Call}
 use Rattle.mv_script.specs.declared.call.Call.TheVariants as call
+use Rattle.mv_script.specs.Costs.{cost}
+use Rattle.mv_script.specs.Limits.{most_waited}
+use Rattle.mv_script.specs.Script.{is_obtain}
+use Rattle.mv_runscript.specs.Making.{AreGoodIn, HaveSlots, is_wait}
 use Rattle.mv_runscript.specs.Served.{Serves}
 use Rattle.mv_runscript.proofs.Makes.{plain_makes}
+use Rattle.mv_runscript.proofs.Obtains.{posts_there}
 use Rattle.mv_runscript.proofs.calling.make.Goals as goal
+
+-- a WAIT
+pub wait_in-requires-clause-blocks : goal.wait_in-requires-clause-blocks
+wait_in-requires-clause-blocks g c =
+    let config = c.args.station.now.config in
+    let good = subst (AreGoodIn config c.args.table.now) c.in-Wait.is c.requires.numbers in
+    subst (AllByRecursion (λ e. e < length config.owners)) (sym (c.deref.ensures.value ∙ c.ecbs.view_is)) good.1.1
+
+pub wait_in-requires-clause-room : goal.wait_in-requires-clause-room
+wait_in-requires-clause-room g c =
+    let few = (subst (AreGoodIn c.args.station.now.config c.args.table.now) c.in-Wait.is c.requires.numbers).1.0 in
+    let size = ap length (c.deref.ensures.value ∙ c.ecbs.view_is) in
+    let room = (all_back (λ (slots : List WaitSlot). most_waited ≤ length slots) c.pop.new.self.items (c.in-Some.room ∷ [])
+    (subst HaveSlots c.in-Some.ensures.items c.requires.slots)).0 in
+    omega arith
+
+pub wait_in-requires-clause-left : goal.wait_in-requires-clause-left
+wait_in-requires-clause-left g c =
+    let left = c.args.task.now.left in
+    subst (λ (es : List ℕ). 2 * length es ≤ left) (sym (c.deref.ensures.value ∙ c.ecbs.view_is))
+    (subst (λ (d : Call). cost c.args.station.now.config d ≤ left) c.in-Wait.is c.requires.left)
 
 pub returns-in-Some-clause-makes : goal.returns-in-Some-clause-makes
 returns-in-Some-clause-makes g c =
@@ -11,3 +42,38 @@ returns-in-Some-clause-makes g c =
     plain_makes (call.Wait count c.in-Wait.ecbs) c.in-Wait.is refl refl
     (subst (λ (es : List ℕ). Serves c.args.station.now.config (service.Wait count es) c.wait_in.result c.args.task.now c.wait_in.new.task)
     (c.deref.ensures.value ∙ c.ecbs.view_is) c.wait_in.ensures)
+
+pub returns-in-Some-clause-count : goal.returns-in-Some-clause-count
+returns-in-Some-clause-count g c =
+    let none = ap (λ (d : Call). count_by is_obtain (d ∷ [])) c.in-Wait.is in omega arith
+
+pub returns-in-Some-clause-slots : goal.returns-in-Some-clause-slots
+returns-in-Some-clause-slots g c =
+    all_front (λ (slots : List WaitSlot). most_waited ≤ length slots) c.pop.new.self.items (c.in-Some.room ∷ [])
+    (subst HaveSlots c.in-Some.ensures.items c.requires.slots)
+
+pub returns-in-Some-clause-rooms : goal.returns-in-Some-clause-rooms
+returns-in-Some-clause-rooms g c =
+    let one = ap (λ (d : Call). count_by is_wait (d ∷ [])) c.in-Wait.is in
+    let more = ap length c.in-Some.ensures.items ∙ length-append c.pop.new.self.items (c.in-Some.room ∷ []) in
+    omega arith
+
+-- an OBTAIN
+pub ask-requires-clause-block : goal.ask-requires-clause-block
+ask-requires-clause-block g c =
+    let config = c.args.station.now.config in
+    posts_there config c.args.table.now c.in-Obtain.form
+    (subst (AreGoodIn config c.args.table.now) c.in-Obtain.is c.requires.numbers).1
+
+pub ask-requires-clause-left : goal.ask-requires-clause-left
+ask-requires-clause-left g c =
+    subst (λ (d : Call). cost c.args.station.now.config d ≤ c.args.task.now.left) c.in-Obtain.is c.requires.left
+
+pub ask-requires-clause-room : goal.ask-requires-clause-room
+ask-requires-clause-room g c = c.requires.room (ap is_obtain c.in-Obtain.is)
+
+pub returns-in-Obtain-clause-count : goal.returns-in-Obtain-clause-count
+returns-in-Obtain-clause-count g c =
+    let one = ap (λ (d : Call). count_by is_obtain (d ∷ [])) c.in-Obtain.is in
+    let count = c.ask.ensures.count in
+    omega arith
