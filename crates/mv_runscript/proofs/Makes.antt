@@ -1,5 +1,5 @@
 -- One call of a script, by what its service did.
-use Rattle.std.proofs.Common.{◌≡◌, ℕ, zero, suc, ◌-◌, false, List, [], ◌∷◌, ◌++◌, get_or, Option, Some, None}
+use Rattle.std.proofs.Common.{◌≡◌, ℕ, zero, suc, ◌-◌, ◌≤◌, false, List, [], ◌∷◌, ◌++◌, get_or, Option, Some, None}
 use Rattle.std.proofs.Common.{refl, sym, ap, ◌∙◌, subst, arith}
 use Rattle.std.specs.Prelude.{slice_get, option_map, option_and_then, unwrap_or, is_none}
 use Rattle.mv_board.specs.Faces.{CallerFace, Missed}
@@ -30,6 +30,10 @@ use Rattle.mv_runscript.specs.Making.{asked_by, requests_of, past_with, HasMet, 
 use Rattle.mv_runscript.specs.Served.{Serves}
 use Rattle.mv_runscript.proofs.Answers.{no_word, keeps_requests}
 use Rattle.mv_runscript.proofs.Served.{served_so, served_none, served_then}
+
+-- what a call may cost is left, once it is known which call that is
+pub paid : (c : Setup) {d e : Call} {left : ℕ} → d ≡ e → cost c d ≤ left → cost c e ≤ left
+paid c {d} {e} {left} is enough = subst (λ d. cost c d ≤ left) is enough
 
 -- ---- a call that is its service's
 
