@@ -12,7 +12,7 @@ use mv_line::number_within;
 use mv_replay::JournalCommand;
 
 /// What the program is to do.
-#[derive(Clone, Copy, Debug, PartialEq, Eq)]
+#[derive(Clone, Copy)]
 pub enum Command {
     /// Run the deck of the input with this many initiators, 1 to 8.
     Spool(u32),
