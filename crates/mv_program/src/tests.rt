@@ -6,11 +6,10 @@
 //! are parted by a line `==`.
 
 use super::*;
-use mv_io::{MemSink, MemSource, NoMemory, read_limited};
+use mv_io::{MemSink, MemSource, read_limited};
 use std::alloc::{AllocError, Global};
 use std::process::Abort;
 use std::sync::Wait;
-use std::test::Fail;
 use std::thread::Threads;
 
 mod failing_streams;
@@ -250,21 +249,36 @@ struct Streams {
     notes: MemSink,
 }
 
-fn new_streams(alloc: Global, input: &[u8]) -> Result<Streams, NoMemory> {
-    Ok(Streams {
-        input: MemSource::new(alloc, input, 1 << 20, &[])?,
-        report: MemSink::new(alloc, 4096, &[])?,
-        journal: MemSink::new(alloc, 1 << 24, &[])?,
-        notes: MemSink::new(alloc, 4096, &[])?,
-    })
+// A source of this text, which gives so many bytes a call, and fails at the call of this number. Here and below want of memory stops the
+// test: what returns nothing returns at its end alone, and so its caller holds nothing that an early return drops, which would be most
+// of its proof.
+fn source<X: Abort + AllocGlobal>(rt: &X, text: &[u8], step: usize, call: u64) -> MemSource {
+    let Ok(source) = MemSource::new(rt.alloc(), text, step.max(1), &[call]) else {
+        panic!(rt; "no memory for a source")
+    };
+    source
 }
 
-// Streams over this input, with room for what these runs write. Here and below want of memory stops the test: what returns nothing
-// returns at its end alone, and so its caller holds nothing that an early return drops, which would be most of its proof.
+// A sink with so much room, that takes so many bytes a call, and fails at the call of this number.
+fn sink<X: Abort + AllocGlobal>(rt: &X, [room, step, call]: [usize; 3]) -> MemSink {
+    let Ok(sink) = MemSink::stepped(rt.alloc(), room, step.max(1), &[call as u64]) else {
+        panic!(rt; "no memory for a sink")
+    };
+    sink
+}
+
+// Sinks that have room for what these runs write, and fail at no call: for a report or a note, and for a journal.
+const SHORT: [usize; 3] = [4096, 4096, 4096];
+
+const WIDE: [usize; 3] = [1 << 24, 1 << 24, 1 << 24];
+
+// Streams over this input, of which no call fails.
 fn streams_over<X: Abort + AllocGlobal>(rt: &X, input: &[u8]) -> Streams {
-    match new_streams(rt.alloc(), input) {
-        Ok(on) => on,
-        Err(_) => panic!(rt; "no memory for streams"),
+    Streams {
+        input: source(rt, input, 1 << 20, u64::MAX),
+        report: sink(rt, SHORT),
+        journal: sink(rt, WIDE),
+        notes: sink(rt, SHORT),
     }
 }
 
@@ -308,6 +322,23 @@ fn run<X: Abort + AllocGlobal + Threads + Wait + Sync>(
     run_by(rt, text, on, &OpenGate)
 }
 
+// These bytes are those. The row says of what run, here and below.
+fn assert_bytes<X: Abort>(rt: &X, bytes: &[u8], expected: &[u8], row: &str) {
+    assert_eq!(rt; bytes, expected, "{row}");
+}
+
+fn assert_text<X: Abort>(rt: &X, text: &[u8], expected: &str, row: &str) {
+    assert_bytes(rt, text, expected.as_bytes(), row);
+}
+
+fn assert_count<X: Abort>(rt: &X, count: u64, expected: u64, row: &str) {
+    assert_eq!(rt; count, expected, "{row}");
+}
+
+fn assert_exit<X: Abort>(rt: &X, status: Status, exit: u8, row: &str) {
+    assert_count(rt, status.exit() as u64, exit as u64, row);
+}
+
 // Runs a command: it ends with this exit, and leaves this report and this note.
 fn assert_ends<X: Abort + AllocGlobal + Threads + Wait + Sync>(
     rt: &X,
@@ -318,9 +349,9 @@ fn assert_ends<X: Abort + AllocGlobal + Threads + Wait + Sync>(
     note: &str,
 ) {
     let status = run(rt, words, on);
-    assert_eq!(rt; status.exit(), exit, "{words}");
-    assert_eq!(rt; on.report.bytes(), report.as_bytes());
-    assert_eq!(rt; on.notes.bytes(), note.as_bytes());
+    assert_exit(rt, status, exit, words);
+    assert_text(rt, on.report.bytes(), report, words);
+    assert_text(rt, on.notes.bytes(), note, words);
 }
 
 // Whether a text has this piece.
@@ -331,20 +362,26 @@ fn has(text: &[u8], piece: &str) -> bool {
     }
 }
 
-// The journal has this piece, and is a legal history, as `replay` judges it; without a piece there is none.
+// The journal is a legal history, as `replay` judges it.
+fn assert_legal<X: Abort + AllocGlobal + Threads + Wait + Sync>(rt: &X, journal: &[u8]) {
+    let mut on = streams_over(rt, journal);
+    let status = run(rt, "replay", &mut on);
+    assert_exit(rt, status, 0, "replay");
+    assert!(rt; on.report.bytes().starts_with(b"LEGAL "));
+}
+
+// The journal has this piece, and is legal; without a piece there is none.
 fn assert_journal<X: Abort + AllocGlobal + Threads + Wait + Sync>(
     rt: &X,
     journal: &[u8],
     piece: &str,
 ) {
     if piece.is_empty() {
-        assert!(rt; journal.is_empty());
-        return;
+        assert_text(rt, journal, "", "no journal");
+    } else {
+        assert!(rt; has(journal, piece), "{piece}");
+        assert_legal(rt, journal);
     }
-    assert!(rt; has(journal, piece), "{piece}");
-    let mut on = streams_over(rt, journal);
-    assert_eq!(rt; run(rt, "replay", &mut on), Status::Done);
-    assert!(rt; on.report.bytes().starts_with(b"LEGAL "));
 }
 
 // A run over this input ends with this exit, and leaves what is told, the report or the note, and a journal with this piece. It has read
@@ -361,35 +398,50 @@ fn assert_run<X: Abort + AllocGlobal + Threads + Wait + Sync>(
     let reads = exit != 2 && !words.starts_with("load ");
     let mut on = streams_over(rt, input.as_bytes());
     assert_ends(rt, words, &mut on, exit, report, note);
-    assert_left(
-        rt,
-        &mut on.input,
-        if reads { b"" } else { input.as_bytes() },
-    );
+    assert_left(rt, &mut on.input, if reads { "" } else { input });
     assert_journal(rt, on.journal.bytes(), piece);
 }
 
 // What is left of an input, which is short.
-fn assert_left<X: Abort + AllocGlobal>(rt: &X, input: &mut MemSource, expected: &[u8]) {
+fn assert_left<X: Abort + AllocGlobal>(rt: &X, input: &mut MemSource, expected: &str) {
     let Ok(left) = read_limited(rt.alloc(), input, 1000) else {
         panic!(rt; "more is left, or it can't be read")
     };
-    assert_eq!(rt; left.as_slice(), expected);
+    assert_text(rt, &left, expected, "what is left");
+}
+
+// What stands before and behind a piece of a text, which has it.
+fn parted<'a, X: Abort>(rt: &X, text: &'a str, piece: &str) -> (&'a str, &'a str) {
+    let Some(parts) = text.split_once(piece) else {
+        panic!(rt; "{text} has no {piece}")
+    };
+    parts
+}
+
+fn number_of<X: Abort>(rt: &X, text: &str) -> u8 {
+    let Ok(number) = text.parse::<u8>() else {
+        panic!(rt; "{text} is no number")
+    };
+    number
+}
+
+// A text for which there has to be memory.
+fn made<X: Abort>(rt: &X, text: Result<String, AllocError>) -> String {
+    match text {
+        Ok(text) => text,
+        Err(_) => panic!(rt; "no memory for a text"),
+    }
 }
 
 // Each row of a table.
-fn assert_rows<X: Abort + AllocGlobal + Threads + Wait + Sync>(
-    rt: &X,
-    rows: &str,
-) -> Result<(), Fail> {
+fn assert_rows<X: Abort + AllocGlobal + Threads + Wait + Sync>(rt: &X, rows: &str) {
     for row in rows.split("==\n") {
-        let (run, comes_to) = row.split_once("--\n").ok_or("no outcome")?;
-        let (words, input) = run.split_once('\n').ok_or("no words")?;
+        let (run, comes_to) = parted(rt, row, "--\n");
+        let (words, input) = parted(rt, run, "\n");
         let (outcome, piece) = comes_to.split_once("--\n").unwrap_or((comes_to, ""));
-        let (exit, told) = outcome.split_once('\n').ok_or("no exit")?;
-        assert_run(rt, words, input, exit.parse::<u8>()?, told, piece);
+        let (exit, told) = parted(rt, outcome, "\n");
+        assert_run(rt, words, input, number_of(rt, exit), told, piece);
     }
-    Ok(())
 }
 
 // A kind of text: the words of a command that reads it, how its faults are told, and the exit then.
@@ -425,19 +477,20 @@ fn assert_fault<X: Abort + AllocGlobal + Threads + Wait + Sync>(
     front: &str,
     row: &str,
     behind: &str,
-) -> Result<(), Fail> {
-    let (line, told) = row.split_once(' ').ok_or("no line")?;
-    let (kind, text) = told.split_once(' ').ok_or("no kind")?;
-    let kind = kind.parse::<u8>()?;
-    let text = format!(in rt.alloc(); "{front}{text}{behind}")?;
-    if kind == 0 {
+) {
+    let (line, told) = parted(rt, row, " ");
+    let (kind, text) = parted(rt, told, " ");
+    let text = made(rt, format!(in rt.alloc(); "{front}{text}{behind}"));
+    if number_of(rt, kind) == 0 {
         assert_no_fault(rt, format, &text, row);
-        return Ok(());
+    } else {
+        let name = format.name;
+        let note = made(
+            rt,
+            format!(in rt.alloc(); "{name} LINE {line} KIND {kind}\n"),
+        );
+        assert_told(rt, format, &text, &note, row);
     }
-    let name = format.name;
-    let note = format!(in rt.alloc(); "{name} LINE {line} KIND {kind}\n")?;
-    assert_told(rt, format, &text, &note, row);
-    Ok(())
 }
 
 // A text without fault, which this row made.
@@ -448,7 +501,8 @@ fn assert_no_fault<X: Abort + AllocGlobal + Threads + Wait + Sync>(
     row: &str,
 ) {
     let mut on = streams_over(rt, text.as_bytes());
-    assert_eq!(rt; run(rt, format.words, &mut on), Status::Done, "{row}");
+    let status = run(rt, format.words, &mut on);
+    assert_exit(rt, status, 0, row);
 }
 
 // A text of which this is noted, and nothing else is told. This row made it.
@@ -461,12 +515,10 @@ fn assert_told<X: Abort + AllocGlobal + Threads + Wait + Sync>(
 ) {
     let mut on = streams_over(rt, text.as_bytes());
     let status = run(rt, format.words, &mut on);
-    assert_eq!(rt; status.exit(), format.exit, "{row}");
-    assert_eq!(rt; on.notes.bytes(), note.as_bytes(), "{row}");
-    assert!(rt;
-        on.report.bytes().is_empty() && on.journal.bytes().is_empty(),
-        "{row}"
-    );
+    assert_exit(rt, status, format.exit, row);
+    assert_text(rt, on.notes.bytes(), note, row);
+    assert_text(rt, on.report.bytes(), "", row);
+    assert_text(rt, on.journal.bytes(), "", row);
 }
 
 // Texts by such rows, parted by semicolons, so that a test is as short to prove with many as with one. A row that begins with `#` says
@@ -477,38 +529,40 @@ fn assert_faults<X: Abort + AllocGlobal + Threads + Wait + Sync>(
     front: &str,
     rows: &str,
     behind: &str,
-) -> Result<(), Fail> {
+) {
     for row in rows.split(';') {
         if !row.starts_with('#') {
-            assert_fault(rt, format, front, row, behind)?;
+            assert_fault(rt, format, front, row, behind);
         }
     }
-    Ok(())
 }
 
 #[test]
-fn decks(rt: HostRuntime) -> Result<(), Fail> {
+fn decks(rt: HostRuntime) {
     assert_run(&rt, "spool 2", PAYROLL, 0, PAYROLL_REPORT, "= PURGED 0 0\n");
-    assert_rows(&rt, DECKS)
+    assert_rows(&rt, DECKS);
 }
 
 // Four events of the scheduler and four of the initiator, or five where its pause parked.
 #[test]
 fn no_job(rt: HostRuntime) {
     let mut on = streams_over(&rt, b"//\n");
-    assert_eq!(rt; run(&rt, "spool 1", &mut on), Status::Done);
-    let journal = on.journal.bytes();
+    assert_ends(&rt, "spool 1", &mut on, 0, NO_JOB_REPORT, "");
+    assert_short(&rt, on.journal.bytes());
+}
+
+fn assert_short<X: Abort>(rt: &X, journal: &[u8]) {
     assert!(rt; has(journal, "\nEND 8\n") || has(journal, "\nEND 9\n"));
 }
 
 #[test]
-fn decks_with_a_fault(rt: HostRuntime) -> Result<(), Fail> {
-    assert_rows(&rt, FAULTY_DECKS)
+fn decks_with_a_fault(rt: HostRuntime) {
+    assert_rows(&rt, FAULTY_DECKS);
 }
 
 #[test]
-fn loads(rt: HostRuntime) -> Result<(), Fail> {
-    assert_rows(&rt, LOADS)
+fn loads(rt: HostRuntime) {
+    assert_rows(&rt, LOADS);
 }
 
 #[test]
@@ -518,31 +572,34 @@ fn words_that_are_no_command(rt: HostRuntime) {
     }
 }
 
+// A text is refused for its bytes, with this exit and this note.
+fn assert_no_utf_8<X: Abort + AllocGlobal + Threads + Wait + Sync>(
+    rt: &X,
+    words: &str,
+    text: &[u8],
+    exit: u8,
+    note: &str,
+) {
+    let mut on = streams_over(rt, text);
+    assert_ends(rt, words, &mut on, exit, "", note);
+}
+
 // Bytes that no UTF-8 text has.
 #[test]
 fn texts_that_are_no_utf_8(rt: HostRuntime) {
-    for (words, text, exit, note) in [
-        ("script", b"\x80".as_slice(), 9, "SCRIPT LINE 1 KIND 1\n"),
-        (
-            "replay",
-            b"JOURNAL 1\n\xff\n",
-            11,
-            "JOURNAL LINE 2 KIND 1\n",
-        ),
-    ] {
-        let mut on = streams_over(&rt, text);
-        assert_ends(&rt, words, &mut on, exit, "", note);
-    }
+    let script = b"\x80";
+    assert_no_utf_8(&rt, "script", script, 9, "SCRIPT LINE 1 KIND 1\n");
+    let journal = b"JOURNAL 1\n\xff\n";
+    assert_no_utf_8(&rt, "replay", journal, 11, "JOURNAL LINE 2 KIND 1\n");
 }
 
 // Comments and the null statement, 1,048,576 bytes in all, and then one more.
 #[test]
-fn a_deck_at_the_limit_and_one_byte_more(rt: HostRuntime) -> Result<(), Fail> {
-    let mut deck = "//*\n".repeat(rt.alloc(), 262_142)?;
-    deck.push_str("//**\n//\n")?;
-    assert_eq!(rt; deck.len(), 1_048_576);
+fn a_deck_at_the_limit_and_one_byte_more(rt: HostRuntime) {
+    let comments = made(&rt, "//*\n".repeat(rt.alloc(), 262_142));
+    let deck = made(&rt, format!(in rt.alloc(); "{comments}//**\n//\n"));
+    assert_count(&rt, deck.len() as u64, 1_048_576, "the limit");
     assert_run(&rt, "spool 1", &deck, 0, NO_JOB_REPORT, "EVENTS");
-    deck.push_str("\n")?;
+    let deck = made(&rt, format!(in rt.alloc(); "{deck}\n"));
     assert_run(&rt, "spool 1", &deck, 4, "INPUT TOO LONG\n", "");
-    Ok(())
 }

@@ -10,43 +10,29 @@ use std::io::{ErrorKind, Read, Write};
 
 // Each byte is a call of its own, and one more finds the end. After that no call is made.
 #[test]
-fn a_source_that_fails_at_each_of_its_calls(rt: HostRuntime) -> Result<(), Fail> {
+fn a_source_that_fails_at_each_of_its_calls(rt: HostRuntime) {
     for call in 0..139 {
-        let input = MemSource::new(rt.alloc(), PAYROLL.as_bytes(), 1, &[call])?;
-        assert_read(&rt, input, 5, "", "READ FAILED\n");
+        assert_read(&rt, call, 5, "", "READ FAILED\n");
     }
-    let input = MemSource::new(rt.alloc(), PAYROLL.as_bytes(), 1, &[139])?;
-    assert_read(&rt, input, 0, PAYROLL_REPORT, "");
-    Ok(())
+    assert_read(&rt, 139, 0, PAYROLL_REPORT, "");
 }
 
-// A run whose deck is read from this source.
+// A run whose deck is read from a source that fails at this call.
 fn assert_read<X: Abort + AllocGlobal + Threads + Wait + Sync>(
     rt: &X,
-    input: MemSource,
+    call: u64,
     exit: u8,
     report: &str,
     note: &str,
 ) {
-    let mut on = streams_over(rt, b"");
-    on.input = input;
+    let mut on = Streams {
+        input: source(rt, PAYROLL.as_bytes(), 1, call),
+        report: sink(rt, SHORT),
+        journal: sink(rt, WIDE),
+        notes: sink(rt, SHORT),
+    };
     assert_ends(rt, "spool 2", &mut on, exit, report, note);
-    assert_eq!(rt; on.journal.bytes().is_empty(), exit != 0);
-}
-
-// A sink with so much room, that takes so many bytes a call, and fails at the call of this number.
-fn sink(alloc: Global, [room, step, call]: [usize; 3]) -> Result<MemSink, NoMemory> {
-    MemSink::stepped(alloc, room, step.max(1), &[call as u64])
-}
-
-// The deck, with such sinks for report and journal.
-fn streams_into(alloc: Global, sinks: [[usize; 3]; 2]) -> Result<Streams, NoMemory> {
-    Ok(Streams {
-        input: MemSource::new(alloc, PAYROLL.as_bytes(), 1 << 20, &[])?,
-        report: sink(alloc, sinks[0])?,
-        journal: sink(alloc, sinks[1])?,
-        notes: MemSink::new(alloc, 4096, &[])?,
-    })
+    assert!(rt; on.journal.bytes().is_empty() == (exit != 0));
 }
 
 // Report and journal are written to such sinks. So many bytes of the report stand there in the end, and behind a whole one a front of the
@@ -58,89 +44,94 @@ fn assert_written<X: Abort + AllocGlobal + Threads + Wait + Sync>(
     note: &str,
     length: usize,
     piece: &str,
-) -> Result<(), Fail> {
-    let report = PAYROLL_REPORT.get(..length).ok_or("a longer report")?;
-    let mut on = streams_into(rt.alloc(), sinks)?;
+) {
+    let mut on = Streams {
+        input: source(rt, PAYROLL.as_bytes(), 1 << 20, u64::MAX),
+        report: sink(rt, sinks[0]),
+        journal: sink(rt, sinks[1]),
+        notes: sink(rt, SHORT),
+    };
+    let report = front_of(rt, PAYROLL_REPORT, length);
     assert_ends(rt, "spool 2", &mut on, exit, report, note);
     if exit == 7 {
-        assert_eq!(rt; on.journal.bytes(), piece.as_bytes());
-        return Ok(());
+        assert_text(rt, on.journal.bytes(), piece, note);
+    } else {
+        assert_journal(rt, on.journal.bytes(), piece);
     }
-    assert_journal(rt, on.journal.bytes(), piece);
-    Ok(())
 }
 
-// A sink that has room for all, and fails at no call.
-const WIDE: [usize; 3] = [1 << 16, 1 << 16, 1 << 16];
+// So many bytes of a text, which has them.
+fn front_of<'a, X: Abort>(rt: &X, text: &'a str, length: usize) -> &'a str {
+    let Some(front) = text.get(..length) else {
+        panic!(rt; "no front of {length} bytes")
+    };
+    front
+}
 
 // The report has 150 bytes. A sink fails at once, fails at its third call and takes four bytes at a time, or has too little room.
 #[test]
-fn report_sinks_that_fail(rt: HostRuntime) -> Result<(), Fail> {
-    for (sink, length) in [([150, 150, 0], 0), ([150, 4, 2], 8)] {
-        assert_written(&rt, [sink, WIDE], 6, "REPORT FAILED\n", length, "")?;
-    }
+fn report_sinks_that_fail(rt: HostRuntime) {
+    let note = "REPORT FAILED\n";
+    assert_written(&rt, [[150, 150, 0], WIDE], 6, note, 0, "");
+    assert_written(&rt, [[150, 4, 2], WIDE], 6, note, 8, "");
     for room in 0..150 {
-        let sink = [room, 150, 150];
-        assert_written(&rt, [sink, WIDE], 6, "REPORT FAILED\n", room, "")?;
+        assert_written(&rt, [[room, 150, 150], WIDE], 6, note, room, "");
     }
-    Ok(())
 }
 
 #[test]
-fn journal_sinks_that_fail(rt: HostRuntime) -> Result<(), Fail> {
-    for (sink, front) in [([10, 10, 10], "JOURNAL 2\n"), ([4096, 4, 2], "JOURNAL ")] {
-        assert_written(&rt, [WIDE, sink], 7, "JOURNAL FAILED\n", 150, front)?;
-    }
-    Ok(())
+fn journal_sinks_that_fail(rt: HostRuntime) {
+    let note = "JOURNAL FAILED\n";
+    assert_written(&rt, [WIDE, [10, 10, 10]], 7, note, 150, "JOURNAL 2\n");
+    assert_written(&rt, [WIDE, [4096, 4, 2]], 7, note, 150, "JOURNAL ");
 }
 
 // Report and journal are whole where each call takes so many bytes, and the report's sink has just the room.
 #[test]
-fn sinks_that_take_little_at_a_time(rt: HostRuntime) -> Result<(), Fail> {
+fn sinks_that_take_little_at_a_time(rt: HostRuntime) {
     for step in [1, 2, 149, 150] {
         let sinks = [[150, step, 1 << 17], [1 << 16, step, 1 << 17]];
-        assert_written(&rt, sinks, 0, "", 150, "= PURGED 0 0\n")?;
+        assert_written(&rt, sinks, 0, "", 150, "= PURGED 0 0\n");
     }
-    Ok(())
 }
 
 // The notes can't be written whole, which changes no status.
 #[test]
-fn notes_that_fail_change_no_status(rt: HostRuntime) -> Result<(), Fail> {
-    for (notes, front) in [([0, 1, 9], ""), ([4096, 4, 2], "DECK LIN")] {
-        assert_noted(&rt, sink(rt.alloc(), notes)?, front);
-    }
-    Ok(())
+fn notes_that_fail_change_no_status(rt: HostRuntime) {
+    assert_noted(&rt, [0, 1, 9], "");
+    assert_noted(&rt, [4096, 4, 2], "DECK LIN");
 }
 
-// The note of an empty deck's fault is written to this sink, which takes a front of it.
+// The note of an empty deck's fault is written to such a sink, which takes a front of it.
 fn assert_noted<X: Abort + AllocGlobal + Threads + Wait + Sync>(
     rt: &X,
-    notes: MemSink,
+    notes: [usize; 3],
     front: &str,
 ) {
-    let mut on = streams_over(rt, b"");
-    on.notes = notes;
+    let mut on = Streams {
+        input: source(rt, b"", 1, u64::MAX),
+        report: sink(rt, SHORT),
+        journal: sink(rt, SHORT),
+        notes: sink(rt, notes),
+    };
     assert_ends(rt, "spool 1", &mut on, 3, "", front);
     assert_journal(rt, on.journal.bytes(), "");
 }
 
 #[test]
-fn decks_that_are_cut(rt: HostRuntime) -> Result<(), Fail> {
-    let table = [
+fn decks_that_are_cut(rt: HostRuntime) {
+    for (length, note) in [
         (0, "DECK LINE 1 KIND 12\n"),
         (89, "DECK LINE 6 KIND 8\n"),
         (115, "DECK LINE 7 KIND 6\n"),
         (135, "DECK LINE 9 KIND 12\n"),
         (136, "DECK LINE 9 KIND 3\n"),
-    ];
-    for (length, note) in table {
-        let front = PAYROLL.get(..length).ok_or("a longer deck")?;
+    ] {
+        let front = front_of(&rt, PAYROLL, length);
         assert_run(&rt, "spool 2", front, 3, note, "");
     }
-    let front = PAYROLL.get(..137).ok_or("a longer deck")?;
+    let front = front_of(&rt, PAYROLL, 137);
     assert_run(&rt, "spool 2", front, 0, PAYROLL_REPORT, "= PURGED 0 0\n");
-    Ok(())
 }
 
 // A reader and a writer of std that pass two bytes a call and fail at their second call.
@@ -181,15 +172,15 @@ impl Write for Worn {
 
 // Each error of the reader or the writer is one fault, and what succeeds later adds none.
 #[test]
-fn a_failing_stream_of_std_counts_one_fault(rt: HostRuntime) -> Result<(), Fail> {
+fn a_failing_stream_of_std_counts_one_fault(rt: HostRuntime) {
     let mut source = StdSource::new(Worn { calls: 0 });
-    let refusal = read_limited(rt.alloc(), &mut source, 9).err();
-    assert_eq!(rt; refusal, Some(ReadRefusal::Failed));
-    assert_eq!(rt; source.faults(), 1);
+    let read = read_limited(rt.alloc(), &mut source, 9);
+    assert!(rt; matches!(read, Err(ReadRefusal::Failed)));
+    assert_count(&rt, source.faults(), 1, "a source");
     let mut sink = StdSink::new(Worn { calls: 0 });
-    assert_eq!(rt; write_all(&mut sink, b"tasks"), Err(Partial { taken: 2 }));
-    assert_eq!(rt; sink.faults(), 1);
-    assert_eq!(rt; write_all(&mut sink, b"ks"), Ok(()));
-    assert_eq!(rt; sink.faults(), 1);
-    Ok(())
+    let written = write_all(&mut sink, b"tasks");
+    assert!(rt; matches!(written, Err(Partial { taken: 2 })));
+    assert_count(&rt, sink.faults(), 1, "a sink");
+    assert!(rt; write_all(&mut sink, b"ks").is_ok());
+    assert_count(&rt, sink.faults(), 1, "a sink");
 }

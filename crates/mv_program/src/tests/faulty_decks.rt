@@ -308,7 +308,7 @@ const VERSION_2: &str = "\
     4 8 // DECK 2\n//A JOB\n//\n//B JOB AFTER=A:9999";
 
 #[test]
-fn decks_by_their_first_fault(rt: HostRuntime) -> Result<(), Fail> {
+fn decks_by_their_first_fault(rt: HostRuntime) {
     for rows in [
         LINES_AND_COMMENTS,
         JOBS_AND_THEIR_LISTS,
@@ -316,41 +316,43 @@ fn decks_by_their_first_fault(rt: HostRuntime) -> Result<(), Fail> {
         LATCHES_AND_AMOUNTS,
         VERSION_2,
     ] {
-        assert_faults(&rt, &DECK, "", rows, "")?;
+        assert_faults(&rt, &DECK, "", rows, "");
     }
-    Ok(())
 }
 
-// A deck of so many jobs, the last with these steps, and a statement behind it, has this first fault.
-fn assert_heavy<X: Abort + AllocGlobal + Threads + Wait + Sync>(
-    rt: &X,
-    jobs: u32,
-    steps: &str,
-    note: &str,
-) -> Result<(), Fail> {
-    let text = heavy_deck(rt.alloc(), jobs, steps)?;
-    let mut on = streams_over(rt, text.as_bytes());
-    assert_ends(rt, "polled 1 0", &mut on, 3, "", note);
-    Ok(())
-}
+// The steps of a heavy deck's last job, but for one.
+const STEPS: &str = "\
+// USE 0 X
+// FREE 0
+// USE 0 X
+// FREE 0
+// USE 0 X
+// FREE 0
+// USE 0 X
+// FREE 0
+// USE 0 X
+";
 
-fn heavy_deck(alloc: Global, jobs: u32, steps: &str) -> Result<String, Fail> {
+// So many jobs, the last with these steps and one more, and a statement behind the null statement.
+fn heavy_deck(alloc: Global, jobs: u32, step: &str) -> Result<String, AllocError> {
     let mut text = String::new(alloc);
     for job in 0..jobs {
         text.push_str(&format!(in alloc; "//J{job:05} JOB\n")?)?;
     }
-    text.push_str(steps)?;
-    text.push_str("//\n// PRINT X\n")?;
-    Ok(text)
+    format!(in alloc; "{text}{STEPS}{step}//\n// PRINT X\n")
+}
+
+// A deck of 30,839 jobs, the last with such a step, has this first fault.
+fn assert_heavy<X: Abort + AllocGlobal + Threads + Wait + Sync>(rt: &X, step: &str, note: &str) {
+    let text = made(rt, heavy_deck(rt.alloc(), 30_839, step));
+    let mut on = streams_over(rt, text.as_bytes());
+    assert_ends(rt, "polled 1 0", &mut on, 3, "", note);
 }
 
 // 30,839 jobs weigh 524,272 for one initiator; USE and FREE weigh 3, USE and COUNT 4. At 524,287 the fault is that of the line
 // behind the null statement, and above it that of the last step.
 #[test]
-fn the_heaviest_deck(rt: HostRuntime) -> Result<(), Fail> {
-    let pairs = "// USE 0 X\n// FREE 0\n".repeat(rt.alloc(), 4)?;
-    let most = format!(in rt.alloc(); "{pairs}// USE 0 X\n// FREE 0\n")?;
-    assert_heavy(&rt, 30_839, &most, "DECK LINE 30851 KIND 11\n")?;
-    let more = format!(in rt.alloc(); "{pairs}// USE 0 X\n// COUNT 0 1\n")?;
-    assert_heavy(&rt, 30_839, &more, "DECK LINE 30849 KIND 14\n")
+fn the_heaviest_deck(rt: HostRuntime) {
+    assert_heavy(&rt, "// FREE 0\n", "DECK LINE 30851 KIND 11\n");
+    assert_heavy(&rt, "// COUNT 0 1\n", "DECK LINE 30849 KIND 14\n");
 }

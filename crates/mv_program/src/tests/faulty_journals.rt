@@ -80,10 +80,10 @@ const LIMITS: &str = "\
     7 3 JOURNAL 1\nCALLERS 1\nELEMENTS 1\nVOLUMES 1\nLATCHES 1\nQUOTA 1 2\nEVENTS\n";
 
 #[test]
-fn journals_with_a_fault_in_the_head(rt: HostRuntime) -> Result<(), Fail> {
-    assert_faults(&rt, &JOURNAL, "", HEADS, "")?;
-    assert_faults(&rt, &JOURNAL, COUNTS, LISTS, "")?;
-    assert_faults(&rt, &JOURNAL, "", LIMITS, "")
+fn journals_with_a_fault_in_the_head(rt: HostRuntime) {
+    for (front, rows) in [("", HEADS), (COUNTS, LISTS), ("", LIMITS)] {
+        assert_faults(&rt, &JOURNAL, front, rows, "");
+    }
 }
 
 const WORDS: &str = "\
@@ -181,17 +181,21 @@ const ENDS: &str = "\
     9 4 END 1\n\n";
 
 #[test]
-fn journals_with_a_fault_in_an_entry(rt: HostRuntime) -> Result<(), Fail> {
-    assert_faults(&rt, &JOURNAL, HEAD, WORDS, "")?;
-    assert_faults(&rt, &JOURNAL, HEAD, NUMBERS, "")?;
-    assert_faults(&rt, &JOURNAL, SECOND_HEAD, CALLS, "")?;
-    assert_faults(&rt, &JOURNAL, HEAD, ENDS, "")
+fn journals_with_a_fault_in_an_entry(rt: HostRuntime) {
+    for (front, rows) in [
+        (HEAD, WORDS),
+        (HEAD, NUMBERS),
+        (SECOND_HEAD, CALLS),
+        (HEAD, ENDS),
+    ] {
+        assert_faults(&rt, &JOURNAL, front, rows, "");
+    }
 }
 
 // One block more than the 131,072 that there may be; the line is that of EVENTS.
 #[test]
-fn a_journal_with_a_block_too_many(rt: HostRuntime) -> Result<(), Fail> {
-    let blocks = "ECB 0\n".repeat(rt.alloc(), 131_073)?;
-    let front = format!(in rt.alloc(); "{COUNTS}BUDGET 5\n{blocks}")?;
-    assert_faults(&rt, &JOURNAL, &front, "131081 3 EVENTS\n", "")
+fn a_journal_with_a_block_too_many(rt: HostRuntime) {
+    let blocks = made(&rt, "ECB 0\n".repeat(rt.alloc(), 131_073));
+    let front = made(&rt, format!(in rt.alloc(); "{COUNTS}BUDGET 5\n{blocks}"));
+    assert_faults(&rt, &JOURNAL, &front, "131081 3 EVENTS\n", "");
 }

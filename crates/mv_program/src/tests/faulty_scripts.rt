@@ -85,12 +85,16 @@ const MEETING: &str = "\
     3 6 SCRIPT 1\nTASK\nTASK\nX";
 
 #[test]
-fn scripts_whose_lines_are_out_of_order(rt: HostRuntime) -> Result<(), Fail> {
-    assert_faults(&rt, &SCRIPT, "", CUTS, "")?;
-    assert_faults(&rt, &SCRIPT, "", BEFORE_THE_SCRIPT, "")?;
-    assert_faults(&rt, &SCRIPT, "", OUT_OF_ORDER, "")?;
-    assert_faults(&rt, &SCRIPT, "", BYTES_AND_COUNTS, "")?;
-    assert_faults(&rt, &SCRIPT, "", MEETING, "")
+fn scripts_whose_lines_are_out_of_order(rt: HostRuntime) {
+    for rows in [
+        CUTS,
+        BEFORE_THE_SCRIPT,
+        OUT_OF_ORDER,
+        BYTES_AND_COUNTS,
+        MEETING,
+    ] {
+        assert_faults(&rt, &SCRIPT, "", rows, "");
+    }
 }
 
 // Eighty spaces: a line that ends with them is ignored or too long.
@@ -112,8 +116,8 @@ const TOO_LONG: &str = "\
     3 2 SCRIPT 1\nTASK\nEND";
 
 #[test]
-fn scripts_whose_lines_are_too_long(rt: HostRuntime) -> Result<(), Fail> {
-    assert_faults(&rt, &SCRIPT, "", TOO_LONG, SPACES)
+fn scripts_whose_lines_are_too_long(rt: HostRuntime) {
+    assert_faults(&rt, &SCRIPT, "", TOO_LONG, SPACES);
 }
 
 // A head of three lines.
@@ -224,11 +228,15 @@ const OTHER_LINES: &str = "\
     3 3 SCRIPT 1\nECB 0\nEXIT 0 1 1 1 1 1";
 
 #[test]
-fn scripts_with_calls_that_are_none(rt: HostRuntime) -> Result<(), Fail> {
-    assert_faults(&rt, &SCRIPT, HEAD, GOOD_CALLS, "\nX\nEND\n")?;
-    assert_faults(&rt, &SCRIPT, HEAD, NO_FORMS, "\nEND\n")?;
-    assert_faults(&rt, &SCRIPT, HEAD, BAD_NUMBERS, "\nEND\n")?;
-    assert_faults(&rt, &SCRIPT, "", OTHER_LINES, "")
+fn scripts_with_calls_that_are_none(rt: HostRuntime) {
+    for (front, rows, behind) in [
+        (HEAD, GOOD_CALLS, "\nX\nEND\n"),
+        (HEAD, NO_FORMS, "\nEND\n"),
+        (HEAD, BAD_NUMBERS, "\nEND\n"),
+        ("", OTHER_LINES, ""),
+    ] {
+        assert_faults(&rt, &SCRIPT, front, rows, behind);
+    }
 }
 
 // As many blocks as there may be, and one more, which may name no task.
@@ -261,23 +269,21 @@ fn assert_behind<X: Abort + AllocGlobal + Threads + Wait + Sync>(
     line: &str,
     times: usize,
     rows: &str,
-) -> Result<(), Fail> {
-    let lines = line.repeat(rt.alloc(), times)?;
-    let all = format!(in rt.alloc(); "{front}{lines}")?;
-    assert_faults(rt, &SCRIPT, &all, rows, "")
+) {
+    let lines = made(rt, line.repeat(rt.alloc(), times));
+    let all = made(rt, format!(in rt.alloc(); "{front}{lines}"));
+    assert_faults(rt, &SCRIPT, &all, rows, "");
 }
 
 #[test]
-fn scripts_with_one_too_many(rt: HostRuntime) -> Result<(), Fail> {
-    assert_behind(&rt, "SCRIPT 1\n", "ECB 0\n", 64, MANY_BLOCKS)?;
-    assert_behind(
-        &rt,
-        "SCRIPT 1\nECB 0\nECB 0\n",
-        "EXIT 0 1\n",
-        16,
-        MANY_EXITS,
-    )?;
-    assert_behind(&rt, "SCRIPT 2\nTASK\n", "READ 0\n", 128, MANY_CALLS)
+fn scripts_with_one_too_many(rt: HostRuntime) {
+    for (front, line, times, rows) in [
+        ("SCRIPT 1\n", "ECB 0\n", 64, MANY_BLOCKS),
+        ("SCRIPT 1\nECB 0\nECB 0\n", "EXIT 0 1\n", 16, MANY_EXITS),
+        ("SCRIPT 2\nTASK\n", "READ 0\n", 128, MANY_CALLS),
+    ] {
+        assert_behind(&rt, front, line, times, rows);
+    }
 }
 
 // Exits from each of the blocks 7 to 15 to four times the next one. So block 16 reaches 1, block 15 reaches 5, and so on up to
@@ -317,11 +323,12 @@ const MANY_COSTS: &str = "\
     157 6 WAIT 0";
 
 #[test]
-fn scripts_whose_calls_cost_too_much(rt: HostRuntime) -> Result<(), Fail> {
-    assert_faults(&rt, &SCRIPT, CHAIN, COSTS, "")?;
-    assert_faults(&rt, &SCRIPT, CHAIN, LONG_COSTS, SPACES)?;
-    let front = format!(in rt.alloc(); "{CHAIN}TASK\nPOST 7 0\nPOST 8 0\nPOST 8 0\n")?;
-    assert_behind(&rt, &front, "WAIT 0\n", 125, MANY_COSTS)
+fn scripts_whose_calls_cost_too_much(rt: HostRuntime) {
+    assert_faults(&rt, &SCRIPT, CHAIN, COSTS, "");
+    assert_faults(&rt, &SCRIPT, CHAIN, LONG_COSTS, SPACES);
+    let posts = "TASK\nPOST 7 0\nPOST 8 0\nPOST 8 0\n";
+    let front = made(&rt, format!(in rt.alloc(); "{CHAIN}{posts}"));
+    assert_behind(&rt, &front, "WAIT 0\n", 125, MANY_COSTS);
 }
 
 // Four blocks of task 0, and one of task 1. The lines are six.
@@ -367,8 +374,11 @@ const USES: &str = "\
     13 3 OBTAIN 2 9223372036854775807 X ECB 4\nFREE 1 U\nPURGE 9223372036854775807\nEOT 0 4 0\nX";
 
 #[test]
-fn scripts_with_a_table(rt: HostRuntime) -> Result<(), Fail> {
-    assert_faults(&rt, &SCRIPT, BLOCKS, TABLES, "\nTASK\nTASK\nEND\n")?;
-    let front = format!(in rt.alloc(); "{BLOCKS}TABLE 0 3 4 0 2 2\nTASK\n")?;
-    assert_faults(&rt, &SCRIPT, &front, USES, "\nTASK\nEND\n")
+fn scripts_with_a_table(rt: HostRuntime) {
+    assert_faults(&rt, &SCRIPT, BLOCKS, TABLES, "\nTASK\nTASK\nEND\n");
+    let front = made(
+        &rt,
+        format!(in rt.alloc(); "{BLOCKS}TABLE 0 3 4 0 2 2\nTASK\n"),
+    );
+    assert_faults(&rt, &SCRIPT, &front, USES, "\nTASK\nEND\n");
 }

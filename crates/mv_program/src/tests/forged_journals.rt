@@ -119,12 +119,12 @@ const MISNUMBERED: &str = "\
 ";
 
 // A journal in version 1, without the numbers of calls.
-pub(crate) fn unnumbered(alloc: Global, journal: &str) -> Result<String, AllocError> {
-    let mut text = journal.replace(alloc, "JOURNAL 2", "JOURNAL 1")?;
+pub(crate) fn unnumbered<X: Abort + AllocGlobal>(rt: &X, journal: &str) -> String {
+    let mut text = made(rt, journal.replace(rt.alloc(), "JOURNAL 2", "JOURNAL 1"));
     for number in [".0 ", ".1 ", ".2 ", ".3 "] {
-        text = text.replace(alloc, number, " ")?;
+        text = made(rt, text.replace(rt.alloc(), number, " "));
     }
-    Ok(text)
+    text
 }
 
 // Both commands on journals end with this exit, and with this note.
@@ -134,8 +134,9 @@ fn assert_refused<X: Abort + AllocGlobal + Threads + Wait + Sync>(
     exit: u8,
     note: &str,
 ) {
-    assert_run(rt, "replay", journal, exit, note, "");
-    assert_run(rt, "convert", journal, exit, note, "");
+    let note = made(rt, format!(in rt.alloc(); "{note}\n"));
+    assert_run(rt, "replay", journal, exit, &note, "");
+    assert_run(rt, "convert", journal, exit, &note, "");
 }
 
 // Each of these in turn is said of one event, and all others stay.
@@ -143,49 +144,47 @@ pub(crate) fn assert_forged<X: Abort + AllocGlobal + Threads + Wait + Sync>(
     rt: &X,
     journal: &str,
     forgeries: &str,
-) -> Result<(), Fail> {
+) {
     for row in forgeries.lines() {
-        let (refused, said) = row.split_once('|').ok_or("no event")?;
-        let (event, other) = said.split_once('|').ok_or("no other")?;
-        let (exit, note) = refused.split_once(' ').ok_or("no note")?;
-        let exit = exit.parse::<u8>()?;
-        let forged = journal.replace(rt.alloc(), event, other)?;
-        let note = format!(in rt.alloc(); "{note}\n")?;
-        assert_refused(rt, &forged, exit, &note);
+        let (refused, said) = parted(rt, row, "|");
+        let (event, other) = parted(rt, said, "|");
+        let (exit, note) = parted(rt, refused, " ");
+        let forged = made(rt, journal.replace(rt.alloc(), event, other));
+        assert_refused(rt, &forged, number_of(rt, exit), note);
     }
-    Ok(())
 }
 
 #[test]
-fn journals_that_are_forged(rt: HostRuntime) -> Result<(), Fail> {
-    let old = unnumbered(rt.alloc(), WAIT)?;
-    assert_forged(&rt, &old, FORGERIES)?;
-    assert_forged(&rt, WAIT, FORGERIES)?;
-    assert_forged(&rt, WAIT, MISNUMBERED)?;
-    assert_forged(&rt, PAUSE, FORGED_PAUSE)?;
+fn journals_that_are_forged(rt: HostRuntime) {
+    let old = unnumbered(&rt, WAIT);
+    for (journal, forgeries) in [
+        (old.as_str(), FORGERIES),
+        (WAIT, FORGERIES),
+        (WAIT, MISNUMBERED),
+        (PAUSE, FORGED_PAUSE),
+        (POSTS, FORGED_POSTS),
+    ] {
+        assert_forged(&rt, journal, forgeries);
+    }
     assert_run(&rt, "replay", POSTS, 0, "LEGAL 2 EVENTS\n", "");
-    assert_forged(&rt, POSTS, FORGED_POSTS)
 }
 
 // Both commands on a text that is cut before any of its bytes end in the line of that byte.
-fn assert_cut<X: Abort + AllocGlobal + Threads + Wait + Sync>(
-    rt: &X,
-    journal: &str,
-) -> Result<(), Fail> {
+fn assert_cut<X: Abort + AllocGlobal + Threads + Wait + Sync>(rt: &X, journal: &str) {
     for length in 0..journal.len() {
-        let front = journal.get(..length).ok_or("a front")?;
+        let Some(front) = journal.get(..length) else {
+            panic!(rt; "no front")
+        };
         let line = front.matches("\n").count().saturating_add(1);
-        let note = format!(in rt.alloc(); "JOURNAL LINE {line} KIND 5\n")?;
+        let note = made(rt, format!(in rt.alloc(); "JOURNAL LINE {line} KIND 5"));
         assert_refused(rt, front, 11, &note);
     }
-    Ok(())
 }
 
 #[test]
-fn a_journal_cut_at_each_length(rt: HostRuntime) -> Result<(), Fail> {
-    let old = unnumbered(rt.alloc(), PAUSE)?;
-    assert_cut(&rt, &old)?;
-    assert_cut(&rt, PAUSE)
+fn a_journal_cut_at_each_length(rt: HostRuntime) {
+    assert_cut(&rt, &unnumbered(&rt, PAUSE));
+    assert_cut(&rt, PAUSE);
 }
 
 // A journal of nine events is legal, and is converted to this one.
@@ -199,11 +198,9 @@ fn assert_converted<X: Abort + AllocGlobal + Threads + Wait + Sync>(
 }
 
 #[test]
-fn the_same_journal_in_both_versions(rt: HostRuntime) -> Result<(), Fail> {
+fn the_same_journal_in_both_versions(rt: HostRuntime) {
     for journal in [WAIT, PAUSE] {
-        let old = unnumbered(rt.alloc(), journal)?;
         assert_converted(&rt, journal, journal);
-        assert_converted(&rt, &old, journal);
+        assert_converted(&rt, &unnumbered(&rt, journal), journal);
     }
-    Ok(())
 }

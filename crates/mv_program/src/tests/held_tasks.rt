@@ -41,7 +41,7 @@ VOLUMES 12 0 0 0 0 0 0 0
 ";
 
 // Runs a deck while two points are held for a million rounds at most: both are reached, neither hold runs out, and the report is this.
-// The journal has each of these pieces.
+// The journal is legal, and has each of these pieces.
 fn assert_meets<X: Abort + AllocGlobal + Threads + Wait + Sync>(
     rt: &X,
     words: &str,
@@ -51,12 +51,30 @@ fn assert_meets<X: Abort + AllocGlobal + Threads + Wait + Sync>(
     pieces: &str,
 ) {
     let mut on = streams_over(rt, deck.as_bytes());
-    let gate = MeetGate::new(points.0, points.1, 1_000_000);
-    assert_eq!(rt; run_by(rt, words, &mut on, &gate), Status::Done);
-    assert!(rt; gate.met(), "{points:?}");
-    assert_eq!(rt; on.report.bytes(), report.as_bytes());
+    assert_held(rt, words, &mut on, points, 1_000_000, true);
+    assert_text(rt, on.report.bytes(), report, pieces);
+    assert_pieces(rt, on.journal.bytes(), pieces);
+    assert_legal(rt, on.journal.bytes());
+}
+
+// Runs a deck while two points are held, and says whether they meet.
+fn assert_held<X: Abort + AllocGlobal + Threads + Wait + Sync>(
+    rt: &X,
+    words: &str,
+    on: &mut Streams,
+    points: (Point, Point),
+    rounds: u64,
+    meet: bool,
+) {
+    let gate = MeetGate::new(points.0, points.1, rounds);
+    let status = run_by(rt, words, on, &gate);
+    assert_exit(rt, status, 0, words);
+    assert!(rt; gate.met() == meet, "{points:?}");
+}
+
+fn assert_pieces<X: Abort>(rt: &X, journal: &[u8], pieces: &str) {
     for piece in pieces.lines() {
-        assert_journal(rt, on.journal.bytes(), piece);
+        assert!(rt; has(journal, piece), "{piece}");
     }
 }
 
@@ -109,15 +127,13 @@ fn who_is_held_last_counts_last(rt: HostRuntime) {
 // Each is held at the first point until it has run out: the second comes only by what stands behind the first.
 #[test]
 fn each_point_comes_before_what_it_announces(rt: HostRuntime) {
-    for (first, second) in [
+    for points in [
         (Point::Entered(0), Point::Dispatched(0)),
         (Point::Dispatched(0), Point::Started(0)),
         (Point::Ended(0), Point::Written(0)),
     ] {
         let mut on = streams_over(&rt, PRINTS.as_bytes());
-        let gate = MeetGate::new(first, second, 100_000);
-        assert_eq!(rt; run_by(&rt, "spool 1", &mut on, &gate), Status::Done);
-        assert!(rt; !gate.met(), "{first:?}");
+        assert_held(&rt, "spool 1", &mut on, points, 100_000, false);
     }
 }
 
@@ -152,7 +168,8 @@ fn each_task_passes_its_points_by_its_own_number(rt: HostRuntime) {
         others: AtomicU64::new(0),
     };
     let mut on = streams_over(&rt, PRINTS.as_bytes());
-    assert_eq!(rt; run_by(&rt, "spool 1", &mut on, &gate), Status::Done);
-    assert_eq!(rt; gate.own.load(Ordering::SeqCst), 10);
-    assert_eq!(rt; gate.others.load(Ordering::SeqCst), 0);
+    let status = run_by(&rt, "spool 1", &mut on, &gate);
+    assert_exit(&rt, status, 0, "spool 1");
+    assert_count(&rt, gate.own.load(Ordering::SeqCst), 10, "its own");
+    assert_count(&rt, gate.others.load(Ordering::SeqCst), 0, "others");
 }

@@ -9,6 +9,7 @@ use super::forged_journals::{assert_forged, unnumbered};
 use super::*;
 use mv_calls::{number_calls, replay_calls};
 use mv_entrytext::{Journal, read_journal, write_journal, write_old_journal};
+use mv_io::NoMemory;
 use mv_machine::{Entry, HIGHEST_PLACE, replay};
 
 // Two callers, three blocks of callers 0, 0 and 1, and an exit from block 0 to block 1. The events stand from line 14 on: on block 0 each
@@ -137,9 +138,9 @@ const UNANSWERED: &str = "\
 ";
 
 #[test]
-fn each_cell_of_the_table(rt: HostRuntime) -> Result<(), Fail> {
+fn each_cell_of_the_table(rt: HostRuntime) {
     assert_run(&rt, "replay", CELLS, 0, "LEGAL 91 EVENTS\n", "");
-    assert_forged(&rt, CELLS, UNANSWERED)
+    assert_forged(&rt, CELLS, UNANSWERED);
 }
 
 // A post that runs an exit; a release and a pause behind it, as a transfer has them; and a pause behind a release that was refused.
@@ -244,12 +245,17 @@ fn are_low(entries: &[Entry]) -> bool
     entries.iter().all(|e| e.place <= HIGHEST_PLACE)
 }
 
-// The text in version 2 of what was read, where it is legal.
-fn converted(rt: &impl Abort, alloc: Global, journal: &Journal) -> Result<Vec<u8>, Fail> {
+// What was read is legal, and its text in version 2 is this.
+fn assert_converted(rt: &impl Abort, alloc: Global, journal: &Journal, text: &[u8]) {
     assert!(rt; are_low(&journal.entries));
     assert!(rt; journal.entries.len() < 4_294_967_296);
-    replay(alloc, &journal.config, &journal.entries)?;
-    Ok(write_journal(alloc, &journal.config, &journal.entries)?)
+    let Ok(_) = replay(alloc, &journal.config, &journal.entries) else {
+        panic!(rt; "an illegal history")
+    };
+    let Ok(written) = write_journal(alloc, &journal.config, &journal.entries) else {
+        panic!(rt; "no memory for a journal")
+    };
+    assert_bytes(rt, &written, text, "in version 2");
 }
 
 // The text in version 1 of what was read.
@@ -260,47 +266,55 @@ fn written_again(alloc: Global, journal: &Journal) -> Result<Vec<u8>, NoMemory>
 }
 
 // A text of version 1 is read, and written again.
-fn assert_read_back(rt: &impl Abort, alloc: Global, text: &[u8]) -> Result<(), Fail> {
+fn assert_read_back(rt: &impl Abort, alloc: Global, text: &[u8]) {
     assert!(rt; text.len() < 10_000);
     let Ok(journal) = read_journal(alloc, text) else {
         panic!(rt; "no journal")
     };
-    assert_eq!(rt; written_again(alloc, &journal)?.as_slice(), text);
-    Ok(())
+    let Ok(written) = written_again(alloc, &journal) else {
+        panic!(rt; "no memory for a journal")
+    };
+    assert_bytes(rt, &written, text, "in version 1");
 }
 
 // The numbers that were read are those of the calls, as mv_calls has them for those who have no text.
-fn assert_numbered(rt: &impl Abort, alloc: Global, journal: &Journal) -> Result<(), Fail> {
+fn assert_numbered(rt: &impl Abort, alloc: Global, journal: &Journal) {
     assert!(rt; are_low(&journal.entries) && journal.entries.len() < 100);
     assert!(rt; journal.calls.len() == journal.entries.len());
     let judged = replay_calls(alloc, &journal.config, &journal.entries, &journal.calls);
     assert!(rt; judged.is_ok());
-    let numbers = number_calls(alloc, &journal.config, &journal.entries)?;
-    assert_eq!(rt; numbers.as_slice(), journal.calls.as_slice());
-    Ok(())
+    let Ok(numbers) = number_calls(alloc, &journal.config, &journal.entries) else {
+        panic!(rt; "no memory for numbers")
+    };
+    assert!(rt; numbers.as_slice() == journal.calls.as_slice());
 }
 
-#[test]
-fn entries_of_one_call_have_one_number(rt: HostRuntime) -> Result<(), Fail> {
-    let old = unnumbered(rt.alloc(), CALLS)?;
-    assert_run(&rt, "convert", &old, 0, CALLS, "");
-    let text = CALLS.as_bytes();
+// A text of version 2 is read, and its numbers are those of the calls.
+fn assert_calls_read(rt: &impl Abort, alloc: Global, text: &[u8]) {
     assert!(rt; text.len() < 1000);
-    let journal = read_journal(rt.alloc(), text).ok().ok_or("a fault")?;
-    assert_eq!(rt; converted(&rt, rt.alloc(), &journal)?.as_slice(), text);
-    assert_numbered(&rt, rt.alloc(), &journal)
+    let Ok(journal) = read_journal(alloc, text) else {
+        panic!(rt; "no journal")
+    };
+    assert_converted(rt, alloc, &journal, text);
+    assert_numbered(rt, alloc, &journal);
 }
 
 #[test]
-fn exits_and_no_event(rt: HostRuntime) -> Result<(), Fail> {
-    let old = unnumbered(rt.alloc(), EXITS)?;
+fn entries_of_one_call_have_one_number(rt: HostRuntime) {
+    let old = unnumbered(&rt, CALLS);
+    assert_run(&rt, "convert", &old, 0, CALLS, "");
+    assert_calls_read(&rt, rt.alloc(), CALLS.as_bytes());
+}
+
+#[test]
+fn exits_and_no_event(rt: HostRuntime) {
+    let old = unnumbered(&rt, EXITS);
     assert_run(&rt, "convert", &old, 0, EXITS, "");
     assert_run(&rt, "replay", &old, 0, "LEGAL 0 EVENTS\n", "");
-    Ok(())
 }
 
 #[test]
-fn entries_at_the_ends_of_their_ranges(rt: HostRuntime) -> Result<(), Fail> {
+fn entries_at_the_ends_of_their_ranges(rt: HostRuntime) {
     assert_run(&rt, "replay", RANGES, 10, "ILLEGAL AT LINE 9\n", "");
-    assert_read_back(&rt, rt.alloc(), RANGES.as_bytes())
+    assert_read_back(&rt, rt.alloc(), RANGES.as_bytes());
 }

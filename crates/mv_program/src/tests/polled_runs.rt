@@ -30,14 +30,15 @@ END 9
 ";
 
 // Rows of decks, polled from the seed 5 on.
-fn polled(alloc: Global, rows: &str) -> Result<String, AllocError> {
-    let mut text = rows.replace(alloc, "spool 1\n", "polled 1 5\n")?;
-    text = text.replace(alloc, "spool 2\n", "polled 2 5\n")?;
-    text.replace(alloc, "spool 8\n", "polled 8 5\n")
+fn assert_polled<X: Abort + AllocGlobal + Threads + Wait + Sync>(rt: &X, rows: &str) {
+    let mut text = made(rt, rows.replace(rt.alloc(), "spool 1\n", "polled 1 5\n"));
+    text = made(rt, text.replace(rt.alloc(), "spool 2\n", "polled 2 5\n"));
+    text = made(rt, text.replace(rt.alloc(), "spool 8\n", "polled 8 5\n"));
+    assert_rows(rt, &text);
 }
 
 #[test]
-fn decks_are_polled(rt: HostRuntime) -> Result<(), Fail> {
+fn decks_are_polled(rt: HostRuntime) {
     assert_run(
         &rt,
         "polled 2 0",
@@ -46,17 +47,23 @@ fn decks_are_polled(rt: HostRuntime) -> Result<(), Fail> {
         PAYROLL_REPORT,
         "= PURGED 0 0\n",
     );
-    let decks = polled(rt.alloc(), DECKS)?;
-    assert_rows(&rt, decks.as_str())?;
-    let faulty = polled(rt.alloc(), FAULTY_DECKS)?;
-    assert_rows(&rt, faulty.as_str())
+    assert_polled(&rt, DECKS);
+    assert_polled(&rt, FAULTY_DECKS);
 }
 
 #[test]
 fn the_empty_deck_is_polled_in_one_order(rt: HostRuntime) {
     let mut on = streams_over(&rt, b"//\n");
     assert_ends(&rt, "polled 1 0", &mut on, 0, NO_JOB_REPORT, "");
-    assert_eq!(rt; on.journal.bytes(), NO_JOB_JOURNAL.as_bytes());
+    assert_text(&rt, on.journal.bytes(), NO_JOB_JOURNAL, "polled 1 0");
+}
+
+// A run of this deck.
+fn polled<X: Abort + AllocGlobal + Threads + Wait + Sync>(rt: &X, deck: &[u8]) -> Streams {
+    let mut on = streams_over(rt, deck);
+    let status = run(rt, "polled 4 7", &mut on);
+    assert_exit(rt, status, 0, "polled 4 7");
+    on
 }
 
 // One more run of this deck writes the same report and the same journal.
@@ -65,20 +72,19 @@ fn assert_again<X: Abort + AllocGlobal + Threads + Wait + Sync>(
     deck: &[u8],
     first: &Streams,
 ) {
-    let mut again = streams_over(rt, deck);
-    assert_eq!(rt; run(rt, "polled 4 7", &mut again), Status::Done);
-    assert_eq!(rt; again.report.bytes(), first.report.bytes());
-    assert_eq!(rt; again.journal.bytes(), first.journal.bytes());
+    let again = polled(rt, deck);
+    assert_bytes(rt, again.report.bytes(), first.report.bytes(), "again");
+    assert_bytes(rt, again.journal.bytes(), first.journal.bytes(), "again");
 }
 
 #[test]
-fn each_run_from_a_seed_is_the_same(rt: HostRuntime) -> Result<(), Fail> {
-    let deck = load_deck(rt.alloc(), 40)?;
-    let mut first = streams_over(&rt, &deck);
-    assert_eq!(rt; run(&rt, "polled 4 7", &mut first), Status::Done);
+fn each_run_from_a_seed_is_the_same(rt: HostRuntime) {
+    let Ok(deck) = load_deck(rt.alloc(), 40) else {
+        panic!(rt; "no memory for a deck")
+    };
+    let first = polled(&rt, &deck);
     for _ in 0..9 {
         assert_again(&rt, &deck, &first);
     }
     assert_journal(&rt, first.journal.bytes(), "\nEVENTS\n");
-    Ok(())
 }

@@ -7,15 +7,19 @@ fn answers_of<X: Abort + AllocGlobal + Threads + Wait + Sync>(
     rt: &X,
     script: &str,
     piece: &str,
-) -> Result<String, Fail> {
+) -> String {
     let mut on = streams_over(rt, script.as_bytes());
-    assert_eq!(rt; run(rt, "script", &mut on), Status::Done);
+    let status = run(rt, "script", &mut on);
+    assert_exit(rt, status, 0, "script");
     assert_journal(rt, on.journal.bytes(), piece);
-    text_of(rt.alloc(), on.report.bytes())
+    text_of(rt, on.report.bytes())
 }
 
-fn text_of(alloc: Global, bytes: &[u8]) -> Result<String, Fail> {
-    Ok(String::from_str(alloc, std::str::from_utf8(bytes)?)?)
+fn text_of<X: Abort + AllocGlobal>(rt: &X, bytes: &[u8]) -> String {
+    let Ok(text) = std::str::from_utf8(bytes) else {
+        panic!(rt; "no text")
+    };
+    made(rt, String::from_str(rt.alloc(), text))
 }
 
 // Two tasks that wait for each other's posts, and of which one may wait for the latch that the other holds.
@@ -36,13 +40,12 @@ END
 ";
 
 #[test]
-fn two_tasks_wait_for_each_other(rt: HostRuntime) -> Result<(), Fail> {
-    let answers = answers_of(&rt, PAIR, " E0 2 SETTLE = COMPLETE 3\n")?;
+fn two_tasks_wait_for_each_other(rt: HostRuntime) {
+    let answers = answers_of(&rt, PAIR, " E0 2 SETTLE = COMPLETE 3\n");
     assert!(rt; answers.starts_with("0 1 GRANTED\n0 2 "));
     assert!(rt; answers.contains("\n0 3 WAITED C4\n0 4 RELEASED "));
     assert!(rt; answers.contains("\n1 1 WAITED C3\n1 2 "));
     assert!(rt; answers.ends_with("\n1 3 GRANTED\n"));
-    Ok(())
 }
 
 // A task waits for a block that another posts.
@@ -57,10 +60,9 @@ END
 ";
 
 #[test]
-fn a_task_waits_for_another(rt: HostRuntime) -> Result<(), Fail> {
-    let answers = answers_of(&rt, ONE_WAITS, " E0 2 SETTLE = COMPLETE 3\n")?;
+fn a_task_waits_for_another(rt: HostRuntime) {
+    let answers = answers_of(&rt, ONE_WAITS, " E0 2 SETTLE = COMPLETE 3\n");
     assert!(rt; answers.starts_with("0 1 WAITED C3\n1 1 "));
-    Ok(())
 }
 
 // Of sixteen posts of one block by two tasks one is taken, and each other is told its code.
@@ -88,17 +90,21 @@ POST 0 18
 END
 ";
 
+// A text has this piece so many times.
+fn assert_times<X: Abort>(rt: &X, text: &str, piece: &str, times: u64) {
+    assert_count(rt, text.matches(piece).count() as u64, times, piece);
+}
+
 #[test]
-fn one_of_sixteen_posts_is_taken(rt: HostRuntime) -> Result<(), Fail> {
-    let answers = answers_of(&rt, POSTS_OF_ONE_BLOCK, " = POSTED\n")?;
+fn one_of_sixteen_posts_is_taken(rt: HostRuntime) {
+    let answers = answers_of(&rt, POSTS_OF_ONE_BLOCK, " = POSTED\n");
     let told = if answers.starts_with("0 1 POSTED\n") {
         " ALREADY 1\n"
     } else {
         " ALREADY 11\n"
     };
-    assert_eq!(rt; answers.matches(" POSTED\n").count(), 1);
-    assert_eq!(rt; answers.matches(told).count(), 15);
-    Ok(())
+    assert_times(&rt, &answers, " POSTED\n", 1);
+    assert_times(&rt, &answers, told, 15);
 }
 
 // The owner of a table takes the events that two other tasks post.
@@ -120,13 +126,12 @@ END
 ";
 
 #[test]
-fn events_come_in_the_order_of_their_completion(rt: HostRuntime) -> Result<(), Fail> {
-    let answers = answers_of(&rt, EVENTS_OF_TWO, " V0 0 READ = VALUE 0\n")?;
+fn events_come_in_the_order_of_their_completion(rt: HostRuntime) {
+    let answers = answers_of(&rt, EVENTS_OF_TWO, " V0 0 READ = VALUE 0\n");
     let told = if answers.ends_with("1 1 ENTERED 0\n2 1 ENTERED 1\n") {
         "0 1 EVENT 0 1073741829\n0 2 EVENT 1 1073741830\n1 1 "
     } else {
         "0 1 EVENT 1 1073741830\n0 2 EVENT 0 1073741829\n1 1 "
     };
     assert!(rt; answers.starts_with(told));
-    Ok(())
 }

@@ -756,26 +756,26 @@ SCRIPT LINE 8 KIND 12
 ";
 
 #[test]
-fn scripts_of_each_service(rt: HostRuntime) -> Result<(), Fail> {
-    assert_rows(&rt, SERVICES)
+fn scripts_of_each_service(rt: HostRuntime) {
+    assert_rows(&rt, SERVICES);
 }
 
 #[test]
-fn scripts_that_ask_for_what_is_not_theirs(rt: HostRuntime) -> Result<(), Fail> {
-    assert_rows(&rt, OTHERS)
+fn scripts_that_ask_for_what_is_not_theirs(rt: HostRuntime) {
+    assert_rows(&rt, OTHERS);
 }
 
 #[test]
-fn scripts_with_tokens_that_are_over(rt: HostRuntime) -> Result<(), Fail> {
-    assert_rows(&rt, OVER)
+fn scripts_with_tokens_that_are_over(rt: HostRuntime) {
+    assert_rows(&rt, OVER);
 }
 
 #[test]
-fn scripts_with_requests_that_wait_and_are_too_many(rt: HostRuntime) -> Result<(), Fail> {
-    assert_rows(&rt, REQUESTS)
+fn scripts_with_requests_that_wait_and_are_too_many(rt: HostRuntime) {
+    assert_rows(&rt, REQUESTS);
 }
 
 #[test]
-fn scripts_with_a_fault(rt: HostRuntime) -> Result<(), Fail> {
-    assert_rows(&rt, FAULTS)
+fn scripts_with_a_fault(rt: HostRuntime) {
+    assert_rows(&rt, FAULTS);
 }
