@@ -6,7 +6,7 @@ ghost use Rattle.mv_entrytext.specs.EcbText.{ecb_op, ecb_reply};
 ghost use Rattle.mv_entrytext.specs.ElementText.{element_op, element_reply};
 ghost use Rattle.mv_entrytext.specs.VolumeText.{volume_op, volume_reply};
 ghost use Rattle.mv_entrytext.specs.LatchText.{latch_op, latch_reply};
-ghost use Rattle.mv_entrytext.specs.Reading.{seen};
+ghost use Rattle.mv_entrytext.specs.Reading.{seen, made};
 ghost use Rattle.mv_entrytext.specs.Widths.{caller_width, entry_width, event_width, front_width, object_width, op_width, reply_width};
 ghost use Rattle.mv_entrytext.specs.EntryText.{caller_text, caller_read, object_text, op_text, reply_text, entry_text, object_read};
 ghost use Rattle.mv_entrytext.specs.EntryText.{deed, deed_on, entry_on, entry_read};
@@ -18,10 +18,7 @@ use crate::number::{after, any_u32, number_u32, u32_behind};
 use crate::reserved::{put_number, put_word};
 use crate::version::Version;
 use crate::volume::{put_volume_op, put_volume_reply, read_volume_op, read_volume_reply};
-use mv_ecb::{EcbOp, EcbReply};
-use mv_element::{ElementOp, ElementReply};
-use mv_latch::{LatchOp, LatchReply};
-use mv_machine::{Entry, HIGHEST_PLACE, Object, Op, Reply, VolumeOp, VolumeReply};
+use mv_machine::{Entry, HIGHEST_PLACE, Object, Op, Reply};
 
 #[inline(always)]
 fn put_object(out: &mut Vec<u8>, object: Object)
@@ -147,42 +144,42 @@ fn read_object(strict: bool, text: &[u8]) -> Option<(Object, &[u8])>
 // An operation on an event control block, and its reply. Most entries of a run have these, so what reads them is inlined.
 #[inline(always)]
 #[tactic(auto, unfolding(crate::specs::Reading::parted_at, crate::specs::Reading::behind))]
-fn read_ecb_deed(strict: bool, text: &[u8]) -> Option<((EcbOp, EcbReply), &[u8])>
-    ensures { seen result ≡ deed (ecb_op strict) (ecb_reply strict) text.now }
+fn read_ecb_deed(strict: bool, text: &[u8]) -> Option<((Op, Reply), &[u8])>
+    ensures { seen result ≡ made (λ x. (Op.Ecb x.0, Reply.Ecb x.1)) (deed (ecb_op strict) (ecb_reply strict)) text.now }
 {
     let (op, rest) = read_ecb_op(strict, text)?;
     let (reply, rest) = read_ecb_reply(strict, after(rest, b" = ")?)?;
-    Some(((op, reply), rest))
+    Some(((Op::Ecb(op), Reply::Ecb(reply)), rest))
 }
 
 // The same on a pause element.
 #[tactic(auto, unfolding(crate::specs::Reading::parted_at, crate::specs::Reading::behind))]
-fn read_element_deed(strict: bool, text: &[u8]) -> Option<((ElementOp, ElementReply), &[u8])>
-    ensures { seen result ≡ deed (element_op strict) (element_reply strict) text.now }
+fn read_element_deed(strict: bool, text: &[u8]) -> Option<((Op, Reply), &[u8])>
+    ensures { seen result ≡ made (λ x. (Op.Element x.0, Reply.Element x.1)) (deed (element_op strict) (element_reply strict)) text.now }
 {
     let (op, rest) = read_element_op(strict, text)?;
     let (reply, rest) = read_element_reply(strict, after(rest, b" = ")?)?;
-    Some(((op, reply), rest))
+    Some(((Op::Element(op), Reply::Element(reply)), rest))
 }
 
 // The same on a volume.
 #[tactic(auto, unfolding(crate::specs::Reading::parted_at, crate::specs::Reading::behind))]
-fn read_volume_deed(strict: bool, text: &[u8]) -> Option<((VolumeOp, VolumeReply), &[u8])>
-    ensures { seen result ≡ deed (volume_op strict) (volume_reply strict) text.now }
+fn read_volume_deed(strict: bool, text: &[u8]) -> Option<((Op, Reply), &[u8])>
+    ensures { seen result ≡ made (λ x. (Op.Volume x.0, Reply.Volume x.1)) (deed (volume_op strict) (volume_reply strict)) text.now }
 {
     let (op, rest) = read_volume_op(strict, text)?;
     let (reply, rest) = read_volume_reply(strict, after(rest, b" = ")?)?;
-    Some(((op, reply), rest))
+    Some(((Op::Volume(op), Reply::Volume(reply)), rest))
 }
 
 // The same on the latch set.
 #[tactic(auto, unfolding(crate::specs::Reading::parted_at, crate::specs::Reading::behind))]
-fn read_latch_deed(strict: bool, text: &[u8]) -> Option<((LatchOp, LatchReply), &[u8])>
-    ensures { seen result ≡ deed (latch_op strict) (latch_reply strict) text.now }
+fn read_latch_deed(strict: bool, text: &[u8]) -> Option<((Op, Reply), &[u8])>
+    ensures { seen result ≡ made (λ x. (Op.Latch x.0, Reply.Latch x.1)) (deed (latch_op strict) (latch_reply strict)) text.now }
 {
     let (op, rest) = read_latch_op(strict, text)?;
     let (reply, rest) = read_latch_reply(strict, after(rest, b" = ")?)?;
-    Some(((op, reply), rest))
+    Some(((Op::Latch(op), Reply::Latch(reply)), rest))
 }
 
 // What was done on an object is of its kind. It is inlined, as what reads an entry is: an entry is large, and would be moved once more.
@@ -191,22 +188,10 @@ fn read_deed(strict: bool, object: Object, text: &[u8]) -> Option<((Op, Reply), 
     ensures { seen result ≡ deed_on strict object text.now }
 {
     match object {
-        Object::Ecb(_) => {
-            let ((op, reply), rest) = read_ecb_deed(strict, text)?;
-            Some(((Op::Ecb(op), Reply::Ecb(reply)), rest))
-        }
-        Object::Element(_) => {
-            let ((op, reply), rest) = read_element_deed(strict, text)?;
-            Some(((Op::Element(op), Reply::Element(reply)), rest))
-        }
-        Object::Volume(_) => {
-            let ((op, reply), rest) = read_volume_deed(strict, text)?;
-            Some(((Op::Volume(op), Reply::Volume(reply)), rest))
-        }
-        Object::Latches => {
-            let ((op, reply), rest) = read_latch_deed(strict, text)?;
-            Some(((Op::Latch(op), Reply::Latch(reply)), rest))
-        }
+        Object::Ecb(_) => read_ecb_deed(strict, text),
+        Object::Element(_) => read_element_deed(strict, text),
+        Object::Volume(_) => read_volume_deed(strict, text),
+        Object::Latches => read_latch_deed(strict, text),
     }
 }
 
