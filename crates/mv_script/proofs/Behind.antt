@@ -348,6 +348,14 @@ module _ (earlier : List Statement) (n : Notes) (b : Stands earlier n) where
       ap (map c) (tasks_are begun) ∙ map-append c n.finished (n.calls ∷ [])
       ∙ sym (ap (λ (l : List ℕ). l ++ n.spent ∷ []) b.far.budgets ∙ ap (λ (m : ℕ). map c n.finished ++ m ∷ []) b.far.spent)
 
+  -- the last of them and what is left are within what all may cost
+  pub spends_within : is_some n.costs ≡ true → n.spent + n.room ≤ events_limit
+  spends_within begun =
+      let all : sum (budgets_in p) ≡ sum n.budgets + n.spent =
+      ap sum (budgets_are begun) ∙ sum_by_push (λ (m : ℕ). m) n.budgets n.spent in
+      let room = b.far.room in
+      omega arith
+
   -- behind END a task has begun, and there are as many as are stated
   pub ended_well : n.ended ≡ true → (is_some n.costs ≡ true) × ((1 ≤ p.stated) × (length p.tasks ≡ p.stated))
   ended_well e =

@@ -1,7 +1,8 @@
 -- A call, in the order of the kinds.
-use Rattle.std.proofs.Common.{◌≡◌, ℕ, ◌+◌, Bool, List, [], true, false, length, refl, sym, ap, subst, ◌∙◌, arith, ◌<◌, ◌≤◌, Option, Some}
+use Rattle.std.proofs.Common.{◌≡◌, ℕ, ◌+◌, Bool, List, [], ◌∷◌, true, false, length, refl, sym, ap, subst, ◌∙◌, arith, ◌<◌, ◌≤◌, Option, Some}
 use Rattle.std.specs.Prelude.{is_some, nat_le, replicate}
 use Rattle.std.proofs.lemmas.Bool.{le-leb, lt-leb}
+use Rattle.std.proofs.lemmas.List.Sums.{count_by-le-length}
 use Rattle.mv_machine.specs.Setup.{Setup}
 use Rattle.mv_calls.specs.declared.table.Table.{Table}
 use Rattle.mv_script.specs.declared.call.Call.{Call}
@@ -11,10 +12,10 @@ use Rattle.mv_script.specs.Costs.{cost}
 use Rattle.mv_script.specs.Fault.{is_out_of_order, is_miscounted, lacks_obtain, is_no_obtain, obtain_meant, uses_table}
 use Rattle.mv_script.specs.Limits.{most_calls}
 use Rattle.mv_script.specs.Reading.{Notes, notes_of, Stands, HasCosts, progress_of, setup_in}
-use Rattle.mv_script.specs.Script.{task_count, owners_of, exits_of, table_of}
+use Rattle.mv_script.specs.Script.{task_count, owners_of, exits_of, table_of, is_obtain}
 use Rattle.mv_script.specs.Sound.{HasGoodNumbers}
 use Rattle.mv_script.specs.Table.{uses_any}
-use Rattle.mv_script.proofs.Behind.{late_call, last_calls, too_much, not_much, taken_call}
+use Rattle.mv_script.proofs.Behind.{late_call, last_calls, spends_within, too_much, not_much, taken_call}
 use Rattle.mv_script.proofs.Costs.{cost_same}
 use Rattle.mv_script.proofs.Told.{many, none, much, used}
 use Rattle.mv_script.proofs.reading.Reading.take_call.Goals.{After-lacks_obtain}
@@ -118,6 +119,18 @@ returns-then-uses_any c = λ earlier b good.
     used earlier (statement.Call c.args.call) a.0 a.1 refl (a.2 ∙ c.if-lacks_obtain.false) e
     (use_stated earlier n b c.args.call c.in-Some.costs c.in-Some.is c.if-self.false c.stated_table.result c.uses_any.result
     c.stated_table.ensures c.uses_any.ensures ∙ c.if-uses_any.true)
+
+pub overflow_add-self : goal.overflow_add-self
+overflow_add-self c =
+    let within = spends_within c.requires.0 (notes_of c.args.self.now) c.requires.1.0 (ap is_some c.in-Some.is) in
+    omega (arith, c.if-cost-self.false)
+
+pub overflow_add-self-2 : goal.overflow_add-self-2
+overflow_add-self-2 c =
+    let before = c.requires.1.0.far.obtains in
+    let few = count_by-le-length is_obtain (notes_of c.args.self.now).calls in
+    let one = count_by-le-length is_obtain (c.args.call ∷ []) in
+    omega (arith, c.obtain_count.ensures, c.len.ensures, c.if-len-ge-MOST_CALLS.false)
 
 pub returns : goal.returns
 returns c = λ earlier b good.
