@@ -1,6 +1,6 @@
 //! The words of the command line: `specs/Command.antt`.
 
-ghost use Rattle.std.specs.Prelude.{◌≡◌, map, IfSome};
+ghost use Rattle.std.specs.Prelude.{◌≡◌, [], ◌∷◌, map, IfSome};
 ghost use Rattle.std.specs.String.{string_bytes};
 ghost use Rattle.mv_program.specs.Command.{command_of as command_by_words, initiators_of as initiators_by_word, jobs_of};
 ghost use Rattle.mv_program.specs.Command.{load_of as load_by_numbers, polled_of as polled_by_numbers, seed_of};
@@ -75,23 +75,52 @@ fn polled_of(initiators: &[u8], seed: &[u8]) -> Option<Command>
     Some(Command::Polled(initiators, seed))
 }
 
+// The command that one word is, where it is one.
+fn command_of_one(word: &str) -> Option<Command>
+    ensures command { result ≡ command_by_words (word.now ∷ []) }
+    ensures runnable { IfSome result IsRunnable }
+{
+    match word {
+        "script" => Some(Command::Script),
+        "replay" => Some(Command::Journal(JournalCommand::Replay)),
+        "convert" => Some(Command::Journal(JournalCommand::Convert)),
+        _ => None,
+    }
+}
+
+// The command that two words are, where they are one.
+fn command_of_two(word: &str, second: &[u8]) -> Option<Command>
+    ensures command { result ≡ command_by_words (word.now ∷ second.now ∷ []) }
+    ensures runnable { IfSome result IsRunnable }
+{
+    match word {
+        "spool" => Some(Command::Spool(initiators_of(second)?)),
+        _ => None,
+    }
+}
+
+// The command that three words are, where they are one.
+fn command_of_three(word: &str, second: &[u8], third: &[u8]) -> Option<Command>
+    ensures command { result ≡ command_by_words (word.now ∷ second.now ∷ third.now ∷ []) }
+    ensures runnable { IfSome result IsRunnable }
+{
+    match word {
+        "load" => load_of(second, third),
+        "polled" => polled_of(second, third),
+        _ => None,
+    }
+}
+
 /// The command that the words are, where they are one.
 pub(crate) fn command_of(words: &[String]) -> Option<Command>
     ensures command { result ≡ command_by_words (map string_bytes words.now) }
     ensures runnable { IfSome result IsRunnable }
 {
     match words {
-        [word] if word.as_str() == "script" => Some(Command::Script),
-        [word] if word.as_str() == "replay" => Some(Command::Journal(JournalCommand::Replay)),
-        [word] if word.as_str() == "convert" => Some(Command::Journal(JournalCommand::Convert)),
-        [word, initiators] if word.as_str() == "spool" => {
-            Some(Command::Spool(initiators_of(initiators.as_bytes())?))
-        }
-        [word, jobs, initiators] if word.as_str() == "load" => {
-            load_of(jobs.as_bytes(), initiators.as_bytes())
-        }
-        [word, initiators, seed] if word.as_str() == "polled" => {
-            polled_of(initiators.as_bytes(), seed.as_bytes())
+        [word] => command_of_one(word.as_str()),
+        [word, second] => command_of_two(word.as_str(), second.as_bytes()),
+        [word, second, third] => {
+            command_of_three(word.as_str(), second.as_bytes(), third.as_bytes())
         }
         _ => None,
     }
