@@ -7,8 +7,11 @@ ghost use Rattle.mv_calls.specs.Keeping.{kept_of};
 ghost use Rattle.mv_calls.specs.Rest.{IsAtRest};
 ghost use Rattle.mv_board.specs.Faces.{IsOf};
 
-use mv_wait::{Station, Task};
+use mv_machine::{Config, Exit, ValidConfig};
+use mv_wait::{PostAnswer, Station, Task};
+use std::alloc::Global;
 use std::hint;
+use std::marker::Model;
 use std::process::Abort;
 use std::sync::Wait;
 
@@ -23,11 +26,81 @@ const ROUNDS: u32 = 10_000;
 // The completion bit of a block's word.
 const COMPLETE: u32 = 1 << 30;
 
+// The code of each post and release.
+const CODE: u32 = 7;
+
 // Takes longer than a task spins and yields before it parks.
 fn linger() {
     for _ in 0..20_000u32 {
         hint::spin_loop();
     }
+}
+
+// Two tasks with these budgets and two elements each, eight latches, blocks of these owners, and these exits.
+fn setup(
+    rt: &impl Abort,
+    alloc: Global,
+    budgets: Vec<u32>,
+    owners: Vec<u32>,
+    exits: Vec<Exit>,
+) -> ValidConfig
+    ensures { result.callers ≡ 2 }
+{
+    let config = Config {
+        callers: 2,
+        elements_per_caller: 2,
+        volumes: 1,
+        latches: 8,
+        quota: 8,
+        posted_quota: 1,
+        budgets,
+        owners,
+        exits,
+    };
+    config.check(alloc).expect(rt, "a configuration")
+}
+
+// A new station of such a configuration, and its tasks.
+fn open(
+    rt: &impl Abort,
+    alloc: Global,
+    first: u32,
+    second: u32,
+    owners: Vec<u32>,
+    exits: Vec<Exit>,
+) -> (Station, Task, Task)
+    ensures callers { result.0.config.callers ≡ 2 }
+    ensures first { IsOf result.0 result.1 × (result.1.number ≡ 0) × IsAtRest result.1.log }
+    ensures second { IsOf result.0 result.2 × (result.2.number ≡ 1) × IsAtRest result.2.log }
+{
+    let budgets = vec![in alloc; first, second].expect(rt, "room for two budgets");
+    let config = setup(rt, alloc, budgets, owners, exits);
+    let (station, mut tasks) = Station::open(alloc, config).expect(rt, "memory for a station");
+    let second = station.take_last(&mut tasks);
+    let first = station.take_last(&mut tasks);
+    (station, first, second)
+}
+
+// Lets a station and its tasks go. A test that did so itself would be proved in many times the time.
+fn end(_station: Station, _first: Task, _second: Task) {}
+
+// A task at rest, with its station: what each call asks for.
+#[derive(Drop)]
+struct Worker<'a> {
+    station: &'a Station,
+    task: Task,
+}
+
+impl<'a> Model for Worker<'a> {
+    ghost use Rattle.std.specs.Prelude.{ℕ};
+    ghost use Rattle.mv_board.specs.Faces.{BoardFace, IsOf};
+    ghost use Rattle.mv_calls.specs.Rest.{IsAtRest};
+
+    ghost Value = { BoardFace × ℕ };
+
+    ghost view = { λ w. (w.station.now, w.task.number) };
+
+    ghost invariant = { λ w. IsOf w.station.now w.task × IsAtRest w.task.log };
 }
 
 // Stops the test where there is no such block.
@@ -51,17 +124,48 @@ fn assert_may_wait(rt: &impl Abort, station: &Station, task: &Task, ecb: u32)
     assert!(rt; task.left() >= 3);
 }
 
-// Waits for a block of the task's own until it is posted with this code, and clears it.
-#[tactic(auto, using(mv_wait::proofs::Compose::served))]
-fn await_post<R: Abort + Wait>(rt: &R, station: &Station, task: &mut Task, ecb: u32, code: u32)
-    requires task { IsOf station.now task.old }
-    requires rest { IsAtRest task.old.log }
-    ensures task { IsOf station.now task.new }
-    ensures rest { IsAtRest task.new.log }
-    ensures number { task.new.number ≡ task.old.number }
-{
-    assert_may_wait(rt, station, task, ecb);
-    let found = station.wait_one(rt, task, ecb);
-    let cleared = station.clear(rt, task, ecb);
-    assert!(rt; found == code && cleared == Ok(COMPLETE | code));
+impl<'a> Worker<'a> {
+    fn new(station: &'a Station, task: Task) -> Worker<'a>
+        requires task { IsOf station.now task }
+        requires rest { IsAtRest task.log }
+        ensures { result ≡ (station.now, task.number) }
+    {
+        Worker { station, task }
+    }
+
+    // How many entries its task has.
+    fn entries(&self) -> usize {
+        self.task.log().len()
+    }
+
+    // Its task.
+    fn back(self) -> Task
+        ensures { IsOf self.entry.0 result × (result.number ≡ self.entry.1) }
+    {
+        let Worker { station: _, task } = self;
+        task
+    }
+
+    // Posts a block.
+    #[tactic(auto, using(mv_wait::proofs::Compose::served))]
+    fn post<R: Abort + Wait>(&mut self, rt: &R, ecb: u32) -> PostAnswer
+        ensures { self.new ≡ self.old }
+    {
+        let station = self.station;
+        assert_is_block(rt, station, ecb);
+        assert!(rt; station.config().reach(ecb) <= self.task.left());
+        station.post(rt, &mut self.task, ecb, CODE)
+    }
+
+    // Waits for a block of the task's own until it is posted with this code, and clears it.
+    #[tactic(auto, using(mv_wait::proofs::Compose::served))]
+    fn await_post<R: Abort + Wait>(&mut self, rt: &R, ecb: u32, code: u32)
+        ensures { self.new ≡ self.old }
+    {
+        let station = self.station;
+        assert_may_wait(rt, station, &self.task, ecb);
+        let found = station.wait_one(rt, &mut self.task, ecb);
+        let cleared = station.clear(rt, &mut self.task, ecb);
+        assert!(rt; found == code && cleared == Ok(COMPLETE | code));
+    }
 }

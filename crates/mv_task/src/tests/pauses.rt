@@ -1,7 +1,7 @@
 //! What no clause says: two threads of which one wakes the other; and the hand-offs that `bench/run` times. Beside these, worked rows of an
 //! exchange that is refused by the state, which no script shows. Tables of calls with their answers are scripts, in mv_program.
 
-ghost use Rattle.std.specs.Prelude.{◌≡◌, ◌<◌, ◌≤◌};
+ghost use Rattle.std.specs.Prelude.{◌≡◌, ◌<◌};
 ghost use Rattle.mv_element.specs.Table.{release_limit};
 ghost use Rattle.mv_machine.specs.Limits.{highest_generation};
 ghost use Rattle.mv_machine.specs.Setup.{element_count};
@@ -9,9 +9,9 @@ ghost use Rattle.mv_calls.specs.Rest.{IsAtRest};
 ghost use Rattle.mv_board.specs.Faces.{IsOf};
 ghost use Rattle.mv_pause.specs.Releasing.{HasNoPause};
 
-use super::{ROUNDS, linger};
+use super::{CODE, ROUNDS, Worker, end, linger, open};
 use mv_element::{ElementOp, Phase, Token};
-use mv_machine::{Config, Object, Op, ValidConfig, WordState, unpack};
+use mv_machine::{Object, Op, WordState, unpack};
 use mv_pause::{
     Given, ReleaseAnswer, ReleaseRefusal, TryReleaseRefusal, allocate, pause, release, transfer,
     try_release,
@@ -22,50 +22,28 @@ use std::process::Abort;
 use std::sync::Wait;
 use std::thread::{self, join};
 
-// Two tasks with this budget, and two elements each.
-fn setup(rt: &impl Abort, alloc: Global, budget: u32) -> ValidConfig
-    ensures callers { result.callers ≡ 2 }
-    ensures elements { element_count result ≡ 4 }
-{
-    let config = Config {
-        callers: 2,
-        elements_per_caller: 2,
-        volumes: 1,
-        latches: 1,
-        quota: 1,
-        posted_quota: 0,
-        budgets: vec![in alloc; budget, budget].expect(rt, "room for two budgets"),
-        owners: Vec::new(alloc),
-        exits: Vec::new(alloc),
-    };
-    config.check(alloc).expect(rt, "a configuration")
-}
-
-// Takes the task's first element in use, which is this one.
-#[tactic(auto, using(mv_wait::proofs::Compose::served))]
-fn begin<R: Abort + Wait>(rt: &R, station: &Station, task: &mut Task, element: u32)
-    requires task { IsOf station.now task.old }
-    requires rest { IsAtRest task.old.log }
-    ensures task { IsOf station.now task.new }
-    ensures rest { IsAtRest task.new.log }
-{
-    assert!(rt; task.left() > 0);
-    assert_eq!(rt; allocate(station, rt, task), Ok(token(element, 0)));
-}
-
-// A new station with its two tasks, which have this budget, and of which each has the first of its two elements in use.
-fn open_two<R: Abort + Wait>(rt: &R, alloc: Global, budget: u32) -> (Station, Task, Task)
-    ensures elements { element_count result.0.config ≡ 4 }
+// A new station of two tasks with this budget. Elements 0 and 1 are the first one's, 2 and 3 the second one's.
+fn open_two(rt: &impl Abort, alloc: Global, budget: u32) -> (Station, Task, Task)
     ensures first { IsOf result.0 result.1 × IsAtRest result.1.log }
     ensures second { IsOf result.0 result.2 × IsAtRest result.2.log }
 {
-    let config = setup(rt, alloc, budget);
-    let (station, mut tasks) = Station::open(alloc, config).expect(rt, "memory for a station");
-    let mut second = station.take_last(&mut tasks);
-    let mut first = station.take_last(&mut tasks);
-    begin(rt, &station, &mut first, 0);
-    begin(rt, &station, &mut second, 2);
-    (station, first, second)
+    open(rt, alloc, budget, budget, Vec::new(alloc), Vec::new(alloc))
+}
+
+// A task that has taken its first element in use, which is this one.
+#[tactic(auto, using(mv_wait::proofs::Compose::served))]
+fn begin<'a, R: Abort + Wait>(
+    rt: &R,
+    station: &'a Station,
+    mut task: Task,
+    element: u32,
+) -> Worker<'a>
+    requires task { IsOf station.now task }
+    requires rest { IsAtRest task.log }
+{
+    assert!(rt; task.left() > 0);
+    assert!(rt; allocate(station, rt, &mut task) == Ok(token(element, 0)));
+    Worker { station, task }
 }
 
 fn token(element: u32, generation: u32) -> Token
@@ -77,61 +55,56 @@ fn token(element: u32, generation: u32) -> Token
     }
 }
 
-fn given(code: u32, element: u32, generation: u32) -> Given {
+// What a pause with this token is given.
+fn given(element: u32, generation: u32) -> Given
+    requires { generation < highest_generation }
+{
     Given {
-        code,
-        next: token(element, generation),
+        code: CODE,
+        next: token(element, generation + 1),
     }
 }
 
-// ---- a pause and a release, each asserted to have the events for it
+// Stops the test where there is no such element.
+fn assert_is_element(rt: &impl Abort, station: &Station, element: u32)
+    ensures { element < element_count station.now.config }
+{
+    let config = station.config().config();
+    assert!(rt; config.callers == 2 && config.elements_per_caller == 2 && element < 4);
+}
 
-// The code of each release.
-const CODE: u32 = 7;
+// ---- a pause and a release
 
 // A pause with this token, which is given the code.
 #[tactic(auto, using(mv_wait::proofs::Compose::served))]
-fn take<R: Abort + Wait>(rt: &R, station: &Station, task: &mut Task, own: u32, generation: u32)
-    requires task { IsOf station.now task.old }
-    requires rest { IsAtRest task.old.log }
-    requires element { own < element_count station.now.config }
-    requires generation { generation < highest_generation }
-    ensures task { IsOf station.now task.new }
-    ensures rest { IsAtRest task.new.log }
+fn take<R: Abort + Wait>(rt: &R, worker: &mut Worker<'_>, own: u32, generation: u32)
+    requires { generation < highest_generation }
 {
-    assert!(rt; task.left() >= 2);
-    let paused = pause(station, rt, task, token(own, generation));
-    assert_eq!(rt; paused, Ok(given(CODE, own, generation + 1)));
+    let station = worker.station;
+    assert_is_element(rt, station, own);
+    assert!(rt; worker.task.left() >= 2);
+    let paused = pause(station, rt, &mut worker.task, token(own, generation));
+    assert!(rt; paused == Ok(given(own, generation)));
 }
 
 // A release.
 #[tactic(auto, using(mv_wait::proofs::Compose::served))]
 fn hand<R: Abort + Wait>(
     rt: &R,
-    station: &Station,
-    task: &mut Task,
+    worker: &mut Worker<'_>,
     other: u32,
     generation: u32,
-) -> Result<ReleaseAnswer, ReleaseRefusal>
-    requires task { IsOf station.now task.old }
-    requires rest { IsAtRest task.old.log }
-    requires element { other < element_count station.now.config }
-    ensures task { IsOf station.now task.new }
-    ensures rest { IsAtRest task.new.log }
-{
-    assert!(rt; task.left() > 0);
-    release(station, rt, task, token(other, generation), CODE)
-}
-
-// A release that is not refused.
-fn hand_on<R: Abort + Wait>(rt: &R, station: &Station, task: &mut Task, other: u32, generation: u32)
-    requires task { IsOf station.now task.old }
-    requires rest { IsAtRest task.old.log }
-    requires element { other < element_count station.now.config }
-    ensures task { IsOf station.now task.new }
-    ensures rest { IsAtRest task.new.log }
-{
-    assert!(rt; hand(rt, station, task, other, generation).is_ok());
+) -> Result<ReleaseAnswer, ReleaseRefusal> {
+    let station = worker.station;
+    assert_is_element(rt, station, other);
+    assert!(rt; worker.task.left() > 0);
+    release(
+        station,
+        rt,
+        &mut worker.task,
+        token(other, generation),
+        CODE,
+    )
 }
 
 // ---- exchanges
@@ -148,7 +121,7 @@ fn assert_has_no_pause(rt: &impl Abort, element: u32, word: u64)
     }
 }
 
-// A release by one exchange, by a task that has an event left.
+// A release by one exchange.
 fn exchange(
     rt: &impl Abort,
     station: &Station,
@@ -159,14 +132,31 @@ fn exchange(
 ) -> Result<ReleaseAnswer, TryReleaseRefusal>
     requires task { IsOf station.now task.old }
     requires rest { IsAtRest task.old.log }
-    requires element { token.element < element_count station.now.config }
     requires code { code < release_limit }
     ensures task { IsOf station.now task.new }
     ensures rest { IsAtRest task.new.log }
 {
+    assert_is_element(rt, station, token.element);
     assert_has_no_pause(rt, token.element, expected);
     assert!(rt; task.left() > 0);
     try_release(station, task, token, expected, code)
+}
+
+// One of this generation of element 0, which is answered so.
+fn assert_exchange(
+    rt: &impl Abort,
+    worker: &mut Worker<'_>,
+    generation: u32,
+    expected: u64,
+    code: u32,
+    answer: Result<ReleaseAnswer, TryReleaseRefusal>,
+)
+    requires { code < release_limit }
+{
+    let station = worker.station;
+    let token = token(0, generation);
+    let found = exchange(rt, station, &mut worker.task, token, expected, code);
+    assert!(rt; found == answer);
 }
 
 // What one more place adds to a word.
@@ -177,131 +167,62 @@ const RESET: u64 = 16_777_216;
 
 const PRERELEASED: u64 = 33_554_437;
 
-// A release by one exchange, which is answered so.
-fn assert_exchange(
-    rt: &impl Abort,
-    station: &Station,
-    task: &mut Task,
-    token: Token,
-    expected: u64,
-    code: u32,
-    answer: Result<ReleaseAnswer, TryReleaseRefusal>,
-)
-    requires task { IsOf station.now task.old }
-    requires rest { IsAtRest task.old.log }
-    requires element { token.element < element_count station.now.config }
-    requires code { code < release_limit }
-    ensures task { IsOf station.now task.new }
-    ensures rest { IsAtRest task.new.log }
-{
-    let found = exchange(rt, station, task, token, expected, code);
-    assert_eq!(rt; found, answer);
-}
-
 // A release of element 0, and two that are refused by the state that they expect.
-fn exchange_thrice(rt: &impl Abort, station: &Station, task: &mut Task)
-    requires task { IsOf station.now task.old }
-    requires rest { IsAtRest task.old.log }
-    requires elements { element_count station.now.config ≡ 4 }
-{
-    let (early, already) = (Ok(ReleaseAnswer::Early), Err(TryReleaseRefusal::Already));
-    let spent = Err(TryReleaseRefusal::Spent(0));
-    assert_exchange(rt, station, task, token(0, 0), PLACE + RESET, 5, early);
-    assert_exchange(
-        rt,
-        station,
-        task,
-        token(0, 0),
-        2 * PLACE + PRERELEASED,
-        6,
-        already,
-    );
-    assert_exchange(
-        rt,
-        station,
-        task,
-        token(0, 1),
-        3 * PLACE + PRERELEASED,
-        6,
-        spent,
-    );
-}
-
-// A new station with the first of its two tasks.
-fn open_first<R: Abort + Wait>(rt: &R, alloc: Global) -> (Station, Task)
-    ensures elements { element_count result.0.config ≡ 4 }
-    ensures task { IsOf result.0 result.1 × IsAtRest result.1.log }
-{
-    let (station, first, _) = open_two(rt, alloc, 20);
-    (station, first)
-}
-
 #[test]
 fn an_exchange_is_refused_by_the_state_that_is_expected(rt: HostRuntime) {
-    let (station, mut task) = open_first(&rt, rt.alloc());
-    exchange_thrice(&rt, &station, &mut task);
+    let (station, task, other) = open_two(&rt, rt.alloc(), 20);
+    let mut worker = begin(&rt, &station, task, 0);
+    let (early, already) = (Ok(ReleaseAnswer::Early), Err(TryReleaseRefusal::Already));
+    let spent = Err(TryReleaseRefusal::Spent(0));
+    assert_exchange(&rt, &mut worker, 0, PLACE + RESET, 5, early);
+    assert_exchange(&rt, &mut worker, 0, 2 * PLACE + PRERELEASED, 6, already);
+    assert_exchange(&rt, &mut worker, 1, 3 * PLACE + PRERELEASED, 6, spent);
+    let task = worker.back();
+    end(station, task, other);
 }
 
 // ---- two threads
 
-// The pause of a task that does nothing after it.
-fn pause_once<R: Abort + Wait>(rt: &R, station: &Station, mut task: Task)
-    requires task { IsOf station.now task }
-    requires rest { IsAtRest task.log }
-    requires elements { element_count station.now.config ≡ 4 }
-{
-    take(rt, station, &mut task, 0, 0);
+// Whether a task pauses in an element.
+fn is_paused<R: Abort>(rt: &R, worker: &mut Worker<'_>, element: u32) -> bool {
+    let station = worker.station;
+    assert_is_element(rt, station, element);
+    let word = station.look(&mut worker.task, Object::Element(element));
+    match unpack(Object::Element(element), word) {
+        Some((_, WordState::Element(state))) => state.phase == Phase::Paused,
+        _ => false,
+    }
 }
 
-// Looks at an element until a task pauses in it.
-fn await_pause<R: Abort + Wait>(rt: &R, station: &Station, task: &mut Task, element: u32)
-    requires task { IsOf station.now task.old }
-    requires rest { IsAtRest task.old.log }
-    requires element { element < element_count station.now.config }
-    ensures task { IsOf station.now task.new }
-    ensures rest { IsAtRest task.new.log }
-{
+// Looks at an element until a task pauses in it, and then waits until that has parked.
+fn await_pause<R: Abort + Wait>(rt: &R, worker: &mut Worker<'_>, element: u32) {
     for _ in rt.forever() {
-        let word = station.look(task, Object::Element(element));
-        if is_paused(unpack(Object::Element(element), word)) {
+        if is_paused(rt, worker, element) {
+            linger();
             return;
         }
         thread::yield_now();
     }
 }
 
-// Whether a task pauses in an element that has this word.
-fn is_paused(word: Option<(u32, WordState)>) -> bool {
-    match word {
-        Some((_, WordState::Element(state))) => state.phase == Phase::Paused,
-        _ => false,
-    }
-}
-
 // Releases the pause of element 0, as soon as its task has parked.
-fn release_the_paused<R: Abort + Wait>(
-    rt: &R,
-    station: &Station,
-    mut task: Task,
-) -> Result<ReleaseAnswer, ReleaseRefusal>
-    requires task { IsOf station.now task }
-    requires rest { IsAtRest task.log }
-    requires elements { element_count station.now.config ≡ 4 }
-{
-    await_pause(rt, station, &mut task, 0);
-    linger();
-    hand(rt, station, &mut task, 0, 0)
+fn release_the_paused<R: Abort + Wait>(rt: &R, worker: &mut Worker<'_>) {
+    await_pause(rt, worker, 0);
+    assert!(rt; hand(rt, worker, 0, 0) == Ok(ReleaseAnswer::Woke));
 }
 
 #[test]
 fn a_pause_that_parked_is_woken(rt: HostRuntime) {
     let (station, first, second) = open_two(&rt, rt.alloc(), 20);
-    let (_paused, released) = join(
+    let mut first = begin(&rt, &station, first, 0);
+    let mut second = begin(&rt, &station, second, 2);
+    join(
         &rt,
-        || pause_once(&rt, &station, first),
-        || release_the_paused(&rt, &station, second),
+        || take(&rt, &mut first, 0, 0),
+        || release_the_paused(&rt, &mut second),
     );
-    assert_eq!(rt; released, Ok(ReleaseAnswer::Woke));
+    let (first, second) = (first.back(), second.back());
+    end(station, first, second);
 }
 
 // A call of its own, made of a look and an exchange: releases a pause that is on. Whether there was one.
@@ -309,7 +230,6 @@ fn release_paused(station: &Station, task: &mut Task, element: u32) -> bool
     requires task { IsOf station.now task.old }
     requires element { element < element_count station.now.config }
     requires left { 0 < task.old.left }
-    ensures task { IsOf station.now task.new }
 {
     let object = Object::Element(element);
     let word = station.look(task, object);
@@ -331,141 +251,105 @@ fn release_paused(station: &Station, task: &mut Task, element: u32) -> bool
 }
 
 // Releases the pause of element 0 by that call, as soon as its task has parked.
-fn release_by_exchange<R: Abort + Wait>(rt: &R, station: &Station, mut task: Task) -> bool
-    requires task { IsOf station.now task }
-    requires rest { IsAtRest task.log }
-    requires elements { element_count station.now.config ≡ 4 }
-{
-    await_pause(rt, station, &mut task, 0);
-    linger();
+fn release_by_exchange<R: Abort + Wait>(rt: &R, mut worker: Worker<'_>) -> Task {
+    await_pause(rt, &mut worker, 0);
+    let station = worker.station;
+    let mut task = worker.back();
+    assert_is_element(rt, station, 0);
     assert!(rt; task.left() > 0);
-    release_paused(station, &mut task, 0)
+    assert!(rt; release_paused(station, &mut task, 0));
+    task
 }
 
 #[test]
 fn a_call_made_of_events_wakes_whom_it_releases(rt: HostRuntime) {
     let (station, first, second) = open_two(&rt, rt.alloc(), 20);
-    let (_paused, released) = join(
+    let mut first = begin(&rt, &station, first, 0);
+    let second = begin(&rt, &station, second, 2);
+    let (_, second) = join(
         &rt,
-        || pause_once(&rt, &station, first),
-        || release_by_exchange(&rt, &station, second),
+        || take(&rt, &mut first, 0, 0),
+        || release_by_exchange(&rt, second),
     );
-    assert!(rt; released);
+    let first = first.back();
+    end(station, first, second);
 }
 
 // Releases the other's pause and pauses, once with each generation.
-fn hand_over<R: Abort + Wait>(rt: &R, station: &Station, mut task: Task, times: u32)
-    requires task { IsOf station.now task }
-    requires rest { IsAtRest task.log }
-    requires elements { element_count station.now.config ≡ 4 }
-    requires times { times ≤ highest_generation }
-{
-    for generation in 0..times {
-        hand_on(rt, station, &mut task, 2, generation);
-        take(rt, station, &mut task, 0, generation);
+fn hand_over<R: Abort + Wait>(rt: &R, worker: &mut Worker<'_>) {
+    for generation in 0..ROUNDS {
+        assert!(rt; hand(rt, worker, 2, generation).is_ok());
+        take(rt, worker, 0, generation);
     }
 }
 
 // Pauses first, and is the last to release.
-fn hand_back<R: Abort + Wait>(rt: &R, station: &Station, mut task: Task, times: u32)
-    requires task { IsOf station.now task }
-    requires rest { IsAtRest task.log }
-    requires elements { element_count station.now.config ≡ 4 }
-    requires times { times ≤ highest_generation }
-{
-    for generation in 0..times {
-        take(rt, station, &mut task, 2, generation);
-        hand_on(rt, station, &mut task, 0, generation);
+fn hand_back<R: Abort + Wait>(rt: &R, worker: &mut Worker<'_>) {
+    for generation in 0..ROUNDS {
+        take(rt, worker, 2, generation);
+        assert!(rt; hand(rt, worker, 0, generation).is_ok());
     }
 }
 
 #[test]
 fn two_threads_release_in_turn(rt: HostRuntime) {
     let (station, first, second) = open_two(&rt, rt.alloc(), 3 * ROUNDS + 1);
+    let mut first = begin(&rt, &station, first, 0);
+    let mut second = begin(&rt, &station, second, 2);
     join(
         &rt,
-        || hand_over(&rt, &station, first, ROUNDS),
-        || hand_back(&rt, &station, second, ROUNDS),
+        || hand_over(&rt, &mut first),
+        || hand_back(&rt, &mut second),
     );
+    let (first, second) = (first.back(), second.back());
+    end(station, first, second);
 }
 
 // ---- two threads that transfer
 
 // A transfer to the other's pause, as soon as its task has parked, and back.
 #[tactic(auto, using(mv_wait::proofs::Compose::served))]
-fn hand_and_take<R: Abort + Wait>(
-    rt: &R,
-    station: &Station,
-    task: &mut Task,
-    own: Token,
-    other: Token,
-)
-    requires task { IsOf station.now task.old }
-    requires rest { IsAtRest task.old.log }
-    requires elements { (own.element < element_count station.now.config) × (other.element < element_count station.now.config) }
-    requires generation { own.generation < highest_generation }
-    ensures task { IsOf station.now task.new }
-    ensures rest { IsAtRest task.new.log }
+fn hand_and_take<R: Abort + Wait>(rt: &R, worker: &mut Worker<'_>, own: Token, other: Token)
+    requires { own.generation < highest_generation }
 {
-    await_pause(rt, station, task, other.element);
-    linger();
-    assert!(rt; task.left() >= 3);
-    let answer = transfer(station, rt, task, Some(own), other, CODE);
-    let back = given(CODE, own.element, own.generation + 1);
-    assert_eq!(rt; answer, Ok(Some(back)));
+    await_pause(rt, worker, other.element);
+    let station = worker.station;
+    assert_is_element(rt, station, own.element);
+    assert_is_element(rt, station, other.element);
+    assert!(rt; worker.task.left() >= 3);
+    let answer = transfer(station, rt, &mut worker.task, Some(own), other, CODE);
+    assert!(rt; answer == Ok(Some(given(own.element, own.generation))));
 }
 
 // How often each of two tasks transfers to the other.
 const TRANSFERS: u32 = 500;
 
-// Transfers from the own element to the other's, once with each of its generations. The own one is so far ahead.
-fn transfer_often<R: Abort + Wait>(
-    rt: &R,
-    station: &Station,
-    task: &mut Task,
-    own: u32,
-    ahead: u32,
-    other: u32,
-)
-    requires task { IsOf station.now task.old }
-    requires rest { IsAtRest task.old.log }
-    requires elements { (own < element_count station.now.config) × (other < element_count station.now.config) }
-    requires ahead { ahead ≤ 1 }
-    ensures task { IsOf station.now task.new }
-    ensures rest { IsAtRest task.new.log }
-{
-    for generation in 0..TRANSFERS {
-        let current = token(own, generation + ahead);
-        hand_and_take(rt, station, task, current, token(other, generation));
-    }
-}
-
 // Transfers first, and is the last to release.
-fn transfer_over<R: Abort + Wait>(rt: &R, station: &Station, mut task: Task)
-    requires task { IsOf station.now task }
-    requires rest { IsAtRest task.log }
-    requires elements { element_count station.now.config ≡ 4 }
-{
-    transfer_often(rt, station, &mut task, 0, 0, 2);
-    hand_on(rt, station, &mut task, 2, TRANSFERS);
+fn transfer_over<R: Abort + Wait>(rt: &R, worker: &mut Worker<'_>) {
+    for generation in 0..TRANSFERS {
+        hand_and_take(rt, worker, token(0, generation), token(2, generation));
+    }
+    assert!(rt; hand(rt, worker, 2, TRANSFERS).is_ok());
 }
 
-// Pauses first.
-fn transfer_back<R: Abort + Wait>(rt: &R, station: &Station, mut task: Task)
-    requires task { IsOf station.now task }
-    requires rest { IsAtRest task.log }
-    requires elements { element_count station.now.config ≡ 4 }
-{
-    take(rt, station, &mut task, 2, 0);
-    transfer_often(rt, station, &mut task, 2, 1, 0);
+// Pauses first, so its own generations are one ahead.
+fn transfer_back<R: Abort + Wait>(rt: &R, worker: &mut Worker<'_>) {
+    take(rt, worker, 2, 0);
+    for generation in 0..TRANSFERS {
+        hand_and_take(rt, worker, token(2, generation + 1), token(0, generation));
+    }
 }
 
 #[test]
 fn a_transfer_wakes_whom_it_releases(rt: HostRuntime) {
     let (station, first, second) = open_two(&rt, rt.alloc(), 3 * TRANSFERS + 4);
+    let mut first = begin(&rt, &station, first, 0);
+    let mut second = begin(&rt, &station, second, 2);
     join(
         &rt,
-        || transfer_over(&rt, &station, first),
-        || transfer_back(&rt, &station, second),
+        || transfer_over(&rt, &mut first),
+        || transfer_back(&rt, &mut second),
     );
+    let (first, second) = (first.back(), second.back());
+    end(station, first, second);
 }

@@ -1,11 +1,5 @@
 use Rattle.std.proofs.Common.{◌≡◌}
-use Rattle.mv_board.specs.Faces.{IsOf}
-use Rattle.mv_calls.specs.Rest.{IsAtRest}
 use Rattle.mv_task.proofs.tests.latches.take_often.Given as goal
 
 abbrev pub invariant-loop : goal.invariant-loop
-invariant-loop g l = record {
-  task : IsOf l.station l.task;
-  rest : IsAtRest l.task.log;
-  number : l.task.number ≡ l.initial.task.number;
-}
+invariant-loop g l = record { same : l.worker ≡ l.initial.worker }
