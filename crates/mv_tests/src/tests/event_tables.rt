@@ -1,7 +1,7 @@
 //! What scripts can't show, since they keep all other calls from a table: what others did to it. What tables hand out, and posts and next
 //! events of tasks that wait for each other, run as scripts.
 
-ghost use Rattle.std.specs.Prelude.{◌≡◌, ◌<◌, length, IfOk};
+ghost use Rattle.std.specs.Prelude.{◌≡◌, ◌<◌, length};
 ghost use Rattle.mv_ecb.specs.Table.{code_limit};
 ghost use Rattle.mv_board.specs.Faces.{IsFresh, IsOf};
 ghost use Rattle.mv_calls.specs.Rest.{IsAtRest};
@@ -15,7 +15,6 @@ use mv_wait::{Station, Task};
 use std::alloc::Global;
 use std::process::Abort;
 use std::sync::Wait;
-use std::test::Fail;
 
 // Three events, and a slot for each, of task 0.
 const TABLE: Table = Table {
@@ -28,10 +27,10 @@ const TABLE: Table = Table {
 };
 
 // A new station with one latch and one volume, and six blocks; and its one task.
-fn open(alloc: Global) -> Result<(Station, Task), Fail>
-    ensures task { IfOk result (λ r. IsFresh r.0 0 r.1) }
-    ensures volumes { IfOk result (λ r. r.0.config.volumes ≡ 1) }
-    ensures blocks { IfOk result (λ r. length r.0.config.owners ≡ 6) }
+fn open(rt: &impl Abort, alloc: Global) -> (Station, Task)
+    ensures task { IsFresh result.0 0 result.1 }
+    ensures volumes { result.0.config.volumes ≡ 1 }
+    ensures blocks { length result.0.config.owners ≡ 6 }
 {
     let config = Config {
         callers: 1,
@@ -40,14 +39,18 @@ fn open(alloc: Global) -> Result<(Station, Task), Fail>
         latches: 1,
         quota: 1,
         posted_quota: 0,
-        budgets: vec![in alloc; 100]?,
-        owners: vec![in alloc; 0; 6]?,
+        budgets: vec![in alloc; 100].expect(rt, "room for a budget"),
+        owners: vec![in alloc; 0; 6].expect(rt, "room for owners"),
         exits: Vec::new(alloc),
     };
-    let (station, mut tasks) = Station::open(alloc, config.check(alloc)?)?;
+    let config = config.check(alloc).expect(rt, "a configuration");
+    let (station, mut tasks) = Station::open(alloc, config).expect(rt, "memory for a station");
     let task = station.take_last(&mut tasks);
-    Ok((station, task))
+    (station, task)
 }
+
+// Lets a station and its task go. A test that did so itself would be proved in many times the time.
+fn end(_station: Station, _task: Task) {}
 
 // The table of a station's configuration.
 fn checked(rt: &impl Abort, station: &Station) -> ValidTable
@@ -115,28 +118,27 @@ fn break_a_table<R: Abort + Wait>(rt: &R, station: &Station, task: &mut Task)
     assert!(rt; task.left() > 0);
     station.write_volume(rt, task, 0, 3);
     let posted = post(rt, station, task, &table, 1, 5);
-    assert_eq!(rt; posted, Err(PostEventRefusal::Broken(3)));
+    assert!(rt; posted == Err(PostEventRefusal::Broken(3)));
     assert!(rt; station.config().reach(3) <= task.left());
     station.post(rt, task, 3, 40);
     let next = next(rt, station, task, &table, 0);
-    assert_eq!(rt; next, Err(NextRefusal::Strange(40)));
+    assert!(rt; next == Err(NextRefusal::Strange(40)));
 }
 
 #[test]
-fn what_others_did_to_the_table_is_told(rt: HostRuntime) -> Result<(), Fail> {
-    let (station, mut task) = open(rt.alloc())?;
+fn what_others_did_to_the_table_is_told(rt: HostRuntime) {
+    let (station, mut task) = open(&rt, rt.alloc());
     break_a_table(&rt, &station, &mut task);
-    Ok(())
+    end(station, task);
 }
 
 // ---- texts
 
 #[test]
-fn a_refusal_has_a_text(rt: HostRuntime) -> Result<(), Fail> {
-    let text = format!(in rt.alloc(); "{}", NextRefusal::Strange(40))?;
-    assert_eq!(&rt;
-        text.as_str(),
-        "the slot was posted with 40, which is no event of the table"
+fn a_refusal_has_a_text(rt: HostRuntime) {
+    let text = format!(in rt.alloc(); "{}", NextRefusal::Strange(40)).expect(
+        &rt,
+        "room for a text",
     );
-    Ok(())
+    assert!(rt; text.as_str() == "the slot was posted with 40, which is no event of the table");
 }

@@ -1,6 +1,6 @@
 //! What no clause says of runs that are polled: that one ends, and that the order is asked. Expected values are worked out by hand.
 
-ghost use Rattle.std.specs.Prelude.{◌<◌, ◌≤◌, ◌^◌, ◌-◌, IfOk, length};
+ghost use Rattle.std.specs.Prelude.{◌<◌, ◌≤◌, ◌^◌, ◌-◌, length};
 ghost use Rattle.mv_deck.specs.Deck.{deck_data};
 ghost use Rattle.mv_deck.specs.Sound.{IsSound};
 ghost use Rattle.mv_deck.specs.Weight.{most_initiators};
@@ -11,16 +11,17 @@ use mv_report::outcome_of;
 use std::alloc::Global;
 use std::process::Abort;
 use std::sync::Wait;
-use std::test::Fail;
 
 // The deck that a text states.
-fn deck_of(alloc: Global, text: &[u8], initiators: u32) -> Result<Deck, Fail>
+fn deck_of(rt: &impl Abort, alloc: Global, text: &[u8], initiators: u32) -> Deck
     requires short { length text.now < 2 ^ 32 - 1 }
     requires initiators { (1 ≤ initiators) × (initiators ≤ most_initiators) }
-    ensures { IfOk result (λ deck. IsSound (deck_data deck) initiators) }
+    ensures { IsSound (deck_data result) initiators }
 {
-    let deck = read_deck(alloc, text, initiators)?;
-    Ok(deck)
+    match read_deck(alloc, text, initiators) {
+        Ok(deck) => deck,
+        Err(_) => panic!(rt; "no deck"),
+    }
 }
 
 // The tasks from the last to the first, round by round; the picks are counted.
@@ -43,13 +44,11 @@ impl Order for Backwards {
 
 // Writer, initiator, scheduler, reader, initiator.
 #[test]
-fn an_order_is_asked_before_each_poll(rt: HostRuntime) -> Result<(), Fail> {
-    let deck = deck_of(rt.alloc(), b"//\n", 1)?;
+fn an_order_is_asked_before_each_poll(rt: HostRuntime) {
+    let deck = deck_of(&rt, rt.alloc(), b"//\n", 1);
     let mut order = Backwards { left: 0, picks: 0 };
-    let run = run_polled(&rt, rt.alloc(), &deck, 1, &mut order)?;
-    assert_eq!(rt; run.lines.len(), 0);
-    assert_eq!(rt; order.picks, 5);
-    Ok(())
+    let run = run_polled(&rt, rt.alloc(), &deck, 1, &mut order).expect(&rt, "memory for a run");
+    assert!(rt; run.lines.is_empty() && order.picks == 5);
 }
 
 // ADD abends while it holds latch 0, and NEXT counts under it; LAST accepts no end of ADD above 0; CODE returns 7.
@@ -70,29 +69,27 @@ const STEPS: &[u8] = b"// DECK 2
 //
 ";
 
-// Runs them in this order, to what was worked out by hand, and what the deck means is computed to be.
-fn assert_steps<R: Abort + Wait, O: Order>(
-    rt: &R,
-    alloc: Global,
-    initiators: u32,
-    order: &mut O,
-) -> Result<(), Fail>
-    requires { (1 ≤ initiators) × (initiators ≤ most_initiators) }
-{
-    let deck = deck_of(alloc, STEPS, initiators)?;
-    let outcome = outcome_of(alloc, &deck)?;
-    let ends = [16_777_228, 0, 33_554_432, 7];
-    assert_eq!(rt; outcome.ends.as_slice(), ends.as_slice());
-    let run = run_polled(rt, alloc, &deck, initiators, order)?;
-    assert_eq!(rt; run.ends.as_slice(), ends.as_slice());
-    assert_eq!(rt; &run.volumes[..], [12, 0, 0, 0, 0, 0, 0, 0].as_slice());
-    Ok(())
+// How its jobs end.
+const ENDS: [u32; 4] = [16_777_228, 0, 33_554_432, 7];
+
+// Runs them in this order, to what was worked out by hand.
+fn assert_steps<R: Abort + Wait, O: Order>(rt: &R, alloc: Global, order: &mut O) {
+    let deck = deck_of(rt, alloc, STEPS, 3);
+    let run = run_polled(rt, alloc, &deck, 3, order).expect(rt, "memory for a run");
+    assert!(rt; run.ends.as_slice() == ENDS.as_slice());
+    assert!(rt; &run.volumes[..] == [12, 0, 0, 0, 0, 0, 0, 0].as_slice());
+}
+
+// What the deck means is computed to be that too.
+fn assert_meaning(rt: &impl Abort, alloc: Global) {
+    let deck = deck_of(rt, alloc, STEPS, 3);
+    let outcome = outcome_of(alloc, &deck).expect(rt, "memory for an outcome");
+    assert!(rt; outcome.ends.as_slice() == ENDS.as_slice());
 }
 
 #[test]
-fn each_order_comes_to_the_same_report(rt: HostRuntime) -> Result<(), Fail> {
-    let mut round = RoundOrder::new(4_294_967_290);
-    assert_steps(&rt, rt.alloc(), 3, &mut round)?;
-    let mut backwards = Backwards { left: 0, picks: 0 };
-    assert_steps(&rt, rt.alloc(), 3, &mut backwards)
+fn each_order_comes_to_the_same_report(rt: HostRuntime) {
+    assert_meaning(&rt, rt.alloc());
+    assert_steps(&rt, rt.alloc(), &mut RoundOrder::new(4_294_967_290));
+    assert_steps(&rt, rt.alloc(), &mut Backwards { left: 0, picks: 0 });
 }

@@ -52,13 +52,30 @@ pub(crate) fn open(rt: &impl Abort, alloc: Global, owners: Vec<u32>) -> (Station
     Station::open(alloc, config).expect(rt, "memory for a station")
 }
 
+// Two tasks of a new station that has blocks of these owners: its last, and the one before it; and the others.
+fn open_two(rt: &impl Abort, alloc: Global, owners: Vec<u32>) -> (Station, Vec<Task>, Task, Task)
+    ensures blocks { length result.0.config.owners ≡ length owners.items }
+    ensures elements { element_count result.0.config ≡ 8 }
+    ensures latches { result.0.config.latches ≡ 1 }
+    ensures first { IsOf result.0 result.2 × IsAtRest result.2.log }
+    ensures second { IsOf result.0 result.3 × IsAtRest result.3.log }
+{
+    let (station, mut tasks) = open(rt, alloc, owners);
+    let first = station.take_last(&mut tasks);
+    let second = station.take_last(&mut tasks);
+    (station, tasks, first, second)
+}
+
+// Lets a station and its tasks go. A test that did so itself would be proved in many times the time.
+fn end(_station: Station, _tasks: Vec<Task>, _first: Task, _second: Task) {}
+
 // Each entry of a task is of this operation, and rings this key.
 fn assert_made<R: Abort>(rt: &R, task: &Task, made: &[(Op, Option<u64>)]) {
     let log = task.log();
-    assert_eq!(rt; log.len(), made.len());
+    assert!(rt; log.len() == made.len());
     for at in 0..made.len() {
         let entry = log.get(at).expect(rt, "an entry");
-        assert_eq!(rt; (entry.op, rung(&entry)), made[at]);
+        assert!(rt; (entry.op, rung(&entry)) == made[at]);
     }
 }
 
@@ -136,13 +153,12 @@ fn wait_for_two<R: Abort + Wait + AllocGlobal>(
     let mut call = a_wait(rt, rt.alloc(), station, waiter, 2, &[0, 1, 2]);
     post(rt, station, poster, 0, 5);
     assert!(rt; !is_over(rt, station, waiter, &mut call));
-    assert_eq!(rt; call.keys(), [1, 2].as_slice());
-    assert_eq!(rt; (call.slots().len(), waiter.log().len()), (0, 3));
+    assert!(rt; call.keys() == [1, 2].as_slice());
+    assert!(rt; call.slots().is_empty() && waiter.log().len() == 3);
     post(rt, station, poster, 2, 7);
     assert!(rt; is_over(rt, station, waiter, &mut call));
     let found = [WaitSlot::Complete(5), WaitSlot::Open, WaitSlot::Complete(7)];
-    assert_eq!(rt; call.slots(), found.as_slice());
-    assert_eq!(rt; call.keys().len(), 0);
+    assert!(rt; call.slots() == found.as_slice() && call.keys().is_empty());
 }
 
 // What the two have made of it.
@@ -160,11 +176,10 @@ fn assert_waited<R: Abort>(rt: &R, waiter: &Task, poster: &Task) {
 #[test]
 fn a_wait_for_two_of_three(rt: HostRuntime) {
     let owners = vec![in rt.alloc(); 7; 3].expect(&rt, "room for owners");
-    let (station, mut tasks) = open(&rt, rt.alloc(), owners);
-    let mut waiter = station.take_last(&mut tasks);
-    let mut poster = station.take_last(&mut tasks);
+    let (station, tasks, mut waiter, mut poster) = open_two(&rt, rt.alloc(), owners);
     wait_for_two(&rt, &station, &mut waiter, &mut poster);
     assert_waited(&rt, &waiter, &poster);
+    end(station, tasks, waiter, poster);
 }
 
 // ---- pauses
@@ -241,13 +256,10 @@ fn pause_for_nine<R: Abort + Wait>(rt: &R, station: &Station, first: &mut Task, 
 {
     let mut call = a_pause(rt, station, first);
     assert!(rt; given(rt, station, first, &mut call).is_none());
-    assert_eq!(rt; call.key(), ELEMENT);
+    assert!(rt; call.key() == ELEMENT);
     release_to(rt, station, second, token(7, 0), 9);
     let next = token(7, 1);
-    assert_eq!(rt;
-        given(rt, station, first, &mut call),
-        Some(Given { code: 9, next })
-    );
+    assert!(rt; given(rt, station, first, &mut call) == Some(Given { code: 9, next }));
 }
 
 // What the two have made of it.
@@ -264,11 +276,10 @@ fn assert_paused<R: Abort>(rt: &R, first: &Task, second: &Task) {
 
 #[test]
 fn a_pause_goes_on_once_it_is_released(rt: HostRuntime) {
-    let (station, mut tasks) = open(&rt, rt.alloc(), Vec::new(rt.alloc()));
-    let mut first = station.take_last(&mut tasks);
-    let mut second = station.take_last(&mut tasks);
+    let (station, tasks, mut first, mut second) = open_two(&rt, rt.alloc(), Vec::new(rt.alloc()));
     pause_for_nine(&rt, &station, &mut first, &mut second);
     assert_paused(&rt, &first, &second);
+    end(station, tasks, first, second);
 }
 
 // ---- obtains
@@ -323,22 +334,21 @@ fn obtain_behind<R: Abort + Wait>(
     };
     assert!(rt; granted(rt, station, second, &mut waiting).is_none());
     assert!(rt; granted(rt, station, second, &mut waiting).is_none());
-    assert_eq!(rt; second.log().len(), 1);
+    assert!(rt; second.log().len() == 1);
     assert!(rt; held.latch == 0 && first.left() >= station.config().release_cost());
     assert!(rt; release_latch(station, rt, first, held, false).is_ok());
     assert!(rt; granted(rt, station, second, &mut waiting).is_some());
-    assert_eq!(rt; second.log().len(), 2);
+    assert!(rt; second.log().len() == 2);
 }
 
 #[test]
 fn an_obtain_goes_on_once_it_is_granted(rt: HostRuntime) {
-    let (station, mut tasks) = open(&rt, rt.alloc(), Vec::new(rt.alloc()));
-    let mut first = station.take_last(&mut tasks);
-    let mut second = station.take_last(&mut tasks);
+    let (station, tasks, mut first, mut second) = open_two(&rt, rt.alloc(), Vec::new(rt.alloc()));
     assert!(rt; first.left() >= 2 && second.left() >= 2);
     let holding = an_obtain(&station, &first);
     let waiting = an_obtain(&station, &second);
     obtain_behind(&rt, &station, &mut first, &mut second, holding, waiting);
+    end(station, tasks, first, second);
 }
 
 // ---- futures
@@ -357,7 +367,7 @@ where
     let sources = [Source::new()];
     let mut future = WaitFuture::new(station, rt, waiter, call, &sources);
     assert!(rt; task.poll(&mut future).is_pending() && !task.is_woken());
-    assert_eq!(rt; future.call().keys(), [0].as_slice());
+    assert!(rt; future.call().keys() == [0].as_slice());
     future.ring(1);
     assert!(rt; !task.is_woken());
     future.ring(0);
@@ -367,9 +377,9 @@ where
 #[test]
 fn a_future_of_a_wait_registers_and_does_not_yield(rt: HostRuntime) {
     let owners = vec![in rt.alloc(); 7; 1].expect(&rt, "room for an owner");
-    let (station, mut tasks) = open(&rt, rt.alloc(), owners);
-    let mut waiter = station.take_last(&mut tasks);
+    let (station, tasks, mut waiter, other) = open_two(&rt, rt.alloc(), owners);
     ring_a_wait(&rt, &station, &mut waiter);
+    end(station, tasks, waiter, other);
 }
 
 // Polls the future of a pause, and rings its key.
@@ -383,17 +393,17 @@ where
     let source = Source::new();
     let mut future = PauseFuture::new(station, rt, first, call, &source);
     assert!(rt; task.poll(&mut future).is_pending() && !task.is_woken());
-    assert_eq!(rt; future.call().key(), ELEMENT);
+    assert!(rt; future.call().key() == ELEMENT);
     future.ring();
     assert!(rt; task.is_woken());
 }
 
 #[test]
 fn a_future_of_a_pause_registers_and_does_not_yield(rt: HostRuntime) {
-    let (station, mut tasks) = open(&rt, rt.alloc(), Vec::new(rt.alloc()));
-    let mut first = station.take_last(&mut tasks);
+    let (station, tasks, mut first, second) = open_two(&rt, rt.alloc(), Vec::new(rt.alloc()));
     let call = a_pause(&rt, &station, &mut first);
     ring_a_pause(&rt, &station, &mut first, call);
+    end(station, tasks, first, second);
 }
 
 // The future of a wait for block 0 is over at its first poll: an executor that polled it again without a ring would sleep for ever.
@@ -415,9 +425,8 @@ where
 #[test]
 fn a_block_that_was_posted_ends_a_wait_at_once(rt: HostRuntime) {
     let owners = vec![in rt.alloc(); 7; 1].expect(&rt, "room for an owner");
-    let (station, mut tasks) = open(&rt, rt.alloc(), owners);
-    let mut waiter = station.take_last(&mut tasks);
-    let mut poster = station.take_last(&mut tasks);
+    let (station, tasks, mut waiter, mut poster) = open_two(&rt, rt.alloc(), owners);
     post(&rt, &station, &mut poster, 0, 5);
     end_at_once(&rt, &station, &mut waiter);
+    end(station, tasks, waiter, poster);
 }

@@ -1,7 +1,7 @@
 //! A small executor on one thread: eight tasks hand a post round in a ring, and then releases, and each is polled only where an
 //! event has rung its key, or it has made an event itself.
 
-ghost use Rattle.std.specs.Prelude.{◌≡◌, ◌<◌, ◌≤◌, ◌++◌, [], ◌∷◌, length, IfOk};
+ghost use Rattle.std.specs.Prelude.{◌≡◌, ◌<◌, ◌≤◌, ◌++◌, [], ◌∷◌, length};
 ghost use Rattle.std.specs.List.{AllByRecursion};
 ghost use Rattle.mv_machine.specs.Setup.{element_count};
 ghost use Rattle.mv_calls.specs.Rest.{IsAtRest};
@@ -19,7 +19,6 @@ use std::alloc::Global;
 use std::collections::VecDeque;
 use std::process::Abort;
 use std::sync::Wait;
-use std::test::Fail;
 
 // The last of the eight tasks.
 const LAST: u32 = 7;
@@ -170,17 +169,18 @@ fn go_on<R: Abort + Wait>(rt: &R, station: &Station, runner: Runner) -> Runner
     requires elements { element_count station.now.config ≡ 8 }
     ensures { MayGoOn station.now result.task result.wait result.pause }
 {
-    let Runner { task, wait, pause } = runner;
-    if let Some(call) = wait {
-        return poll_wait(rt, station, task, call);
-    }
-    if let Some(call) = pause {
-        return poll_pause(rt, station, task, call);
-    }
-    Runner {
-        task,
-        wait: None,
-        pause: None,
+    match runner {
+        Runner {
+            task,
+            wait: Some(call),
+            ..
+        } => poll_wait(rt, station, task, call),
+        Runner {
+            task,
+            pause: Some(call),
+            ..
+        } => poll_pause(rt, station, task, call),
+        done => done,
     }
 }
 
@@ -241,6 +241,24 @@ fn hear(woken: &mut [bool; 8], log: &OpenLog, from: usize) {
     }
 }
 
+// Polls a task where it was marked.
+fn turn<R: Abort + Wait>(rt: &R, station: &Station, runner: Runner, woken: &mut [bool; 8]) -> Runner
+    requires runner { MayGoOn station.now runner.task runner.wait runner.pause }
+    requires blocks { length station.now.config.owners ≡ 8 }
+    requires elements { element_count station.now.config ≡ 8 }
+    ensures { MayGoOn station.now result.task result.wait result.pause }
+{
+    let number = (runner.task.number() & 7) as usize;
+    if !woken[number] {
+        return runner;
+    }
+    let from = runner.task.log().len();
+    let runner = go_on(rt, station, runner);
+    woken[number] = runner.task.log().len() > from;
+    hear(woken, runner.task.log(), from);
+    runner
+}
+
 // Polls one task after the other, where it was marked.
 fn run<R: Abort + Wait>(
     rt: &R,
@@ -254,17 +272,10 @@ fn run<R: Abort + Wait>(
 {
     let mut woken = [true; 8];
     for _ in 0..TURNS {
-        let Some(mut runner) = runners.pop_front() else {
-            return runners;
+        let Some(runner) = runners.pop_front() else {
+            panic!(rt; "a task is lost")
         };
-        let number = (runner.task.number() & 7) as usize;
-        if woken[number] {
-            let from = runner.task.log().len();
-            runner = go_on(rt, station, runner);
-            woken[number] = runner.task.log().len() > from;
-            hear(&mut woken, runner.task.log(), from);
-        }
-        add(rt, &mut runners, runner);
+        add(rt, &mut runners, turn(rt, station, runner, &mut woken));
     }
     runners
 }
@@ -302,16 +313,15 @@ fn tasks_of<R: Abort>(
     tasks
 }
 
-// A block for each task.
-fn eight_owners<R: Abort>(rt: &R, alloc: Global) -> Result<Vec<u32>, Fail>
-    ensures { IfOk result (λ owners. length owners.items ≡ 8) }
+// A new station of eight tasks with a block each.
+fn open_eight<R: Abort>(rt: &R, alloc: Global) -> (Station, Vec<Task>)
+    ensures blocks { length result.0.config.owners ≡ 8 }
+    ensures elements { element_count result.0.config ≡ 8 }
+    ensures callers { result.0.config.callers ≡ 8 }
+    ensures tasks { AreFresh result.0 0 result.1.items }
 {
-    let mut owners = Vec::new(alloc);
-    for owner in 0..=LAST {
-        owners.push(owner)?;
-    }
-    assert_eq!(rt; owners.len(), 8);
-    Ok(owners)
+    let owners = vec![in alloc; 0, 1, 2, 3, 4, 5, 6, LAST].expect(rt, "room for owners");
+    open(rt, alloc, owners)
 }
 
 // Has new tasks go round until all are done.
@@ -331,16 +341,24 @@ fn go_round<R: Abort + Wait>(
     tasks_of(rt, alloc, station, runners)
 }
 
-#[test]
-fn eight_tasks_go_round_by_what_is_rung(rt: HostRuntime) -> Result<(), Fail> {
-    let owners = eight_owners(&rt, rt.alloc())?;
-    let (station, tasks) = open(&rt, rt.alloc(), owners);
-    let tasks = go_round(&rt, rt.alloc(), &station, tasks);
-    let closed = station.close(tasks);
-    let listed = closed.history.listed(rt.alloc())?;
+// Closes the station, and judges its history.
+fn judge<R: Abort>(rt: &R, alloc: Global, station: Station, tasks: Vec<Task>)
+    requires callers { station.config.callers ≡ 8 }
+    requires tasks { AreInOrder station 0 tasks.items × (length tasks.items ≡ 8) }
+{
+    let history = station.close(tasks).history;
+    let Ok(listed) = history.listed(alloc) else {
+        panic!(rt; "no memory for a list of events")
+    };
     // Of each task its allocation, an arm, a settle and what it hands on, and in each lap a pause, a resume and what it hands on; and the
     // first post.
-    assert_eq!(rt; listed.journal.len(), 8 * 4 + 3 * 8 * 3 + 1);
-    replay(rt.alloc(), &listed.config, &listed.journal)?;
-    Ok(())
+    assert!(rt; listed.journal.len() == 8 * 4 + 3 * 8 * 3 + 1);
+    assert!(rt; replay(alloc, &listed.config, &listed.journal).is_ok());
+}
+
+#[test]
+fn eight_tasks_go_round_by_what_is_rung(rt: HostRuntime) {
+    let (station, tasks) = open_eight(&rt, rt.alloc());
+    let tasks = go_round(&rt, rt.alloc(), &station, tasks);
+    judge(&rt, rt.alloc(), station, tasks);
 }

@@ -2,10 +2,10 @@ use Rattle.std.proofs.Common.{◌≤◌, ◌∙◌, sym, subst}
 use Rattle.std.specs.List.{All}
 use Rattle.mv_machine.specs.declared.entry.Entry.{Entry}
 use Rattle.mv_machine.proofs.Longer.{entries_fit}
-use Rattle.mv_tests.proofs.tests.rings.eight_tasks_go_round_by_what_is_rung.Goals as goal
+use Rattle.mv_tests.proofs.tests.rings.judge.Goals as goal
 
 pub replay-requires : goal.replay-requires
 replay-requires g c = record {
-  places = subst (All (λ (e : Entry). e.place ≤ 524286)) (sym (c.deref.ensures.value ∙ c.in_ok-listed.ensures.journal))
-      (entries_fit _ _ c.close-closed.ensures.legal c.close-closed.ensures.few);
+  places = subst (All (λ (e : Entry). e.place ≤ 524286)) (sym (c.deref.ensures.value ∙ c.in-Ok.ensures.journal))
+      (entries_fit _ _ c.close-history.ensures.legal c.close-history.ensures.few);
 }
