@@ -24,7 +24,8 @@ loop-caller-preserved c =
     let task = c.push_reserved-in-loop-caller.ensures in record {
       yielded = taken_more c.loop-caller.yielded _ _ _ caller i.yielded step.0;
       count = left_less _ _ caller _ _ i.count step.0 step.1;
-      tasks = task.items ∙ (ap (λ xs. xs ++ c.in_ok-task.task ∷ []) i.tasks ∙ ap (λ x. c.loop-caller.yielded ++ x ∷ []) c.in_ok-task.ensures);
+      tasks = task.items ∙ (ap (λ xs. xs ++ c.in_ok-task.task ∷ []) i.tasks
+          ∙ ap (λ x. c.loop-caller.yielded ++ x ∷ []) c.in_ok-task.ensures);
       wakers = waker.len ∙ (ap (λ n. n + 1) i.wakers ∙ sym (length-append c.loop-caller.yielded (caller ∷ [])));
       room = (
         subst (λ n. length c.args.callers.items ≤ n) (sym task.capacity) i.room.0,

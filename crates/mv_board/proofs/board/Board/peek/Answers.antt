@@ -20,4 +20,5 @@ returns-in-Element-clause-look g c =
 
 pub returns-in-Element-clause-stays : goal.returns-in-Element-clause-stays
 returns-in-Element-clause-stays g c = λ listed.
-    c.peek_word-in-Element.ensures.stays (watch.Element c.in-Element.element) refl (subst (Contains c.args.caller.now.ready) c.in-Element.is listed)
+    c.peek_word-in-Element.ensures.stays (watch.Element c.in-Element.element) refl
+    (subst (Contains c.args.caller.now.ready) c.in-Element.is listed)

@@ -9,7 +9,9 @@ use Rattle.mv_wait.proofs.keep.Keep.empty.Goals as goal
 
 -- each place of a table of one value has it
 same_at : {A : Type 0} → (xs : List A) (n i : ℕ) (x : A) → xs ≡ replicate n x → i < length xs → get_or xs i x ≡ x
-same_at xs n i x is lt = ap (λ l. get_or l i x) is ∙ get_or-replicate n i x x (let size = ap length is ∙ length-replicate n x in omega arith)
+same_at xs n i x is lt =
+    let size = ap length is ∙ length-replicate n x in
+    ap (λ l. get_or l i x) is ∙ get_or-replicate n i x x (omega arith)
 
 same_got : {A : Type 0} → (xs : List A) (n i : ℕ) (x y : A) → xs ≡ replicate n x → slice_get xs i ≡ Some y → y ≡ x
 same_got xs n i x y is at = sym (get_or_from_slice_get xs i y x at) ∙ same_at xs n i x is (slice_get_within xs i y at)
