@@ -2,7 +2,6 @@
 use Rattle.std.proofs.Common.{◌≡◌, ℕ, length, take, refl, sym, ap, subst, arith}
 use Rattle.std.proofs.lemmas.List.{length-take-le}
 use Rattle.mv_board.specs.Faces.{BoardFace, CallerFace}
-use Rattle.mv_calls.specs.Waits.{wait}
 use Rattle.mv_machine.specs.Setup.{Setup}
 use Rattle.mv_polled.specs.Waiting.{WaitFace, IsWaitAt}
 use Rattle.mv_polled.specs.Pausing.{PauseFace, IsPauseAt}
