@@ -14,8 +14,8 @@ go_on-requires-clause-rests g c = c.requires.told.1.1.rests
 pub returns-in_err-stage : goal.returns-in_err-stage
 returns-in_err-stage g c t told =
     let w = c.args.self.now in
-    rw c.from_residual.ensures (scheduler_over c.args.station.now (jobs_of c.args.deck.now) c.args.initiators w w c.go_on.new.task c.args.got
-    c.args.stage told c.in_err-stage.ensures)
+    rw c.from_residual.ensures (scheduler_over c.args.station.now (jobs_of c.args.deck.now) c.args.initiators w w c.go_on.new.task
+    c.args.got c.args.stage told c.in_err-stage.ensures)
 
 pub returns : goal.returns
 returns g c t told =
