@@ -12,7 +12,8 @@ push_reserved-requires c =
     let since = c.loop-task.invariant in
     let count = task_count c.loop-task.yielded c.loop-task.polled.items since.tasks in
     let all = simp length-append at (ap length (rw c.in-Some.ensures.steps.0 at since.yielded)) in
-    let gives : into_iter_items c.into_iter-task-iterator.result ≡ c.args.tasks.items = c.into_iter-task-iterator.ensures.into_iter_gives.0 in
+    let gives : into_iter_items c.into_iter-task-iterator.result ≡ c.args.tasks.items =
+    c.into_iter-task-iterator.ensures.into_iter_gives.0 in
     let whole = ap length gives in
     let room = since.room in omega arith
 
