@@ -43,8 +43,8 @@ use Rattle.mv_machine.specs.Limits.{highest_generation, highest_place}
 use Rattle.mv_entrytext.specs.Reading.{Reader}
 use Rattle.mv_entrytext.proofs.CallNumbers.{IsCallIn}
 use Rattle.mv_entrytext.proofs.Again.{state_text, highest_kept-le}
-use Rattle.mv_entrytext.proofs.Taken.{Takes, takes_word, takes_part, takes_number_behind, word_or, part_or, u32_or, takes_made, takes_parted}
-use Rattle.mv_entrytext.proofs.Taken.{takes_parted_at, takes_number, takes_u32, takes_u64}
+use Rattle.mv_entrytext.proofs.Taken.{Takes, takes_word, takes_part, takes_number_behind, word_or, part_or, u32_or, takes_made}
+use Rattle.mv_entrytext.proofs.Taken.{takes_parted, takes_parted_at, takes_number, takes_u32, takes_u64}
 
 -- ---- event control blocks
 
@@ -363,9 +363,10 @@ takes_caller One =
     (λ n h. refl) (λ n h. (h, tt)) takes_u32
 takes_caller Two =
     takes_made who_text (λ x. IsCaller Two x) (λ x. (x.0, Some x.1)) (λ (x : ℕ × ℕ). decimal x.0 ++ 46 ∷ decimal x.1)
-    (λ x. (x.0 ≤ highest_u32) × (x.1 ≤ highest_u32)) (parted_at (codes ".") (any_u32 true) (λ caller. any_u32 true)) (λ x h. refl) (λ x h. h)
-    (takes_parted_at (codes ".") (any_u32 true) (λ _. any_u32 true) decimal decimal (λ n. n ≤ highest_u32) (λ _ n. n ≤ highest_u32) takes_u32
-    (λ _ _. takes_u32))
+    (λ x. (x.0 ≤ highest_u32) × (x.1 ≤ highest_u32)) (parted_at (codes ".") (any_u32 true) (λ caller. any_u32 true)) (λ x h. refl)
+    (λ x h. h)
+    (takes_parted_at (codes ".") (any_u32 true) (λ _. any_u32 true) decimal decimal (λ n. n ≤ highest_u32) (λ _ n. n ≤ highest_u32)
+    takes_u32 (λ _ _. takes_u32))
 
 -- the caller and the object, and what stands behind them
 abbrev FrontAnd : Type 0

@@ -8,8 +8,8 @@ use Rattle.std.proofs.lemmas.Option.{same_Some}
 use Rattle.mv_line.specs.Number.{number_of, within}
 use Rattle.mv_entrytext.specs.Ranges.{highest_u32, highest_u64}
 use Rattle.mv_entrytext.specs.Words.{◌<+>◌}
-use Rattle.mv_entrytext.specs.Reading.{Reader, nothing, word, behind, ◌or◌, made, after, parted_at, parted_by, whole, digit_count, shown_or_zero}
-use Rattle.mv_entrytext.specs.Reading.{number, any_u32, any_u64}
+use Rattle.mv_entrytext.specs.Reading.{Reader, nothing, word, behind, ◌or◌, made, after, parted_at, parted_by, whole, digit_count}
+use Rattle.mv_entrytext.specs.Reading.{shown_or_zero, number, any_u32, any_u64}
 use Rattle.mv_entrytext.proofs.Digits.{shown_is}
 use Rattle.mv_entrytext.proofs.Front.{word_first}
 use Rattle.std.specs.Prelude.{codes}

@@ -1,6 +1,6 @@
 -- The exits as they are read: the targets of one, and the blocks that are on any.
-use Rattle.std.proofs.Common.{◌≡◌, ℕ, zero, suc, ◌-◌, List, [], ◌∷◌, ◌||◌, map, Option, Some, None, option_map, slice_get, refl, sym, ap, ◌∙◌}
-use Rattle.std.proofs.Common.{arith}
+use Rattle.std.proofs.Common.{◌≡◌, ℕ, zero, suc, ◌-◌, List, [], ◌∷◌, ◌||◌, map, Option, Some, None, option_map, slice_get, refl}
+use Rattle.std.proofs.Common.{sym, ap, ◌∙◌, arith}
 use Rattle.std.proofs.lemmas.Option.{slice_get-map}
 use Rattle.std.specs.List.{list_any}
 use Rattle.mv_machine.specs.declared.config.Config.{Config}

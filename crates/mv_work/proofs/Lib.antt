@@ -15,7 +15,7 @@ pub mod Dispatching
 -- an initiator
 pub mod Steps
 pub mod Rounds
--- begin and go_on
+-- a task that goes on
 pub mod Going
 -- whoever runs tasks
 pub mod Meeting

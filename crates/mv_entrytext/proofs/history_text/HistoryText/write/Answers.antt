@@ -106,8 +106,8 @@ returns-clause-whole g c =
     let old = g.K.Sink.taken c.args.journal.now in
     let now = g.K.Sink.taken c.write_end.new.journal in
     subst (λ (text : List ℕ). OnOk c.write_end.result (Appends old now text))
-    (all_there x.history.config h.past h.coming x.history.coming c.loop-entry.count c.args.self known.whole c.in_default.ensures.0 known.count
-    c.self.view_is) (c.write_end.ensures.whole old (text_up_to x.history.config h.past) known.written)
+    (all_there x.history.config h.past h.coming x.history.coming c.loop-entry.count c.args.self known.whole c.in_default.ensures.0
+    known.count c.self.view_is) (c.write_end.ensures.whole old (text_up_to x.history.config h.past) known.written)
 
 pub returns-clause-cut : goal.returns-clause-cut
 returns-clause-cut g c =
@@ -117,5 +117,5 @@ returns-clause-cut g c =
     let old = g.K.Sink.taken c.args.journal.now in
     let now = g.K.Sink.taken c.write_end.new.journal in
     subst (λ (text : List ℕ). OnErr c.write_end.result (AppendsFront old now text))
-    (all_there x.history.config h.past h.coming x.history.coming c.loop-entry.count c.args.self known.whole c.in_default.ensures.0 known.count
-    c.self.view_is) (c.write_end.ensures.cut old (text_up_to x.history.config h.past) known.written)
+    (all_there x.history.config h.past h.coming x.history.coming c.loop-entry.count c.args.self known.whole c.in_default.ensures.0
+    known.count c.self.view_is) (c.write_end.ensures.cut old (text_up_to x.history.config h.past) known.written)

@@ -1,6 +1,6 @@
 -- A call, in the order of the kinds.
-use Rattle.std.proofs.Common.{◌≡◌, ℕ, ◌+◌, Bool, List, [], ◌∷◌, true, false, length, refl, sym, ap, subst, ◌∙◌, arith, ◌<◌, ◌≤◌, Option, Some}
-use Rattle.std.specs.Prelude.{is_some, nat_le, replicate}
+use Rattle.std.proofs.Common.{◌≡◌, ℕ, ◌+◌, Bool, List, [], ◌∷◌, true, false, length, refl, sym, ap, subst, ◌∙◌, arith, ◌<◌, ◌≤◌}
+use Rattle.std.specs.Prelude.{Option, Some, is_some, nat_le, replicate}
 use Rattle.std.proofs.lemmas.Bool.{le-leb, lt-leb}
 use Rattle.std.proofs.lemmas.List.Sums.{count_by-le-length}
 use Rattle.mv_machine.specs.Setup.{Setup}
