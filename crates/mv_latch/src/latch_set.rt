@@ -15,8 +15,7 @@ use crate::operation::{LatchOp, LatchReply, Wake};
 use crate::queue::{confirm, obtain, release};
 use crate::request::{LatchForm, Request};
 use crate::selection::Selection;
-use mv_io::NoMemory;
-use std::alloc::Global;
+use std::alloc::{AllocError, Global};
 use std::marker::Model;
 
 /// The lists of requests of a set of latches. Contracts see them with the quotas of the callers. A new set is what ISGLCRT makes.
@@ -47,14 +46,14 @@ impl LatchSet {
     ///
     /// # Errors
     ///
-    /// `NoMemory` where there is no room for `latches * callers * quota` requests.
+    /// `AllocError` if there is no room for `latches * callers * quota` requests.
     pub fn new(
         alloc: Global,
         latches: u32,
         callers: u32,
         quota: u32,
         posted: u32,
-    ) -> Result<LatchSet, NoMemory>
+    ) -> Result<LatchSet, AllocError>
         requires { callers * quota < 2 ^ 32 }
         ensures { IfOk result (λ s. s ≡ opened latches callers quota posted) }
     {

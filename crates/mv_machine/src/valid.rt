@@ -221,13 +221,14 @@ impl ValidConfig {
         ensures { IfOk result (λ s. s ≡ opened self.now.latches self.now.callers self.now.quota self.now.posted_quota) }
     {
         let given = &self.config;
-        LatchSet::new(
+        let latches = LatchSet::new(
             alloc,
             given.latches,
             given.callers,
             given.quota,
             given.posted_quota,
-        )
+        )?;
+        Ok(latches)
     }
 }
 
