@@ -1,6 +1,7 @@
 //! What a failure of a stream, and want of memory, answer.
 
 use std::alloc::{AllocError, AllocFailed};
+use std::io::{self, ErrorKind};
 use thiserror::Error;
 
 /// A stream failed. Its count of faults says that it was the stream. The cause is not told, and a later call may go through.
@@ -22,5 +23,11 @@ impl From<AllocError> for NoMemory {
 impl<T: Drop> From<AllocFailed<T>> for NoMemory {
     fn from(_: AllocFailed<T>) -> Self {
         NoMemory
+    }
+}
+
+impl From<NoMemory> for io::Error {
+    fn from(_: NoMemory) -> Self {
+        io::Error::from(ErrorKind::OutOfMemory)
     }
 }

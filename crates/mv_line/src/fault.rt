@@ -1,6 +1,6 @@
 //! The faults of a text, and why it or a line of it was not read (`specs/Fault.antt`).
 
-ghost use Rattle.std.specs.Prelude.{◌≡◌, ℕ};
+ghost use Rattle.std.specs.Prelude.{◌≡◌, ℕ, MatchResult};
 ghost use Rattle.mv_line.specs.Fault.{fault_at, refusal_at};
 ghost use Rattle.mv_line.specs.declared.fault.LineRefusal.TheVariants as of_line;
 ghost use Rattle.mv_line.specs.declared.fault.TextRefusal.TheVariants as of_text;
@@ -29,6 +29,23 @@ pub enum TextRefusal {
     /// There was no memory for what the text states; it may have a fault or none.
     #[error("there is not enough memory for the text")]
     NoMemory,
+}
+
+impl TextRefusal {
+    /// The fault, of a text that was refused for one.
+    ///
+    /// # Errors
+    ///
+    /// `NoMemory` if there was no memory instead. So `refusal.fault()?` hands that on.
+    pub fn fault(self) -> Result<TextFault, NoMemory>
+        ensures { MatchResult result (λ fault. self ≡ of_text.Fault fault) (λ _. self ≡ of_text.NoMemory) }
+    {
+        match self {
+            TextRefusal::Fault(fault) => Ok(fault),
+            // out of memory: the text was refused for that.
+            TextRefusal::NoMemory => Err(NoMemory),
+        }
+    }
 }
 
 impl From<NoMemory> for TextRefusal {
@@ -90,6 +107,7 @@ impl<K: FaultKind> LineRefusal<K> {
     {
         match self {
             LineRefusal::Has(kind) => TextRefusal::Fault(kind.at(line)),
+            // out of memory: the line was refused for that.
             LineRefusal::NoMemory => TextRefusal::NoMemory,
         }
     }
