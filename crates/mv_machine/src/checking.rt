@@ -107,8 +107,8 @@ impl Config {
         None
     }
 
-    // Why the configuration is refused, if it is.
-    fn refusal(&self) -> Option<CheckRefusal>
+    /// The first rule that refuses the configuration, in the order of `CheckRefusal`, if there is one. It takes no memory.
+    pub fn refusal(&self) -> Option<CheckRefusal>
         ensures { result ≡ refusal_of (setup_of self.now) }
     {
         if let Some(limit) = self.first_limit() {

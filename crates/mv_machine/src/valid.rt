@@ -43,8 +43,13 @@ impl ValidConfig {
     ghost use Rattle.mv_machine.specs.Config.{setup_of};
     ghost use Rattle.mv_machine.specs.Check.{IsValid};
 
-    // The configuration was checked: its reaches are computed once.
-    pub(crate) fn of(alloc: Global, config: Config) -> Result<ValidConfig, NoMemory>
+    /// The checked form of a configuration that no rule refuses. It computes once how many posts one post leads to, in time linear
+    /// in the blocks and the exits. If a caller does not know that no rule refuses the configuration, `Config::check` finds out.
+    ///
+    /// # Errors
+    ///
+    /// `NoMemory` if there is no room for what it computes; the configuration is dropped then.
+    pub fn of(alloc: Global, config: Config) -> Result<ValidConfig, NoMemory>
         requires { IsValid (setup_of config) }
         ensures { IfOk result (λ v. v ≡ setup_of config) }
     {
