@@ -2,6 +2,8 @@
 use Rattle.std.specs.Prelude.{◌≡◌, ◌≢◌, ℕ, ◌+◌, List, take, slice_get, Some}
 use Rattle.mv_machine.specs.declared.entry.Entry.{Entry}
 use Rattle.mv_machine.specs.declared.replaying.Illegal.{Illegal}
+use Rattle.mv_machine.specs.declared.replaying.ReplayRefusal.{ReplayRefusal}
+use Rattle.mv_machine.specs.declared.replaying.ReplayRefusal.TheVariants as replay
 use Rattle.mv_machine.specs.Legal.{Legal}
 use Rattle.mv_machine.specs.Replay.{IsFirstIllegal}
 use Rattle.mv_machine.specs.Setup.{Setup}
@@ -34,6 +36,11 @@ abbrev pub IsCallsRefused : Setup → List Entry → List ℕ → CallsRefusal �
 IsCallsRefused c es kept (refusal.Illegal i) = IsFirstBad c es kept i
 IsCallsRefused c es kept (refusal.Number index k machine) = IsFirstNumber c es kept index k machine
 IsCallsRefused c es kept refusal.NoMemory = Unit {0}
+
+-- the refusal of a list that `replay` refused
+abbrev pub of_replay : ReplayRefusal → CallsRefusal
+of_replay (replay.Illegal i) = refusal.Illegal i
+of_replay replay.NoMemory = refusal.NoMemory
 
 -- the same of a list that is known not to be legal, whatever numbers it has
 abbrev pub IsIllegalRefused : Setup → List Entry → CallsRefusal → Type 0

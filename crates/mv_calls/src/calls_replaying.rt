@@ -48,6 +48,19 @@ impl From<NoMemory> for CallsRefusal {
     }
 }
 
+impl From<ReplayRefusal> for CallsRefusal {
+    ghost use Rattle.mv_calls.specs.CallsReplay.{of_replay};
+
+    ghost from_gives = { λ refusal r. r ≡ of_replay refusal };
+
+    fn from(refusal: ReplayRefusal) -> CallsRefusal {
+        match refusal {
+            ReplayRefusal::Illegal(illegal) => CallsRefusal::Illegal(illegal),
+            ReplayRefusal::NoMemory => CallsRefusal::NoMemory,
+        }
+    }
+}
+
 // The refusal of a list that is known not to be legal.
 fn refuse(alloc: Global, config: &ValidConfig, entries: &[Entry]) -> CallsRefusal
     requires places { All (λ e. e.place ≤ highest_place) entries.now }
@@ -56,8 +69,7 @@ fn refuse(alloc: Global, config: &ValidConfig, entries: &[Entry]) -> CallsRefusa
 {
     match replay(alloc, config, entries) {
         Ok(_) => unreachable!(),
-        Err(ReplayRefusal::Illegal(illegal)) => CallsRefusal::Illegal(illegal),
-        Err(ReplayRefusal::NoMemory) => CallsRefusal::NoMemory,
+        Err(refusal) => CallsRefusal::from(refusal),
     }
 }
 
