@@ -16,7 +16,7 @@ use crate::line::{Line, Stage, read_line};
 use crate::version::Version;
 use mv_io::NoMemory;
 use mv_line::{FaultKind, LineRefusal, Lines, TextRefusal, split_cut_off};
-use mv_machine::{CheckRefusal, Config, ValidConfig};
+use mv_machine::{Config, ValidConfig};
 use std::alloc::Global;
 
 // What the lines of the head have said so far, and which line comes next.
@@ -103,16 +103,12 @@ fn line_or_kind(alloc: Global, stage: Stage, text: &[u8]) -> Result<Line, LineRe
         (λ l. line_read true (stage_of stage) text.now ≡ Some (said l))
         (λ e. TellsLowest kind_number e (listed (kind_of_form (stage_of stage) text.now))) }
 {
-    let Ok(strict) = read_line(alloc, true, stage, text) else {
-        return Err(LineRefusal::NoMemory);
-    };
-    if let Some(line) = strict {
+    if let Some(line) = read_line(alloc, true, stage, text)? {
         return Ok(line);
     }
-    match read_line(alloc, false, stage, text) {
-        Ok(Some(_)) => Err(LineRefusal::Has(Kind::BadNumber)),
-        Ok(None) => Err(LineRefusal::Has(Kind::NoForm)),
-        Err(_) => Err(LineRefusal::NoMemory),
+    match read_line(alloc, false, stage, text)? {
+        Some(_) => Err(LineRefusal::Has(Kind::BadNumber)),
+        None => Err(LineRefusal::Has(Kind::NoForm)),
     }
 }
 
@@ -122,10 +118,9 @@ fn checked(alloc: Global, config: Config) -> Result<ValidConfig, LineRefusal<Kin
         (λ v. (v ≡ setup_of config) × IsValid (setup_of config))
         (λ e. TellsLowest kind_number e (listed (kind_of_config (setup_of config)))) }
 {
-    match config.check(alloc) {
-        Ok(valid) => Ok(valid),
-        Err(CheckRefusal::NoMemory) => Err(LineRefusal::NoMemory),
-        Err(_) => Err(LineRefusal::Has(Kind::BadConfig)),
+    match config.refusal() {
+        Some(_) => Err(LineRefusal::Has(Kind::BadConfig)),
+        None => Ok(ValidConfig::of(alloc, config)?),
     }
 }
 
@@ -166,9 +161,7 @@ pub(crate) fn read_head(alloc: Global, bytes: &[u8]) -> Result<Head<'_>, TextRef
                 Err(refusal) => Err(refusal.at(number)),
             };
         }
-        let Ok(()) = draft.take(line) else {
-            return Err(TextRefusal::NoMemory);
-        };
+        draft.take(line)?;
     }
     Err(TextRefusal::Fault(Kind::Cut.at(lines.number)))
 }

@@ -66,12 +66,8 @@ pub fn read_journal(alloc: Global, bytes: &[u8]) -> Result<Journal, TextRefusal>
     'entries: loop {
         match reader.next() {
             Ok(Some((call, entry))) => {
-                let Ok(()) = push_call(&mut calls, call) else {
-                    return Err(TextRefusal::NoMemory);
-                };
-                let Ok(()) = entries.push(entry) else {
-                    return Err(TextRefusal::NoMemory);
-                };
+                push_call(&mut calls, call)?;
+                entries.push(entry)?;
             }
             Ok(None) => {
                 return Ok(Journal {

@@ -37,7 +37,7 @@ lines-preserved c =
     let next = next_at c.lines.invariant c.in-Some.ensures (said l) c.in-Ok.ensures
     (nothing_said (head_seen c.lines.draft) l c.in_default-line.not-Events) in
     subst (λ (x : Draft). IsAt c.args.bytes.now c.next.new.self x)
-    (sym (c.in-Ok-take.ensures (said_other l c.in_default-line.not-Events))) next
+    (sym (c.in_ok-take.ensures (said_other l c.in_default-line.not-Events))) next
 
 pub returns : goal.returns
 returns c =

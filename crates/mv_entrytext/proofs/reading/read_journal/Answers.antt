@@ -25,10 +25,10 @@ entries-preserved c =
     subst (λ (o : Option (Option ℕ × Entry)). IsNextOf v bytes config es ns o new) c.in-Ok-Some.field-0-is
     (c.in-Ok-Some.ensures.read v bytes config es ns c.entries.invariant.read) in
     let with_number =
-    subst (λ (x : List ℕ). IsReadTo v bytes config (es ++ e ∷ []) x new) (sym c.in-Ok.ensures) next.read in
+    subst (λ (x : List ℕ). IsReadTo v bytes config (es ++ e ∷ []) x new) (sym c.in_ok-push_call-in-Ok-Some.ensures) next.read in
     record {
-      read = subst (λ (x : List Entry). IsReadTo v bytes config x c.push_call.new.calls.items new) (sym c.in-Ok-push.ensures.items)
-          with_number;
+      read = subst (λ (x : List Entry). IsReadTo v bytes config x c.push_call.new.calls.items new)
+          (sym c.in_ok-push-in-Ok-Some.ensures.items) with_number;
       first = c.entries.invariant.first;
     }
 
