@@ -303,6 +303,7 @@ fn table_of(
     let words = vec![in alloc; 0u64; BEFORE_ECBS + config.config().owners.len()]?;
     let slots = vec![in alloc; Item::Held(lists_of(alloc, config)?)]?;
     let Ok(table) = Table::new(alloc, &words, slots, config) else {
+        // out of memory: a table is refused for nothing else.
         return Err(NoMemory);
     };
     Ok(table)
