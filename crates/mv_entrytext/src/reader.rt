@@ -116,7 +116,7 @@ impl EntryReader<'_> {
     ///
     /// # Errors
     ///
-    /// The first fault of the text, where it is at fault here. The reader stays before the line then, and so it does at the end.
+    /// The first fault of the text, if it is at fault here. The reader then stays before the line, as it does at the end.
     ///
     /// # Example
     ///
@@ -134,6 +134,8 @@ impl EntryReader<'_> {
             (λ found. IsNextOf v bytes c es ns found self.new)
             (λ f. text_fault bytes ≡ Some f) }
         ensures shorter { IfOk result (λ found. IfSome found (λ _. left_in self.new < left_in self.old)) }
+        // A call that returns no entry leaves the reader as it was.
+        ensures stays { MatchResult result (λ found. MatchOption found (self.new ≡ self.old) (λ _. Unit {0})) (λ _. self.new ≡ self.old) }
     {
         if let Some(found) = entry_in_front(self.version, &mut self.lines) {
             self.count += 1;
@@ -151,6 +153,8 @@ impl EntryReader<'_> {
             (λ found. IsNextOf v bytes c es ns found self.new)
             (λ f. text_fault bytes ≡ Some f) }
         ensures shorter { IfOk result (λ found. IfSome found (λ _. left_in self.new < left_in self.old)) }
+        // A call that returns no entry leaves the reader as it was.
+        ensures stays { MatchResult result (λ found. MatchOption found (self.new ≡ self.old) (λ _. Unit {0})) (λ _. self.new ≡ self.old) }
     {
         let mut lines = self.lines;
         let Some((number, text)) = lines.next() else {
