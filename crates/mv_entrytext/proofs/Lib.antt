@@ -28,5 +28,7 @@ pub mod LegalRanges
 pub mod Heads
 pub mod Passes
 pub mod ReadOn
+-- the first fault is the lowest: the law `first_fault_is_lowest`
+pub mod Lowest
 -- worked rows
 pub mod Rows

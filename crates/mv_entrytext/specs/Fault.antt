@@ -1,11 +1,11 @@
 -- The faults of a text: one test for each kind of fault that a line can have, and which fault is the first.
-use Rattle.std.specs.Prelude.{◌≡◌, ℕ, ◌≤◌, ◌==◌, Bool, true, false, ◌&&◌, ◌||◌, not, List, [], length, fold, All, Option, Some}
+use Rattle.std.specs.Prelude.{◌≡◌, ℕ, ◌<◌, ◌≤◌, ◌⊎◌, ◌==◌, Bool, true, false, ◌&&◌, ◌||◌, not, List, [], ◌++◌, length, fold, All, Option, Some}
 use Rattle.std.specs.Prelude.{None, is_some, option_map, option_to_list, if◌then◌else◌}
 use Rattle.mv_machine.specs.declared.entry.Entry.{Entry}
 use Rattle.mv_machine.specs.Check.{IsValid, or_else, refusal_of}
 use Rattle.mv_machine.specs.Setup.{Setup}
 use Rattle.mv_line.specs.declared.fault.TextFault.{TextFault}
-use Rattle.mv_line.specs.Fault.{LineRules, first_fault}
+use Rattle.mv_line.specs.Fault.{LineRules, HasFaultAt, first_fault, when}
 pub use Rattle.mv_line.specs.Fault.{TellsFirst}
 use Rattle.mv_line.specs.Line.{ended_lines, cut_off}
 use Rattle.mv_entrytext.specs.declared.fault.Kind.{Kind}
@@ -91,6 +91,47 @@ line_rules cut = record {
 -- the first fault of a text, if it has one
 unfoldable pub text_fault : List ℕ → Option TextFault
 text_fault bytes = first_fault (line_rules (cut_off bytes)) blank (ended_lines bytes)
+
+-- ---- every fault, and their order
+
+-- the line has no form that may stand there
+abbrev pub has_no_form : Stage → List ℕ → Bool
+has_no_form stage line = not (is_read true stage line || is_read false stage line)
+
+-- it is not read with each number spelled well and in its range, whether it has a form or not
+abbrev pub has_bad_number : Stage → List ℕ → Bool
+has_bad_number stage line = not (is_read true stage line)
+
+-- it is read, and this test holds of what it says
+abbrev pub says : (Draft → Line → Bool) → Draft → Option Line → Bool
+says test d None = false
+says test d (Some l) = test d l
+
+-- every kind that a line has, each by its own test, by number
+abbrev pub every_kind : Draft → List ℕ → List ℕ
+every_kind d line =
+    when kind_number (has_no_form d.stage line) NoForm
+    ++ (when kind_number (has_bad_number d.stage line) BadNumber
+    ++ (when kind_number (says has_bad_config d (line_read true d.stage line)) BadConfig
+    ++ when kind_number (says has_wrong_count d (line_read true d.stage line)) WrongCount))
+
+-- the rules of a journal's lines with every kind of a line
+abbrev pub every_rule : List ℕ → LineRules Draft
+every_rule cut = record (line_rules cut) { kinds_of = every_kind }
+
+-- a text has the fault of this kind in this line
+abbrev pub HasFault : List ℕ → TextFault → Type 0
+HasFault bytes f = HasFaultAt (every_rule (cut_off bytes)) 1 blank (ended_lines bytes) f.line f.kind
+
+-- the order of kinds in a line is 5, 1, 2, 3, 4: a line that is cut off has that fault first
+abbrev pub kind_rank : ℕ → ℕ
+kind_rank kind = if kind == kind_number Cut then 0 else kind
+
+-- by line, and in a line in that order
+abbrev pub IsNoLater : TextFault → TextFault → Type 0
+IsNoLater f g = (f.line < g.line) ⊎ ((f.line ≡ g.line) × (kind_rank f.kind ≤ kind_rank g.kind))
+
+-- ---- what a text says
 
 -- what a text says: the version, the configuration, the entries and their call numbers of one without fault
 unfoldable pub journal_of : List ℕ → Draft

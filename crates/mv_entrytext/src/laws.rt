@@ -1,6 +1,7 @@
 //! What holds of the texts of journals, whoever writes or reads them: `specs/Journal.antt`, `specs/Fault.antt`.
 
-ghost use Rattle.std.specs.Prelude.{◌≡◌, ◌≤◌, ◌↔◌, ℕ, List, All, None, length};
+ghost use Rattle.std.specs.Prelude.{◌≡◌, ◌≤◌, ◌↔◌, ℕ, List, All, None, MatchOption, length};
+ghost use Rattle.mv_line.specs.declared.fault.TextFault.{TextFault};
 ghost use Rattle.mv_machine.specs.declared.entry.Entry.{Entry};
 ghost use Rattle.mv_machine.specs.Check.{IsValid};
 ghost use Rattle.mv_machine.specs.Legal.{Legal};
@@ -10,7 +11,7 @@ ghost use Rattle.mv_machine.specs.Limits.{highest_place};
 ghost use Rattle.mv_entrytext.specs.declared.version.Version.{Version as AnyVersion};
 ghost use Rattle.mv_entrytext.specs.Ranges.{highest_u32};
 ghost use Rattle.mv_entrytext.specs.EntryText.{IsInRange, IsTyped};
-ghost use Rattle.mv_entrytext.specs.Fault.{HasJournal, AreCallsIn, AreCallNumbers, journal_of, text_fault};
+ghost use Rattle.mv_entrytext.specs.Fault.{HasFault, HasJournal, AreCallsIn, AreCallNumbers, IsNoLater, journal_of, text_fault};
 ghost use Rattle.mv_entrytext.specs.Journal.{text_of};
 
 /// A text determines its version, its configuration, its entries and their call numbers: they are what is read off it.
@@ -38,4 +39,12 @@ pub fn texts_without_fault_are_journals()
     ensures { (bytes : List ℕ) → (text_fault bytes ≡ None)
         ↔ ((v : AnyVersion) × (c : Setup) × (es : List Entry) × (ns : List ℕ)
         × HasJournal c es × AreCallsIn v es ns × (bytes ≡ text_of v c es ns)) }
+{}
+
+/// The first fault is one that the text has, and no other comes before it by line and then by the order of kinds 5, 1, 2, 3, 4;
+/// there is none only if the text has no fault.
+pub fn first_fault_is_lowest()
+    ensures { (bytes : List ℕ) → MatchOption (text_fault bytes)
+        ((f : TextFault) → ¬ HasFault bytes f)
+        (λ f. HasFault bytes f × ((g : TextFault) → HasFault bytes g → IsNoLater f g)) }
 {}
