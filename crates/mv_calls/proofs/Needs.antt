@@ -38,11 +38,11 @@ use Rattle.mv_calls.specs.Program.{on_latch, unless_refused, finished}
 use Rattle.mv_calls.specs.Refusal.{Refusal}
 use Rattle.mv_calls.specs.Services as services
 use Rattle.mv_calls.specs.Services.{Service, program, most_events, transfer_events, obtain_events, mother_events, HasItsTable}
-use Rattle.mv_calls.specs.Table.{IsTableOf, IsSoundTable, event_block, slot_block}
+use Rattle.mv_calls.specs.Table.{IsSoundTable, event_block, slot_block}
 use Rattle.mv_calls.specs.declared.table.Table.{Table}
 use Rattle.mv_calls.specs.Events as events
 use Rattle.mv_calls.specs.Refusal.{Broken, Strange}
-use Rattle.mv_calls.proofs.TableFacts.{checked_is_sound, reaches_itself}
+use Rattle.mv_calls.proofs.TableFacts.{reaches_itself}
 use Rattle.mv_calls.proofs.Posting.{follow_asks}
 use Rattle.mv_calls.specs.Waits as waits
 use Rattle.mv_machine.specs.declared.entry.Entry.{Entry}
@@ -321,14 +321,14 @@ with_latch_asks c t index code (Ok (latches.PendingAs id)) kept sound lt low = n
 with_latch_asks c t index code (Err why) kept sound lt low = none_asks (IsHeard c) _ (Done (Err why)) tt
 
 -- a post of an event
-post_event_asks : (c : Setup) (t : Table) (index code : ℕ) (kept : Kept) → IsTableOf c t → index < t.size → 6 + release_cost c ≤ 524287
+post_event_asks : (c : Setup) (t : Table) (index code : ℕ) (kept : Kept) → IsSoundTable c t → index < t.size → 6 + release_cost c ≤ 524287
     → Asks (IsHeard c) (6 + release_cost c) (events.post_event c t index code kept)
-post_event_asks c t index code kept checked lt low =
+post_event_asks c t index code kept sound lt low =
     wider (IsHeard c) (2 + (4 + release_cost c)) (6 + release_cost c) _ (omega arith)
     (follow_asks (IsHeard c) 2 (4 + release_cost c)
     (latches.obtain c t.latch (events.event_requestor kept.caller) Exclusive form_of.Waiting) (events.with_latch c t index code) kept
     (obtain_asks (IsHeard c) c t.latch (events.event_requestor kept.caller) Exclusive form_of.Waiting kept)
-    (λ got now. with_latch_asks c t index code got now (checked_is_sound c t checked) lt (omega arith)))
+    (λ got now. with_latch_asks c t index code got now sound lt (omega arith)))
 
 -- what follows the wait for a slot
 slot_found_asks : (P : Heard → Type 0) (t : Table) (a : Result (List (Option ℕ)) Refusal) (kept : Kept)

@@ -20,7 +20,7 @@ use Rattle.mv_calls.specs.Posts as posts
 use Rattle.mv_calls.specs.Posts.{Posting}
 use Rattle.mv_calls.specs.Program.{Call}
 use Rattle.mv_calls.specs.Refusal.{Refusal}
-use Rattle.mv_calls.specs.Table.{IsTableOf}
+use Rattle.mv_calls.specs.Table.{IsSoundTable}
 use Rattle.mv_calls.specs.Waits as waits
 
 -- a call with its arguments
@@ -145,8 +145,8 @@ most_events c kept (EndOfTask requestor mother code) =
 most_events c kept (PostEvent table index code) = 6 + release_cost c
 most_events c kept (NextEvent table position) = 3
 
--- a call on a table of events has one that was checked against the configuration, and an event of it
+-- a call on a table of events has a table that is sound for the configuration, and a post has an event of it
 abbrev pub HasItsTable : Setup → Service → Type 0
-HasItsTable c (PostEvent table index code) = IsTableOf c table × (index < table.size)
-HasItsTable c (NextEvent table position) = IsTableOf c table
+HasItsTable c (PostEvent table index code) = IsSoundTable c table × (index < table.size)
+HasItsTable c (NextEvent table position) = IsSoundTable c table
 HasItsTable c _ = Unit {0}
