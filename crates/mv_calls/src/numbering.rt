@@ -29,7 +29,7 @@ pub fn number_calls(
     requires few { length entries.now < 2 ^ 32 }
     requires places { All (λ e. e.place ≤ highest_place) entries.now }
     ensures numbers { IfOk result (λ ns. ns.items ≡ calls config.now entries.now) }
-    // All entries of one call have one number.
+    // All entries of one call that is not made of others (`IsSingle`) have one number.
     ensures one_number { IfOk result (λ ns. (k : ℕ) (old piece : List Heard)
         → IsOneCall config.now k entries.now old piece → HasOneNumber k entries.now ns.items old piece) }
 {
