@@ -1,10 +1,10 @@
 -- A script with a table leaves it to its two calls, so what they are told is what the law on tables says.
 use Rattle.std.proofs.Common.{◌≡◌, ◌==◌, ℕ, zero, suc, ◌+◌, ◌<◌, nat_lt, Bool, true, false, List, [], ◌∷◌, ◌++◌, length}
 use Rattle.std.proofs.Common.{Option, Some, None, Result, Ok, Err, refl, sym, ap, ◌∙◌, subst, arith, if◌then◌else◌, append-nil}
-use Rattle.std.proofs.Common.{append_assoc, length-append}
+use Rattle.std.proofs.Common.{append_assoc, length-append, inl}
 use Rattle.std.specs.Prelude.{slice_get, slice_index_or, unwrap_or, is_none, option_and_then}
 use Rattle.std.specs.List.{AllByRecursion, list_any}
-use Rattle.std.proofs.lemmas.Bool.{or_parts, ltb-true, lt-ltb}
+use Rattle.std.proofs.lemmas.Bool.{or_parts, ltb-true, lt-ltb, eq-eqb}
 use Rattle.std.proofs.lemmas.List.FromFn.{get_or-map-range_with_len}
 use Rattle.mv_latch.specs.declared.request.LatchForm.{LatchForm}
 use Rattle.mv_latch.specs.declared.request.LatchForm.TheVariants.{Conditional, Waiting, Posted}
@@ -22,14 +22,14 @@ use Rattle.mv_calls.specs.Refusal as refusal
 use Rattle.mv_calls.specs.Runs.{heard_in}
 use Rattle.mv_calls.specs.Services.{Service}
 use Rattle.mv_calls.specs.Services as service
-use Rattle.mv_calls.specs.Table.{IsTableOf}
+use Rattle.mv_calls.specs.Table.{IsTableOf, IsSoundTable}
 use Rattle.mv_calls.proofs.Making.{kept_caller}
 use Rattle.mv_calls.proofs.TableFacts.{checked_is_sound}
 use Rattle.mv_eventlaws.specs.Completions.{Completion, completions}
-use Rattle.mv_eventlaws.specs.Discipline.{Deed}
+use Rattle.mv_eventlaws.specs.Discipline.{Deed, Posts, Takes}
 use Rattle.mv_eventlaws.specs.Order.{MayCome, IsAnswered, AreInOrder}
 use Rattle.mv_eventlaws.specs.Served.{Served, AreServed, is_block, IsElsewhere, IsElsewhereIfAny, PostsElsewhere, IsOther, Spares}
-use Rattle.mv_eventlaws.specs.Served.{deed_of, deeds_of}
+use Rattle.mv_eventlaws.specs.Served.{deed_of, deeds_of, is_own}
 use Rattle.mv_script.proofs.Cutting.{cut_followed}
 use Rattle.mv_eventlaws.proofs.Disciplining.{are_disciplined, served_in_order}
 use Rattle.mv_eventlaws.proofs.Programs.{done_is}
@@ -132,8 +132,8 @@ spared t requests (call.Purge requestor) e own has w = low_requestor requestor e
 spared t requests (call.EndTask requestor mother code) e own has w =
     let a = or_parts (is_event_requestor requestor) (is_block_if_any t mother) e in
     (low_requestor requestor a.0, is_elsewhere t mother a.1)
-spared t requests (call.PostEvent index code) e own has w = (refl, own)
-spared t requests (call.NextEvent position) e own has w = refl
+spared t requests (call.PostEvent index code) e own has w = (own, inl refl)
+spared t requests (call.NextEvent position) e own has w = inl refl
 
 -- ---- what it is told
 
@@ -151,23 +151,32 @@ module _ (done : List Completion) where
   refused_next position why m h = absurd m
 
   module _ (c : Setup) (t : Table) (exists : t.latch < c.latches) (kept : Kept) (hs : List Heard) where
+    -- a table is its own
+    own_deed : (d : Deed) → AllByRecursion (IsAnswered done) (if is_own t t then d ∷ [] else [])
+        → AllByRecursion (IsAnswered done) (d ∷ [])
+    own_deed d h = subst (λ (b : Bool). AllByRecursion (IsAnswered done) (if b then d ∷ [] else [])) (eq-eqb t.latch t.latch refl) h
+
     posted_told : (index code : ℕ) (a : Result Entering Refusal)
         → IsDoneOn (service.program c (service.PostEvent t index code) kept) hs a
-        → AllByRecursion (IsAnswered done) (deed_of (service.PostEvent t index code) a)
+        → AllByRecursion (IsAnswered done) (deed_of t (service.PostEvent t index code) a)
         → IsEntered done index code (answer_to (service.PostEvent t index code) a)
-    posted_told index code (Ok (EnteredAt position)) w h = h.0
-    posted_told index code (Ok (WasComplete old)) w h = h.0
-    posted_told index code (Err why) w h = refused_post index code why (post_refused c t (Err why) index code kept hs exists w) h.0
+    posted_told index code (Ok (EnteredAt position)) w h = (own_deed (Posts index code (Ok (EnteredAt position))) h).0
+    posted_told index code (Ok (WasComplete old)) w h = (own_deed (Posts index code (Ok (WasComplete old))) h).0
+    posted_told index code (Err why) w h = refused_post index code why (post_refused c t (Err why) index code kept hs exists w)
+        (own_deed (Posts index code (Err why)) h).0
 
     taken_told : (position : ℕ) (a : Result Finding Refusal) → IsDoneOn (service.program c (service.NextEvent t position) kept) hs a
-        → AllByRecursion (IsAnswered done) (deed_of (service.NextEvent t position) a)
+        → AllByRecursion (IsAnswered done) (deed_of t (service.NextEvent t position) a)
         → IsHandedOut done position (answer_to (service.NextEvent t position) a)
-    taken_told position (Ok found) w h = (h.0.0, h.0.1, h.0.2.index, h.0.2.word)
-    taken_told position (Err why) w h = refused_next position why (next_refused c t (Err why) position kept hs w) h.0
+    taken_told position (Ok found) w h =
+        let x : IsAnswered done (Takes position (Ok found)) = (own_deed (Takes position (Ok found)) h).0 in
+        (x.0, x.1, x.2.index, x.2.word)
+    taken_told position (Err why) w h = refused_next position why (next_refused c t (Err why) position kept hs w)
+        (own_deed (Takes position (Err why)) h).0
 
     service_told : (asked : ℕ → Asked) (d : Call) (a : service.Answer (service_of t asked d))
         → IsDoneOn (service.program c (service_of t asked d) kept) hs a
-        → AllByRecursion (IsAnswered done) (deed_of (service_of t asked d) a)
+        → AllByRecursion (IsAnswered done) (deed_of t (service_of t asked d) a)
         → IsToldInOrder done d (answer_to (service_of t asked d) a)
     service_told asked (call.PostEvent index code) a w h = posted_told index code a w h
     service_told asked (call.NextEvent position) a w h = taken_told position a w h
@@ -196,7 +205,7 @@ module _ (done : List Completion) where
       spare : AllByRecursion (λ m. Spares t m.service) served
       answer : Answer
       adds : next.answers ≡ past.answers ++ answer ∷ []
-      told : AllByRecursion (IsAnswered done) (deeds_of served) → IsToldInOrder done d answer
+      told : AllByRecursion (IsAnswered done) (deeds_of t served) → IsToldInOrder done d answer
 
     -- it asked no service
     nothing : (kept : Kept) (piece : List Heard) (d : Call) (past next : Past) (a : Answer) → AreOthers t past.requests
@@ -256,16 +265,16 @@ module _ (done : List Completion) where
             adds = ap (λ (p : Past). p.answers) (sym r.1);
             told = λ h. service_told c t exists kept cut.piece (request_of past.requests) d cut.first cut.done
                 (subst (λ (ds : List Deed). AllByRecursion (IsAnswered done) ds)
-                (append-nil (deed_of (service_of t (request_of past.requests) d) cut.first)) h);
+                (append-nil (deed_of t (service_of t (request_of past.requests) d) cut.first)) h);
           }
 
     -- ---- all calls of a task
 
-    deeds_on : (xs ys : List Served) → deeds_of (xs ++ ys) ≡ deeds_of xs ++ deeds_of ys
+    deeds_on : (xs ys : List Served) → deeds_of t (xs ++ ys) ≡ deeds_of t xs ++ deeds_of t ys
     deeds_on [] ys = refl
     deeds_on (m ∷ xs) ys =
-        ap (λ (ds : List Deed). deed_of m.service m.answer ++ ds) (deeds_on xs ys)
-        ∙ sym (append_assoc (deed_of m.service m.answer) (deeds_of xs) (deeds_of ys))
+        ap (λ (ds : List Deed). deed_of t m.service m.answer ++ ds) (deeds_on xs ys)
+        ∙ sym (append_assoc (deed_of t m.service m.answer) (deeds_of t xs) (deeds_of t ys))
 
     one_more : (before next : List Answer) (a : Answer) → next ≡ before ++ a ∷ [] → length next ≡ length before + 1
     one_more before next a e = ap (λ (xs : List Answer). length xs) e ∙ length-append before (a ∷ [])
@@ -280,7 +289,7 @@ module _ (done : List Completion) where
       spare : AllByRecursion (λ m. Spares t m.service) served
       answers : List Answer
       adds : end.answers ≡ past.answers ++ answers
-      told : AllByRecursion (IsAnswered done) (deeds_of served) → AreToldInOrder done calls answers
+      told : AllByRecursion (IsAnswered done) (deeds_of t served) → AreToldInOrder done calls answers
 
     -- a word was met by tries alone
     abbrev AreTries : (ℕ → Option ℕ) → ℕ → List Call → Type 0
@@ -321,9 +330,9 @@ module _ (done : List Completion) where
           answers = one.answer ∷ rest.answers;
           adds = adds_on past.answers cut.first.answers end.answers one.answer rest.answers one.adds rest.adds;
           told = λ h. (
-            one.told (all_front (IsAnswered done) (deeds_of one.served) (deeds_of rest.served)
+            one.told (all_front (IsAnswered done) (deeds_of t one.served) (deeds_of t rest.served)
                 (subst (AllByRecursion (IsAnswered done)) (deeds_on one.served rest.served) h)),
-            rest.told (all_back (IsAnswered done) (deeds_of one.served) (deeds_of rest.served)
+            rest.told (all_back (IsAnswered done) (deeds_of t one.served) (deeds_of t rest.served)
                 (subst (AllByRecursion (IsAnswered done)) (deeds_on one.served rest.served) h)),
           );
         } where
@@ -359,6 +368,9 @@ module _ (script : ScriptData) (moves : Moves) (es : List Entry) (sound : IsSoun
   table : IsTableOf script.setup t
   table = subst (IfThere (IsTableOf script.setup)) is sound.table
 
+  sound_table : IsSoundTable script.setup t
+  sound_table = checked_is_sound script.setup t table
+
   same_count : script.setup.callers ≡ length script.tasks
   same_count = ap (λ (s : Setup). s.callers) sound.setup
 
@@ -366,7 +378,7 @@ module _ (script : ScriptData) (moves : Moves) (es : List Entry) (sound : IsSoun
   abbrev IsOfTask : ℕ → List Served → Type 0
   IsOfTask k served =
       AreServed script.setup k served (heard_in script.setup k es) × AllByRecursion (λ m. Spares t m.service) served
-      × (AllByRecursion (IsAnswered done) (deeds_of served) → AreToldInOrder done (calls_at script k) (task_answers script moves es k))
+      × (AllByRecursion (IsAnswered done) (deeds_of t served) → AreToldInOrder done (calls_at script k) (task_answers script moves es k))
 
   of_task : (k : ℕ) → k < script.setup.callers → (served : List Served) × IsOfTask k served
   of_task k lt =
@@ -376,7 +388,7 @@ module _ (script : ScriptData) (moves : Moves) (es : List Entry) (sound : IsSoun
       f.0 =
       subst (λ (u : Table). IsDoneOn (made_all script.setup u (moves k) no_past (calls_at script k) (nothing_kept k))
       (heard_in script.setup k es) f.0) names (record { says = run.finish.follow.says k lt; done = f.1 }) in
-      let a = all_calls done script.setup t (checked_is_sound script.setup t table).latch (sizes_of script) is (moves k) []
+      let a = all_calls done script.setup t sound_table.latch (sizes_of script) is (moves k) []
       (calls_at script k)
       no_past f.0 (nothing_kept k) k (heard_in script.setup k es) refl tt (calls_good (sizes_of script) script.tasks k sound.tasks)
       (λ j w met. tries j w (ap (moves k) (let e : j ≡ 0 + j = omega arith in e) ∙ met)) whole in
@@ -394,11 +406,11 @@ module _ (script : ScriptData) (moves : Moves) (es : List Entry) (sound : IsSoun
   their : (k : ℕ) → k < script.setup.callers → IsOfTask k (calls_of k)
   their k lt = chosen_is IsOfTask script.setup.callers [] of_task k lt
 
-  in_order : AreInOrder script.setup t (λ k. deeds_of (calls_of k)) es
+  in_order : AreInOrder script.setup t (λ k. deeds_of t (calls_of k)) es
   in_order =
       let legal = run.finish.follow.legal in
-      served_in_order script.setup t calls_of es table legal
-      (are_disciplined script.setup t calls_of es table legal (λ k lt. (their k lt).0) (λ k lt. (their k lt).1))
+      served_in_order script.setup t calls_of es sound_table legal
+      (are_disciplined script.setup t calls_of es sound_table legal (λ k lt. (their k lt).0) (λ k lt. (their k lt).1))
 
   answers_at : (k : ℕ) → k < length script.tasks → slice_index_or (script_answers script moves es) k [] ≡ task_answers script moves es k
   answers_at k lt = get_or-map-range_with_len (task_answers script moves es) 0 (length script.tasks) k k [] lt (omega arith)

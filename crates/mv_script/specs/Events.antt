@@ -45,12 +45,12 @@ AreToldInOrder done [] [] = Unit {0}
 AreToldInOrder done (c ∷ calls) (a ∷ answers) = IsToldInOrder done c a × AreToldInOrder done calls answers
 AreToldInOrder done calls answers = ⊥
 
--- the law on tables is told of a history without its calls
+-- The answers of the calls are in `told`. Of the law's record only what the table shows is wanted, so it is taken of no deeds.
 abbrev pub no_deeds : ℕ → List Deed
 no_deeds k = []
 
--- In a history of a script with this table, each call on it is told what the completions are; these are what its volume counts and its
--- slots and events show, and stand in the order of the posts by which they came.
+-- In a history of a script with this table, the completions answer each call on it (`told`), and its volume, slots and events show
+-- them, in the order of the posts that made them (`in_order`).
 pub record AreHandedOut (script : ScriptData) (answers : List (List Answer)) (es : List Entry) (t : Table) : Type 0 where
   pub told : (k : ℕ) → k < length script.tasks
       → AreToldInOrder (completions t es) (calls_at script k) (slice_index_or answers k [])
