@@ -26,7 +26,7 @@ use Rattle.mv_wait.specs.declared.posting.PostAnswer.TheVariants as answer
 use Rattle.mv_wait.specs.Answers.{post_answer}
 use Rattle.mv_wait.specs.Run.{Runs, IsServed, keeps}
 use Rattle.mv_wait.proofs.Runs.{runs_none, runs_then, runs_within, serves}
-use Rattle.mv_events.specs.Entering.{LeadsTo, Enters, Counts}
+use Rattle.mv_events.specs.Entering.{LeadsTo, Enters, CountsEvent}
 use Rattle.mv_events.proofs.Following.{served_first, served_last}
 
 -- ---- the blocks of a table reach themselves alone
@@ -64,7 +64,7 @@ module _ (c : Setup) (t : Table) (index : ℕ) where
   pub counts_entered : (k : ℕ) (IsWritten : Unit {0} → Type 0) (IsPosted : Posting → Type 0) (f g h j : CallerFace) → IsSoundTable c t
       → k < t.size → IsServed 1 (read_volume t.volume) (λ a. a ≡ k) f g → IsServed 1 (write_volume t.volume (k + 1)) IsWritten g h
       → IsServed (reach c (slot_block t k)) (post c (slot_block t k) index) IsPosted h j
-      → Counts c t index f (Ok (EnteredAt k)) j
+      → CountsEvent c t index f (Ok (EnteredAt k)) j
   counts_entered k IsWritten IsPosted f g h j checked lt read written posted = λ id.
       let one = slot_reach c t k checked lt in
       let last = freed c t id (Ok (EnteredAt k)) (keeps j) in
@@ -85,7 +85,7 @@ module _ (c : Setup) (t : Table) (index : ℕ) where
 
   -- there is no such position
   pub counts_broken : (k : ℕ) (f g : CallerFace) → t.size ≤ k → IsServed 1 (read_volume t.volume) (λ a. a ≡ k) f g
-      → Counts c t index f (Err (Broken k)) g
+      → CountsEvent c t index f (Err (Broken k)) g
   counts_broken k f g le read = λ id.
       let last = freed c t id (Err (Broken k)) (keeps g) in
       let here : counted c t index id k (keeps g) ≡ last =
@@ -122,7 +122,7 @@ module _ (c : Setup) (t : Table) (index : ℕ) where
   pub enters_counted : (code : ℕ) (came : PostAnswer) (a : Result Entering Refusal) (f g h : CallerFace) → IsSoundTable c t → index < t.size
       → IsCodeTaken came
       → IsServed (reach c (event_block t index)) (post c (event_block t index) code) (λ p. post_answer p ≡ came) f g
-      → Counts c t index g a h → Enters c t index code f a h
+      → CountsEvent c t index g a h → Enters c t index code f a h
   enters_counted code came a f g h checked lt taken posted counts = λ id.
       let one = event_reach c t index checked lt in
       let last = freed c t id a (keeps h) in
