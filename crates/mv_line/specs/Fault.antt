@@ -51,7 +51,8 @@ abbrev pub first_of_list : {A : Type 0} → List A → Option A
 first_of_list [] = None
 first_of_list (x ∷ xs) = Some x
 
--- the first fault of the lines of a text, behind what was said before them: the fault with the lowest line, and there with the lowest kind
+-- the first fault of the lines of a text, behind what was said before them: that of the lowest line, and there the first kind that the
+-- rules list
 abbrev pub first_fault : {Said : Type 0} → LineRules Said → Said → List (List ℕ) → Option TextFault
 first_fault rules said lines = first_of_list (faults_by_line rules 1 said lines)
 

@@ -23,7 +23,7 @@ pub struct TextFault {
 /// Why a text was not read.
 #[derive(Clone, Copy, Debug, PartialEq, Eq, Error)]
 pub enum TextRefusal {
-    /// The first fault of the text: that of the lowest line, and there of the lowest kind.
+    /// The first fault of the text: that of the lowest line, and there the first of the kinds that the rules of its lines list.
     #[error("{0}")]
     Fault(TextFault),
     /// There was no memory for what the text states; it may have a fault or none.
