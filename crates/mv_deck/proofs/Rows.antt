@@ -201,6 +201,21 @@ counting_has_no_fault : first_fault counting 2 ≡ None
 unfolding first_fault
 counting_has_no_fault = refl
 
+-- ---- weights of decks that the program's tests run: three jobs by two initiators, and no job by one
+
+abbrev payroll_jobs : List JobData
+payroll_jobs =
+    record { name = codes "PAYROLL"; after = []; steps = Print (codes "PAY RUN 7") ∷ Print (codes "DONE") ∷ [] }
+    ∷ record { name = codes "BACKUP"; after = []; steps = Print (codes "COPYING") ∷ Abend 16777228 ∷ [] }
+    ∷ record { name = codes "VERIFY"; after = record { job = 1; most = 0 } ∷ []; steps = Print (codes "CHECKED") ∷ [] }
+    ∷ []
+
+payroll_weight : weight payroll_jobs 2 ≡ 98
+payroll_weight = refl
+
+weight_of_no_job : weight [] 1 ≡ 9
+weight_of_no_job = refl
+
 -- ---- first faults
 
 a_lower_latch : first_fault (codes "//A JOB" ++ lf ++ codes "// USE 3 X" ++ lf ++ codes "// USE 1 S" ++ lf ++ codes "//") 1 ≡ Some
