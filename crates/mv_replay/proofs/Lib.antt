@@ -8,5 +8,5 @@ pub mod EventLengths
 pub mod Lengths
 -- read_legal and judge_journal: what a command reports
 pub mod Reported
--- texts_ask_for_one_ending, and the ending that is owed
+-- no_text_asks_for_two_endings, and the ending that is owed
 pub mod Endings

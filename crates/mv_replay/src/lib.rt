@@ -10,6 +10,6 @@ mod reporting;
 mod status;
 
 pub use command::JournalCommand;
-pub use laws::{legal_lists_are_done, texts_ask_for_one_ending};
-pub use replaying::judge_journal;
+pub use laws::{legal_lists_are_done, no_text_asks_for_two_endings};
+pub use replaying::{convert_command, judge_journal, replay_command};
 pub use status::ReplayStatus;

@@ -4,7 +4,7 @@ ghost use Rattle.std.specs.Prelude.{◌≡◌, ◌≤◌};
 ghost use Rattle.mv_io.specs.Fault.{Rose};
 ghost use Rattle.mv_ending.specs.Note.{NotesAfter};
 ghost use Rattle.mv_ending.specs.Written.{IfUnwritten};
-ghost use Rattle.mv_replay.specs.Outcome.{InputOf, Owes, ReportAfter, extent_of, reports_of};
+ghost use Rattle.mv_replay.specs.Outcome.{InputOf, IsConversion, IsReplayReport, Owes, ReportAfter, extent_of, reports_of};
 ghost use Rattle.mv_replay.specs.Status.{note_of};
 
 use crate::command::JournalCommand;
@@ -75,4 +75,68 @@ pub fn judge_journal<D: Source, R: Sink, N: Sink>(
     let status = write_report(command, legal, report);
     tell_status(notes, status);
     status
+}
+
+/// The command `replay`: judges the journal on the input as `judge_journal` does, and reports `LEGAL n EVENTS` where it is legal.
+///
+/// # Errors
+///
+/// Each `ReplayStatus` but `Done`. Where the text is the cause, nothing was written.
+///
+/// # Example
+///
+/// ```
+/// let status = replay_command(alloc, &mut input, &mut report, &mut notes);
+/// ```
+pub fn replay_command<D: Source, R: Sink, N: Sink>(
+    alloc: Global,
+    input: &mut D,
+    report: &mut R,
+    notes: &mut N,
+) -> ReplayStatus
+    ensures input { InputOf result (D.left input.old) (D.left input.new) }
+    ensures read_failed { result ≡ ReplayStatus.ReadFailed → Rose (D.faults input.old) (D.faults input.new) }
+    ensures report_failed { result ≡ ReplayStatus.ReportFailed → Rose (R.faults report.old) (R.faults report.new) }
+    ensures report { ReportAfter IsReplayReport result (D.left input.old) (R.taken report.old) (R.taken report.new) }
+    ensures unwritten { IfUnwritten (extent_of result) (report.new ≡ report.old) }
+    ensures notes { NotesAfter (note_of result) (N.faults notes.old) (N.faults notes.new) (N.taken notes.old) (N.taken notes.new) }
+    ensures quiet { result ≡ ReplayStatus.Done → notes.new ≡ notes.old }
+    ensures owed { Owes (Rose (D.faults input.old) (D.faults input.new)) (Rose (R.faults report.old) (R.faults report.new))
+        (D.left input.old) result }
+    ensures counts { (D.faults input.old ≤ D.faults input.new) × (R.faults report.old ≤ R.faults report.new)
+        × (N.faults notes.old ≤ N.faults notes.new) }
+{
+    judge_journal(alloc, JournalCommand::Replay, input, report, notes)
+}
+
+/// The command `convert`: judges the journal on the input as `judge_journal` does, and reports its text in version 2 where it is legal.
+///
+/// # Errors
+///
+/// Each `ReplayStatus` but `Done`. Where the text is the cause, nothing was written.
+///
+/// # Example
+///
+/// ```
+/// let status = convert_command(alloc, &mut input, &mut report, &mut notes);
+/// ```
+pub fn convert_command<D: Source, R: Sink, N: Sink>(
+    alloc: Global,
+    input: &mut D,
+    report: &mut R,
+    notes: &mut N,
+) -> ReplayStatus
+    ensures input { InputOf result (D.left input.old) (D.left input.new) }
+    ensures read_failed { result ≡ ReplayStatus.ReadFailed → Rose (D.faults input.old) (D.faults input.new) }
+    ensures report_failed { result ≡ ReplayStatus.ReportFailed → Rose (R.faults report.old) (R.faults report.new) }
+    ensures report { ReportAfter IsConversion result (D.left input.old) (R.taken report.old) (R.taken report.new) }
+    ensures unwritten { IfUnwritten (extent_of result) (report.new ≡ report.old) }
+    ensures notes { NotesAfter (note_of result) (N.faults notes.old) (N.faults notes.new) (N.taken notes.old) (N.taken notes.new) }
+    ensures quiet { result ≡ ReplayStatus.Done → notes.new ≡ notes.old }
+    ensures owed { Owes (Rose (D.faults input.old) (D.faults input.new)) (Rose (R.faults report.old) (R.faults report.new))
+        (D.left input.old) result }
+    ensures counts { (D.faults input.old ≤ D.faults input.new) × (R.faults report.old ≤ R.faults report.new)
+        × (N.faults notes.old ≤ N.faults notes.new) }
+{
+    judge_journal(alloc, JournalCommand::Convert, input, report, notes)
 }

@@ -1,6 +1,6 @@
 -- A text determines its journal, and a list has one first illegal entry.
 use Rattle.mv_replay.proofs.Endings.{one_count, one_finding, one_ending}
-use Rattle.mv_replay.proofs.laws.texts_ask_for_one_ending.Goals as goal
+use Rattle.mv_replay.proofs.laws.no_text_asks_for_two_endings.Goals as goal
 
 pub returns-clause-count : goal.returns-clause-count
 returns-clause-count c = one_count
