@@ -43,9 +43,19 @@ impl Board {
                 };
                 return lists;
             }
-            backoff.snooze();
+            self.await_turn(rt, &backoff);
         }
         unreachable!()
+    }
+
+    // Waits until the turn was seen free. It only reads the word, so the cache line stays with the caller that is to give it back.
+    fn await_turn<R: Wait>(&self, rt: &R, backoff: &Backoff) {
+        for _ in rt.forever() {
+            backoff.snooze();
+            if self.table.shared.peek(TURN) == 0 {
+                return;
+            }
+        }
     }
 
     // One event on the latch set, and its reply. It waits while another caller has the lists.
