@@ -213,6 +213,7 @@ impl Board {
     /// set it waits while another caller has the lists. The caller must have an event left.
     ///
     /// Whether the operation is admitted goes by the configuration and the caller's own log: others can't take the leave away.
+    #[inline(always)]
     pub fn event<R: Wait>(&self, rt: &R, caller: &mut Caller, object: Object, op: Op) -> Reply
         requires board { IsOf self.now caller.old }
         requires left { 0 < caller.old.left }
@@ -228,6 +229,7 @@ impl Board {
     }
 
     // One event on an object that has a word, and its reply.
+    #[inline(always)]
     fn word_event<R: Wait>(&self, rt: &R, caller: &mut Caller, object: Object, op: Op) -> Reply
         requires board { IsOf self.now caller.old }
         requires word { HasWord self.now.config object }
@@ -243,6 +245,7 @@ impl Board {
     }
 
     // One event of a seat on an object's word: its place and its reply.
+    #[inline(always)]
     fn exchange<R: Wait>(
         &self,
         rt: &R,
