@@ -83,6 +83,13 @@ valid = refl
 bad_owner : refusal_of (record two { owners = 0 ∷ 2 ∷ 3 ∷ [] }) ≡ Some (BadOwner 1)
 bad_owner = refl
 
+owner_of_no_caller : refusal_of (record two { callers = 1; budgets = 4 ∷ []; owners = 1 ∷ [] }) ≡ Some (BadOwner 0)
+owner_of_no_caller = refl
+
+exit_to_its_source : refusal_of (record two { owners = 0 ∷ 0 ∷ []; exits = record { source = 1; targets = 1 ∷ [] } ∷ [] })
+    ≡ Some (BadExit 1)
+exit_to_its_source = refl
+
 bad_exit : refusal_of (record two {
   owners = 0 ∷ 0 ∷ [];
   exits =

@@ -50,6 +50,7 @@ op_by op.LatchRelease mode r a b = op_on.Latch (latch_op.Release a b false)
 op_by op.LatchReleaseConditional mode r a b = op_on.Latch (latch_op.Release a b true)
 op_by op.LatchPurge mode r a b = op_on.Latch (latch_op.Purge r)
 
+-- the operation that a compact entry keeps
 abbrev pub op_of : OpParts → Op
 op_of p = op_by p.kind p.mode p.requestor p.first p.second
 
@@ -86,6 +87,7 @@ reply_by reply.LatchGone phase a b = of.Latch latch_reply.Gone
 reply_by reply.LatchReleased phase a b = of.Latch (latch_reply.Released a)
 reply_by reply.LatchPurged phase a b = of.Latch (latch_reply.Purged a b)
 
+-- the reply that it keeps
 abbrev pub reply_of : ReplyParts → Reply
 reply_of p = reply_by p.kind p.phase p.first p.second
 

@@ -24,6 +24,7 @@ pub record OpenLogFace : Type 0 where
 abbrev pub with_entry : OpenLogFace → Entry → OpenLogFace
 with_entry l e = record l { entries = l.entries ++ e ∷ []; room = l.room - 1 }
 
+-- what contracts see of an open log: whose it is, its entries, and for how many more it has room
 abbrev pub open_log_of : OpenInside → OpenLogFace
 open_log_of l = record {
   caller = l.caller;
