@@ -1,4 +1,5 @@
 pub mod Fault
+pub mod Limits
 pub mod Source
 pub mod Sink
 pub mod MemSource

@@ -6,8 +6,9 @@
 //! streams are not interrupted. No clause can name what the stream inside answered: that each of its
 //! errors is one failure is tested.
 
-ghost use Rattle.std.specs.Prelude.{◌≡◌, ◌<◌, ◌≤◌, ◌*◌, length, IfOk, OnOk, OnErr};
+ghost use Rattle.std.specs.Prelude.{◌≡◌, ◌<◌, ◌≤◌, length, IfOk, OnOk, OnErr};
 ghost use Rattle.mv_io.specs.Fault.{one_more, HasCause, HasWriteCause};
+ghost use Rattle.mv_io.specs.Limits.{piece_limit};
 ghost use Rattle.mv_io.specs.Source.{Reads};
 ghost use Rattle.mv_io.specs.Sink.{Writes};
 
@@ -56,7 +57,7 @@ impl<R: Read> Source for StdSource<R> {
         ensures bytes { Reads (R.remaining (std_source_reader self.old)) (R.remaining (std_source_reader self.new)) result buf.new }
         ensures faults { HasCause (std_source_faults self.old) (std_source_faults self.new) result }
 
-        ensures piece { IfOk result (λ k. k ≤ 64 * 1024) }
+        ensures piece { IfOk result (λ k. k ≤ piece_limit) }
         ensures kept { OnOk result (std_source_faults self.new ≡ std_source_faults self.old) }
         ensures raised { OnErr result (std_source_faults self.new ≡ one_more (std_source_faults self.old)) }
     {
@@ -110,7 +111,7 @@ impl<W: Write> Sink for StdSink<W> {
         ensures bytes { Writes (W.contents (std_sink_writer self.old)) (W.contents (std_sink_writer self.new)) result piece.now }
         ensures faults { HasWriteCause (std_sink_faults self.old) (std_sink_faults self.new) result piece.now }
 
-        ensures piece { IfOk result (λ k. k ≤ 64 * 1024) }
+        ensures piece { IfOk result (λ k. k ≤ piece_limit) }
         ensures progress { IfOk result (λ k. 0 < length piece.now → 0 < k) }
         ensures kept { OnOk result (std_sink_faults self.new ≡ std_sink_faults self.old) }
         ensures raised { OnErr result (std_sink_faults self.new ≡ one_more (std_sink_faults self.old)) }
