@@ -1,5 +1,6 @@
-//! Tests of the crates below, here since a crate with tests is proved twice over: of boards, of waits and posts, of pauses, and of
-//! latches. Want of memory stops a test: an early return that drops its tasks would be most of its proof.
+//! Tests of the crates below, here since a crate with tests is proved twice over: of boards, of waits and posts, of pauses, of
+//! latches, and of objects as one thread has them. Out of memory stops a test: an early return that drops its tasks would be most of its
+//! proof.
 
 ghost use Rattle.std.specs.Prelude.{◌≡◌, ◌<◌, ◌≤◌, false, length};
 ghost use Rattle.mv_machine.specs.Setup.{owner_of};
@@ -7,24 +8,29 @@ ghost use Rattle.mv_calls.specs.Keeping.{kept_of};
 ghost use Rattle.mv_calls.specs.Rest.{IsAtRest};
 ghost use Rattle.mv_board.specs.Faces.{IsOf};
 
-use mv_machine::{Config, Exit, ValidConfig};
+use mv_machine::{Config, Exit, Object, ValidConfig};
 use mv_wait::{PostAnswer, Station, Task};
 use std::alloc::Global;
-use std::hint;
 use std::marker::Model;
 use std::process::Abort;
 use std::sync::Wait;
+use std::{hint, thread};
 
 mod boards;
 mod latches;
+mod objects;
 mod pauses;
 mod waits;
 
 // How often two threads hand over to each other and back. `bench/run` times both beside their twins.
 const ROUNDS: u32 = 10_000;
 
-// The completion bit of a block's word.
-const COMPLETE: u32 = 1 << 30;
+// The wait bit and the completion bit of a block's word, by their numbers.
+const WAIT_BIT: u32 = 31;
+
+const COMPLETION_BIT: u32 = 30;
+
+const COMPLETE: u32 = 1 << COMPLETION_BIT;
 
 // The code of each post and release.
 const CODE: u32 = 7;
@@ -36,7 +42,7 @@ fn linger() {
     }
 }
 
-// Two tasks with these budgets and two elements each, eight latches, blocks of these owners, and these exits.
+// Tasks with these budgets, two elements each, eight latches, blocks of these owners, and these exits.
 fn setup(
     rt: &impl Abort,
     alloc: Global,
@@ -44,10 +50,11 @@ fn setup(
     owners: Vec<u32>,
     exits: Vec<Exit>,
 ) -> ValidConfig
-    ensures { result.callers ≡ 2 }
+    requires { length budgets.items ≤ 16 }
+    ensures { result.callers ≡ length budgets.items }
 {
     let config = Config {
-        callers: 2,
+        callers: budgets.len() as u32,
         elements_per_caller: 2,
         volumes: 1,
         latches: 8,
@@ -155,6 +162,27 @@ impl<'a> Worker<'a> {
         assert_is_block(rt, station, ecb);
         assert!(rt; station.config().reach(ecb) <= self.task.left());
         station.post(rt, &mut self.task, ecb, CODE)
+    }
+
+    // Whether this bit of a block's word is set.
+    fn has_bit(&mut self, rt: &impl Abort, ecb: u32, bit: u32) -> bool
+        requires { bit < 64 }
+    {
+        let station = self.station;
+        assert_is_block(rt, station, ecb);
+        (station.look(&mut self.task, Object::Ecb(ecb)) >> bit) % 2 == 1
+    }
+
+    // Looks at a block until this bit of its word is set.
+    fn await_bit<R: Abort + Wait>(&mut self, rt: &R, ecb: u32, bit: u32)
+        requires { bit < 64 }
+    {
+        for _ in rt.forever() {
+            if self.has_bit(rt, ecb, bit) {
+                return;
+            }
+            thread::yield_now();
+        }
     }
 
     // Waits for a block of the task's own until it is posted with this code, and clears it.

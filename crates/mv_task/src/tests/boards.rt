@@ -1,29 +1,27 @@
-//! Events of callers on one board, on threads of their own, and the history that a board leaves.
+//! Calls of two callers on one board, on threads of their own too, and the history that a board leaves.
 
-ghost use Rattle.std.specs.Prelude.{◌≡◌, ◌+◌, ◌<◌, ◌≤◌, [], ◌∷◌, true, length};
-ghost use Rattle.mv_machine.specs.Legal.{Legal};
-ghost use Rattle.mv_machine.specs.Limits.{events_limit};
+ghost use Rattle.std.specs.Prelude.{◌≡◌, ◌+◌, ◌<◌, [], ◌∷◌, true, length};
 ghost use Rattle.mv_machine.specs.System.{ecb_admitted};
 ghost use Rattle.mv_board.specs.Faces.{AreFresh, IsFresh, IsOf};
 
-use mv_board::{Board, Caller};
+use mv_board::{Board, Caller, Moved, Watch};
 use mv_ecb::{EcbOp, EcbReply};
-use mv_machine::{Config, Listed, Object, Op, Reply, ValidConfig, replay};
+use mv_machine::{Config, Entry, Object, Op, Reply, ValidConfig};
 use std::alloc::Global;
 use std::marker::Model;
 use std::process::Abort;
 use std::sync::Wait;
-use std::thread::{Threads, join};
+use std::thread::join;
 
-// ---- a board of three callers
+// ---- a board of two callers
 
-// Three callers with these budgets, and one event control block, of caller 0.
-fn setup(rt: &impl Abort, alloc: Global, budgets: [u32; 3]) -> ValidConfig
-    ensures callers { result.callers ≡ 3 }
+// Two callers with these budgets, and one event control block, of caller 0.
+fn setup(rt: &impl Abort, alloc: Global, budgets: [u32; 2]) -> ValidConfig
+    ensures callers { result.callers ≡ 2 }
     ensures block { result.owners ≡ 0 ∷ [] }
 {
     let config = Config {
-        callers: 3,
+        callers: 2,
         elements_per_caller: 1,
         volumes: 1,
         latches: 1,
@@ -51,45 +49,37 @@ fn last(board: &Board, callers: &mut Vec<Caller>, number: u32) -> Caller
 }
 
 // A new board of such a configuration, and its callers.
-fn open(rt: &impl Abort, alloc: Global, budgets: [u32; 3]) -> (Board, Caller, Caller, Caller)
-    ensures callers { result.0.config.callers ≡ 3 }
+fn open(rt: &impl Abort, alloc: Global, budgets: [u32; 2]) -> (Board, Caller, Caller)
+    ensures callers { result.0.config.callers ≡ 2 }
     ensures block { result.0.config.owners ≡ 0 ∷ [] }
     ensures first { IsOf result.0 result.1 × (result.1.number ≡ 0) }
     ensures second { IsOf result.0 result.2 × (result.2.number ≡ 1) }
-    ensures third { IsOf result.0 result.3 × (result.3.number ≡ 2) }
 {
     let config = setup(rt, alloc, budgets);
     let (board, mut callers) = Board::open(alloc, config).expect(rt, "memory for a board");
-    let third = last(&board, &mut callers, 2);
     let second = last(&board, &mut callers, 1);
     let first = last(&board, &mut callers, 0);
-    (board, first, second, third)
+    (board, first, second)
 }
 
-// The end of a board with its callers.
-fn close(
-    rt: &impl Abort,
-    alloc: Global,
-    board: Board,
-    first: Caller,
-    second: Caller,
-    third: Caller,
-) -> Listed
-    requires three { board.config.callers ≡ 3 }
+// The journal of a board that ends with its callers.
+fn close(rt: &impl Abort, alloc: Global, board: Board, first: Caller, second: Caller) -> Vec<Entry>
+    requires two { board.config.callers ≡ 2 }
     requires first { IsOf board first × (first.number ≡ 0) }
     requires second { IsOf board second × (second.number ≡ 1) }
-    requires third { IsOf board third × (third.number ≡ 2) }
-    ensures legal { Legal result.config result.journal.items }
-    ensures few { length result.journal.items ≤ events_limit }
 {
-    let callers = vec![in alloc; first, second, third].expect(rt, "room for three callers");
+    let callers = vec![in alloc; first, second].expect(rt, "room for two callers");
     let history = board.close(callers).history;
-    history
+    let listed = history
         .listed(alloc)
-        .expect(rt, "memory for a list of events")
+        .expect(rt, "memory for a list of events");
+    listed.journal
 }
 
-// ---- threads on one word
+// Lets a board and its callers go. A test that did so itself would be proved in many times the time.
+fn end(_board: Board, _first: Caller, _second: Caller) {}
+
+// ---- a caller with its board
 
 const BLOCK: Object = Object::Ecb(0);
 
@@ -130,137 +120,163 @@ impl<'a> Seat<'a> {
         caller
     }
 
-    // An event on the block, on which nobody waits.
-    fn act<R: Abort + Wait>(&mut self, rt: &R, op: EcbOp)
+    // An event on the block, and its reply.
+    fn make<R: Abort + Wait>(&mut self, rt: &R, op: EcbOp) -> Reply
         requires admitted { ecb_admitted self.old.0.config self.old.1 0 op ≡ true }
         ensures { self.new ≡ self.old }
     {
         let board = self.board;
         assert!(rt; self.caller.left() > 0);
-        let reply = board.event(rt, &mut self.caller, BLOCK, Op::Ecb(op));
-        assert!(rt; is_unwaited(reply));
+        board.event(rt, &mut self.caller, BLOCK, Op::Ecb(op))
     }
 
-    // A test of the block, by one addition.
-    fn test(&mut self, rt: &impl Abort)
+    // The same by one exchange of the word that is expected.
+    fn exchange(&mut self, rt: &impl Abort, op: EcbOp, expected: u64) -> Result<Reply, Moved>
+        requires admitted { ecb_admitted self.old.0.config self.old.1 0 op ≡ true }
         ensures { self.new ≡ self.old }
     {
         let board = self.board;
         assert!(rt; self.caller.left() > 0);
-        let reply = board.test(&mut self.caller, BLOCK);
-        assert!(rt; is_unwaited(reply));
+        board.try_event(&mut self.caller, BLOCK, Op::Ecb(op), expected)
+    }
+
+    // The word of the block.
+    fn look(&mut self) -> u64
+        ensures { self.new ≡ self.old }
+    {
+        let board = self.board;
+        board.look(&mut self.caller, BLOCK)
+    }
+
+    // Whether the own block is complete.
+    fn peek<R: Wait>(&mut self, rt: &R) -> bool
+        requires own { self.old.1 ≡ 0 }
+        ensures { self.new ≡ self.old }
+    {
+        let board = self.board;
+        board.peek(rt, &mut self.caller, Watch::Ecb(0))
     }
 }
 
-// Whether a block on which nobody waits may answer so: each word read is 0 or has the completion bit.
-fn is_unwaited(reply: Reply) -> bool {
-    match reply {
-        Reply::Ecb(EcbReply::Word(word)) => word == 0 || word >> 30 == 1,
-        Reply::Ecb(EcbReply::Posted | EcbReply::Already(_)) => true,
-        _ => false,
+// ---- each call once
+
+// The words of the block: zero at place 1, and complete with code 5 at place 2.
+const ZERO_LATER: u64 = 35_184_372_088_832;
+
+const COMPLETE_LATER: u64 = 70_369_817_919_493;
+
+// A post and the owner's arm behind it, which finds it; then an exchange of a word that the block never had, a look and a peek.
+fn post_and_arm<R: Abort + Wait>(rt: &R, owner: &mut Seat<'_>, poster: &mut Seat<'_>)
+    requires owner { owner.old.1 ≡ 0 }
+    requires arm { ecb_admitted owner.old.0.config owner.old.1 0 EcbOp.Arm ≡ true }
+    requires settle { ecb_admitted owner.old.0.config owner.old.1 0 EcbOp.Settle ≡ true }
+    ensures owner { owner.new ≡ owner.old }
+    ensures poster { poster.new ≡ poster.old }
+{
+    let posted = poster.make(rt, EcbOp::Post(5));
+    assert!(rt; posted == Reply::Ecb(EcbReply::Posted));
+    let armed = owner.make(rt, EcbOp::Arm);
+    assert!(rt; armed == Reply::Ecb(EcbReply::Complete(5)));
+    let moved = owner.exchange(rt, EcbOp::Settle, ZERO_LATER);
+    assert!(rt; moved == Err(Moved(COMPLETE_LATER)));
+    assert!(rt; owner.look() == COMPLETE_LATER && owner.peek(rt));
+}
+
+fn entry(caller: u32, place: u32, op: EcbOp, reply: EcbReply) -> Entry {
+    Entry {
+        caller,
+        object: BLOCK,
+        place,
+        op: Op::Ecb(op),
+        reply: Reply::Ecb(reply),
     }
 }
 
-// So many events of one kind.
-fn repeat<R: Abort + Wait>(rt: &R, board: &Board, caller: Caller, op: EcbOp, events: u32) -> Caller
+// The two entries of the post and of the arm.
+fn assert_posted_and_armed(rt: &impl Abort, journal: &[Entry]) {
+    let expected = [
+        entry(1, 0, EcbOp::Post(5), EcbReply::Posted),
+        entry(0, 1, EcbOp::Arm, EcbReply::Complete(5)),
+    ];
+    assert!(rt; journal == expected.as_slice());
+}
+
+#[test]
+fn a_post_its_looks_and_its_journal(rt: HostRuntime) {
+    let (board, first, second) = open(&rt, rt.alloc(), [3, 3]);
+    let mut owner = Seat::new(&board, first);
+    let mut poster = Seat::new(&board, second);
+    post_and_arm(&rt, &mut owner, &mut poster);
+    let (first, second) = (owner.back(), poster.back());
+    let journal = close(&rt, rt.alloc(), board, first, second);
+    assert_posted_and_armed(&rt, &journal);
+}
+
+// ---- threads on one word
+
+// This many tests of the block, which no task has posted.
+fn repeat<R: Abort + Wait>(rt: &R, board: &Board, caller: Caller, events: u32) -> Caller
     requires board { IsOf board.now caller × (caller.number < board.now.config.callers) }
     requires block { board.now.config.owners ≡ 0 ∷ [] }
-    requires admitted { ecb_admitted board.now.config caller.number 0 op ≡ true }
     ensures { IsOf board.now result × (result.number ≡ caller.number) }
 {
     let mut seat = Seat::new(board, caller);
     for _ in 0..events {
-        seat.act(rt, op);
+        let reply = seat.make(rt, EcbOp::Test);
+        assert!(rt; reply == Reply::Ecb(EcbReply::Word(0)));
     }
     seat.back()
 }
 
-// So many tests.
-fn test_often(rt: &impl Abort, board: &Board, caller: Caller, events: u32) -> Caller
-    requires board { IsOf board.now caller × (caller.number < board.now.config.callers) }
-    requires block { board.now.config.owners ≡ 0 ∷ [] }
-    ensures { IsOf board.now result × (result.number ≡ caller.number) }
-{
-    let mut seat = Seat::new(board, caller);
-    for _ in 0..events {
-        seat.test(rt);
+// The entries are at the places from 0 on, in their order, and `each` of them are of each of two callers.
+fn assert_in_order(rt: &impl Abort, journal: &[Entry], each: usize) {
+    for (place, entry) in journal.iter().enumerate() {
+        assert!(rt; entry.object == BLOCK && entry.place as usize == place);
     }
-    seat.back()
+    let of_first = journal.iter().filter(|entry| entry.caller == 0).count();
+    let of_second = journal.iter().filter(|entry| entry.caller == 1).count();
+    assert!(rt; of_first == each && of_second == each);
 }
 
-// So many tests, each of which is in the caller's log.
+#[test]
+fn the_events_of_two_threads_have_each_place_once(rt: HostRuntime) {
+    let (board, first, second) = open(&rt, rt.alloc(), [1000, 1000]);
+    let (first, second) = join(
+        &rt,
+        || repeat(&rt, &board, first, 1000),
+        || repeat(&rt, &board, second, 1000),
+    );
+    let journal = close(&rt, rt.alloc(), board, first, second);
+    assert!(rt; journal.len() == 2000);
+    assert_in_order(&rt, &journal, 1000);
+}
+
+// ---- what bench/run times
+
+// This many tests, each of which is in the caller's log.
 fn log_tests<R: Abort + Wait>(rt: &R, board: &Board, caller: Caller, events: u32) -> Caller
     requires board { IsOf board.now caller × (caller.number < board.now.config.callers) }
     requires block { board.now.config.owners ≡ 0 ∷ [] }
 {
-    let caller = repeat(rt, board, caller, EcbOp::Test, events);
+    let caller = repeat(rt, board, caller, events);
     assert!(rt; caller.log().len() == events as usize);
     caller
 }
 
-// Lets a board and its callers go. A test that did so itself would be proved in many times the time.
-fn end(_board: Board, _first: Caller, _second: Caller, _third: Caller) {}
-
-// The two that bench/run times.
 #[test]
 fn events_of_one_thread(rt: HostRuntime) {
-    let (board, first, second, third) = open(&rt, rt.alloc(), [250_000, 0, 0]);
+    let (board, first, second) = open(&rt, rt.alloc(), [250_000, 0]);
     let first = log_tests(&rt, &board, first, 250_000);
-    end(board, first, second, third);
+    end(board, first, second);
 }
 
 #[test]
 fn events_of_two_threads_on_one_word(rt: HostRuntime) {
-    let (board, first, second, third) = open(&rt, rt.alloc(), [125_000, 125_000, 0]);
+    let (board, first, second) = open(&rt, rt.alloc(), [125_000, 125_000]);
     let (first, second) = join(
         &rt,
         || log_tests(&rt, &board, first, 125_000),
         || log_tests(&rt, &board, second, 125_000),
     );
-    end(board, first, second, third);
-}
-
-// Posts of the block, beside tests of it by another thread.
-fn post_beside_tests<R: Abort + Wait + Threads + Sync>(
-    rt: &R,
-    board: &Board,
-    poster: Caller,
-    tester: Caller,
-) -> (Caller, Caller)
-    requires poster { IsOf board.now poster × (poster.number < board.now.config.callers) }
-    requires tester { IsOf board.now tester × (tester.number < board.now.config.callers) }
-    requires block { board.now.config.owners ≡ 0 ∷ [] }
-    ensures poster { IsOf board.now result.0 × (result.0.number ≡ poster.number) }
-    ensures tester { IsOf board.now result.1 × (result.1.number ≡ tester.number) }
-{
-    join(
-        rt,
-        || repeat(rt, board, poster, EcbOp::Post(5), 10_000),
-        || test_often(rt, board, tester, 10_000),
-    )
-}
-
-// Whether a journal is judged legal, and leads the block to the same place and word.
-fn is_replayed<R: Abort>(rt: &R, alloc: Global, closed: &Listed) -> bool
-    requires legal { Legal closed.now.config closed.now.journal.items }
-    requires few { length closed.now.journal.items ≤ events_limit }
-{
-    let Ok(state) = replay(alloc, &closed.config, &closed.journal) else {
-        return false;
-    };
-    assert!(rt; state.has(BLOCK) && closed.state.has(BLOCK));
-    state.place(BLOCK) == closed.state.place(BLOCK) && state.ecb(0) == closed.state.ecb(0)
-}
-
-#[test]
-fn one_clears_one_posts_and_one_tests(rt: HostRuntime) {
-    let (board, owner, poster, tester) = open(&rt, rt.alloc(), [10_000; 3]);
-    let (owner, (poster, tester)) = join(
-        &rt,
-        || repeat(&rt, &board, owner, EcbOp::Clear, 10_000),
-        || post_beside_tests(&rt, &board, poster, tester),
-    );
-    let closed = close(&rt, rt.alloc(), board, owner, poster, tester);
-    assert!(rt; closed.journal.len() == 30_000);
-    assert!(rt; is_replayed(&rt, rt.alloc(), &closed));
+    end(board, first, second);
 }

@@ -6,7 +6,7 @@ ghost use Rattle.mv_latch.specs.Request.{posted_ecb};
 ghost use Rattle.mv_calls.specs.Rest.{IsAtRest};
 ghost use Rattle.mv_board.specs.Faces.{IsOf};
 
-use super::{CODE, Worker, assert_is_block, end, open};
+use super::{COMPLETION_BIT, Worker, assert_is_block, end, open};
 use mv_latch::{LatchForm, Mode};
 use mv_latchset::{LatchToken, ObtainRefusal, Obtained, obtain, purge, release_latch};
 use mv_machine::replay;
@@ -125,9 +125,9 @@ fn purge_often<R: Abort + Wait>(rt: &R, worker: &mut Worker<'_>) -> bool {
     false
 }
 
-// Behind a post of the block, purges requestor 9, and then gives back the latch that it holds.
+// Once the block is seen to be complete, purges requestor 9, and then gives back the latch that it holds.
 fn hold_until_a_purge<R: Abort + Wait>(rt: &R, worker: &mut Worker<'_>, held: LatchToken) {
-    worker.await_post(rt, 0, CODE);
+    worker.await_bit(rt, 0, COMPLETION_BIT);
     assert!(rt; purge_often(rt, worker));
     give_back(rt, worker, held);
 }
@@ -141,17 +141,17 @@ fn obtain_behind_a_post<R: Abort + Wait>(rt: &R, worker: &mut Worker<'_>) {
 
 #[test]
 fn a_request_is_purged_while_its_task_waits(rt: HostRuntime) {
-    let (station, waiter, holder) = open_two(&rt, rt.alloc(), 100, 200_100);
-    let mut waiter = Worker::new(&station, waiter);
+    let (station, holder, waiter) = open_two(&rt, rt.alloc(), 200_100, 100);
     let mut holder = Worker::new(&station, holder);
+    let mut waiter = Worker::new(&station, waiter);
     let held = take(&rt, &mut holder, 0, 1, LatchForm::Conditional);
     join(
         &rt,
         || hold_until_a_purge(&rt, &mut holder, held),
         || obtain_behind_a_post(&rt, &mut waiter),
     );
-    let (waiter, holder) = (waiter.back(), holder.back());
-    end(station, waiter, holder);
+    let (holder, waiter) = (holder.back(), waiter.back());
+    end(station, holder, waiter);
 }
 
 // Takes latch 0 and gives it back, so many times.

@@ -6,13 +6,13 @@ ghost use Rattle.std.specs.List.{AllByRecursion};
 ghost use Rattle.mv_calls.specs.Rest.{IsAtRest};
 ghost use Rattle.mv_board.specs.Faces.{IsOf};
 
-use super::{CODE, ROUNDS, Worker, assert_is_block, end, linger, open};
-use mv_machine::{Exit, Object};
+use super::{CODE, COMPLETE, ROUNDS, WAIT_BIT, Worker, assert_is_block, end, linger, open, setup};
+use mv_machine::{Exit, replay};
 use mv_wait::{PostAnswer, Station, Task, WaitSlot};
 use std::alloc::{AllocError, Global};
 use std::process::Abort;
 use std::sync::Wait;
-use std::thread::{self, Threads, join};
+use std::thread::{Threads, join};
 
 // ---- one task
 
@@ -113,38 +113,25 @@ fn two_threads_post_in_turn(rt: HostRuntime) {
 
 // ---- two threads and an exit
 
-// Whether a task waits for block 1.
-fn is_waited_for<R: Abort>(rt: &R, worker: &mut Worker<'_>) -> bool {
-    let station = worker.station;
-    assert_is_block(rt, station, 1);
-    // The wait bit.
-    (station.look(&mut worker.task, Object::Ecb(1)) >> 31) % 2 == 1
-}
-
-// Looks at block 1 until a task waits for it.
-fn await_arm<R: Abort + Wait>(rt: &R, worker: &mut Worker<'_>) {
-    for _ in rt.forever() {
-        if is_waited_for(rt, worker) {
-            return;
-        }
-        thread::yield_now();
-    }
-}
-
-// Clears the own block 0.
+// Clears the own block 0: its word until then.
 #[tactic(auto, using(mv_wait::proofs::Compose::served))]
-fn clear_own<R: Abort + Wait>(rt: &R, worker: &mut Worker<'_>) {
+fn clear_own<R: Abort + Wait>(rt: &R, worker: &mut Worker<'_>) -> u32
+    ensures { worker.new ≡ worker.old }
+{
     let station = worker.station;
     assert_is_block(rt, station, 0);
     assert!(rt; worker.task.left() > 0);
-    assert!(rt; station.clear(rt, &mut worker.task, 0).is_ok());
+    let Ok(word) = station.clear(rt, &mut worker.task, 0) else {
+        panic!(rt; "the block is another's")
+    };
+    word
 }
 
 // Posts the own block 0, whose exit posts block 1, where the other task has parked for that, and waits for block 2.
 fn post_by_exit<R: Abort + Wait>(rt: &R, worker: &mut Worker<'_>, times: u32) {
     for _ in 0..times {
         extend(rt, worker, 0, 1);
-        await_arm(rt, worker);
+        worker.await_bit(rt, 1, WAIT_BIT);
         linger();
         worker.post(rt, 0);
         clear_own(rt, worker);
@@ -178,6 +165,126 @@ fn a_post_wakes_whom_its_exit_posts(rt: HostRuntime) {
     );
     let (first, second) = (first.back(), second.back());
     end(station, first, second);
+}
+
+// ---- three threads on one block
+
+// A new station of three tasks with this budget, and a block of the first.
+fn open_three(rt: &impl Abort, alloc: Global, budget: u32) -> (Station, Task, Task, Task)
+    ensures callers { result.0.config.callers ≡ 3 }
+    ensures first { IsOf result.0 result.1 × (result.1.number ≡ 0) × IsAtRest result.1.log }
+    ensures second { IsOf result.0 result.2 × (result.2.number ≡ 1) × IsAtRest result.2.log }
+    ensures third { IsOf result.0 result.3 × (result.3.number ≡ 2) × IsAtRest result.3.log }
+{
+    let budgets = vec![in alloc; budget, budget, budget].expect(rt, "room for three budgets");
+    let owners = vec![in alloc; 0].expect(rt, "room for an owner");
+    let config = setup(rt, alloc, budgets, owners, Vec::new(alloc));
+    let (station, mut tasks) = Station::open(alloc, config).expect(rt, "memory for a station");
+    let third = station.take_last(&mut tasks);
+    let second = station.take_last(&mut tasks);
+    let first = station.take_last(&mut tasks);
+    (station, first, second, third)
+}
+
+// Whether a block has this word while others clear it, and post it with the code.
+fn is_zero_or_posted(word: u32) -> bool {
+    word == 0 || word == COMPLETE | CODE
+}
+
+// What each of three threads does to one block.
+#[derive(Clone, Copy)]
+enum Deed {
+    Clear,
+    Post,
+    Test,
+}
+
+// A test of the block: its word.
+#[tactic(auto, using(mv_wait::proofs::Compose::served))]
+fn test_once(rt: &impl Abort, worker: &mut Worker<'_>) -> u32
+    ensures { worker.new ≡ worker.old }
+{
+    let station = worker.station;
+    assert_is_block(rt, station, 0);
+    assert!(rt; worker.task.left() > 0);
+    station.test_ecb(&mut worker.task, 0)
+}
+
+// Does it once.
+fn act<R: Abort + Wait>(rt: &R, worker: &mut Worker<'_>, deed: Deed)
+    ensures { worker.new ≡ worker.old }
+{
+    match deed {
+        Deed::Clear => assert!(rt; is_zero_or_posted(clear_own(rt, worker))),
+        Deed::Post => assert!(rt; worker.post(rt, 0) != PostAnswer::Woke),
+        Deed::Test => assert!(rt; is_zero_or_posted(test_once(rt, worker))),
+    }
+}
+
+// Does it this many times.
+fn act_often<R: Abort + Wait>(rt: &R, station: &Station, task: Task, deed: Deed, times: u32) -> Task
+    requires task { IsOf station.now task }
+    requires rest { IsAtRest task.log }
+    ensures { IsOf station.now result × (result.number ≡ task.number) }
+{
+    let mut worker = Worker::new(station, task);
+    for _ in 0..times {
+        act(rt, &mut worker, deed);
+    }
+    worker.back()
+}
+
+// Posts of the block, beside tests of it by another thread.
+fn post_beside_tests<R: Abort + Wait + Threads + Sync>(
+    rt: &R,
+    station: &Station,
+    poster: Task,
+    tester: Task,
+) -> (Task, Task)
+    requires poster { IsOf station.now poster × IsAtRest poster.log }
+    requires tester { IsOf station.now tester × IsAtRest tester.log }
+    ensures poster { IsOf station.now result.0 × (result.0.number ≡ poster.number) }
+    ensures tester { IsOf station.now result.1 × (result.1.number ≡ tester.number) }
+{
+    join(
+        rt,
+        || act_often(rt, station, poster, Deed::Post, 10_000),
+        || act_often(rt, station, tester, Deed::Test, 10_000),
+    )
+}
+
+// How many events a station leaves whose three tasks are back. They are judged legal.
+fn judge(
+    rt: &impl Abort,
+    alloc: Global,
+    station: Station,
+    first: Task,
+    second: Task,
+    third: Task,
+) -> usize
+    requires callers { station.config.callers ≡ 3 }
+    requires first { IsOf station first × (first.number ≡ 0) }
+    requires second { IsOf station second × (second.number ≡ 1) }
+    requires third { IsOf station third × (third.number ≡ 2) }
+{
+    let tasks = vec![in alloc; first, second, third].expect(rt, "room for three tasks");
+    let history = station.close(tasks).history;
+    let Ok(listed) = history.listed(alloc) else {
+        panic!(rt; "no memory for a list of events")
+    };
+    assert!(rt; replay(alloc, &listed.config, &listed.journal).is_ok());
+    listed.journal.len()
+}
+
+#[test]
+fn one_clears_one_posts_and_one_tests(rt: HostRuntime) {
+    let (station, owner, poster, tester) = open_three(&rt, rt.alloc(), 10_000);
+    let (owner, (poster, tester)) = join(
+        &rt,
+        || act_often(&rt, &station, owner, Deed::Clear, 10_000),
+        || post_beside_tests(&rt, &station, poster, tester),
+    );
+    assert!(rt; judge(&rt, rt.alloc(), station, owner, poster, tester) == 30_000);
 }
 
 // ---- a wait for many blocks
