@@ -17,7 +17,7 @@ ghost use Rattle.mv_replay.specs.Judgement.{journal_limit, IsRefused};
 use crate::command::JournalCommand;
 use crate::status::ReplayStatus;
 use mv_calls::Judge;
-use mv_entrytext::{JournalWriter, OpenJournal, TextRefusal, Version, open_journal};
+use mv_entrytext::{JournalWriter, OpenJournal, Version, open_journal};
 use mv_io::NoMemory;
 use mv_machine::{Entry, ValidConfig};
 use std::alloc::Global;
@@ -137,13 +137,13 @@ impl Course {
             return Err(ReplayStatus::Illegal(line));
         }
         match copy {
-            Some(writer) => match writer.end(u64::from(count)) {
-                Ok(text) => Ok(Judged {
+            Some(writer) => {
+                let text = writer.end(u64::from(count))?;
+                Ok(Judged {
                     count,
                     second: Some(text),
-                }),
-                Err(NoMemory) => Err(ReplayStatus::NoMemory),
-            },
+                })
+            }
             None => Ok(Judged {
                 count,
                 second: None,
@@ -166,22 +166,12 @@ pub(crate) fn judge(
         version,
         config,
         entries: mut reader,
-    } = match open_journal(alloc, bytes) {
-        Ok(journal) => journal,
-        Err(TextRefusal::Fault(fault)) => return Err(ReplayStatus::Text(fault)),
-        Err(TextRefusal::NoMemory) => return Err(ReplayStatus::NoMemory),
-    };
-    let Ok(mut course) = Course::open(alloc, copies(command, version), config) else {
-        return Err(ReplayStatus::NoMemory);
-    };
+    } = open_journal(alloc, bytes)?;
+    let mut course = Course::open(alloc, copies(command, version), config)?;
     'entries: loop {
         let line = reader.line();
         match reader.next() {
-            Ok(Some((call, entry))) => {
-                let Ok(()) = course.take(line, call, &entry) else {
-                    return Err(ReplayStatus::NoMemory);
-                };
-            }
+            Ok(Some((call, entry))) => course.take(line, call, &entry)?,
             Ok(None) => return course.end(reader.count()),
             Err(fault) => return Err(ReplayStatus::Text(fault)),
         }

@@ -9,7 +9,7 @@ ghost use Rattle.mv_replay.specs.Outcome.{InputOf, extent_of};
 use crate::command::JournalCommand;
 use crate::judging::{Judged, judge};
 use crate::status::ReplayStatus;
-use mv_io::{ReadRefusal, Source, read_limited};
+use mv_io::{Source, read_limited};
 use std::alloc::Global;
 
 /// The most bytes of a journal.
@@ -50,12 +50,7 @@ pub(crate) fn read_legal<D: Source>(
     ensures read_failed { result ≡ Err ReplayStatus.ReadFailed → Rose (D.faults input.old) (D.faults input.new) }
     ensures count { D.faults input.old ≤ D.faults input.new }
 {
-    let text = match read_limited(alloc, input, JOURNAL_LIMIT) {
-        Ok(text) => text,
-        Err(ReadRefusal::Failed) => return Err(ReplayStatus::ReadFailed),
-        Err(ReadRefusal::TooLong) => return Err(ReplayStatus::TooLong),
-        Err(ReadRefusal::NoMemory) => return Err(ReplayStatus::NoMemory),
-    };
+    let text = read_limited(alloc, input, JOURNAL_LIMIT)?;
     match judge(alloc, command, &text) {
         Ok(judged) => Ok(LegalText { text, judged }),
         Err(status) => Err(status),

@@ -2,11 +2,12 @@
 
 ghost use Rattle.std.specs.Prelude.{◌≡◌, ◌≤◌};
 ghost use Rattle.mv_ending.specs.Note.{NotesAfter};
-ghost use Rattle.mv_replay.specs.Status.{note_of as note_by_status};
+ghost use Rattle.mv_replay.specs.Status.{note_of as note_by_status, of_read, of_text};
+ghost use Rattle.mv_replay.specs.declared.status.ReplayStatus.TheVariants.{NoMemory as no_memory};
 
 use mv_ending::{Note, tell};
-use mv_entrytext::TextFault;
-use mv_io::Sink;
+use mv_entrytext::{TextFault, TextRefusal};
+use mv_io::{NoMemory, ReadRefusal, Sink};
 
 /// How a replay ended. Lines of the journal are counted from 1.
 #[derive(Clone, Copy, Debug, PartialEq, Eq)]
@@ -25,6 +26,37 @@ pub enum ReplayStatus {
     Illegal(u32),
     /// The text has this fault, its first.
     Text(TextFault),
+}
+
+impl From<ReadRefusal> for ReplayStatus {
+    ghost from_gives = { λ refusal status. status ≡ of_read refusal };
+
+    fn from(refusal: ReadRefusal) -> Self {
+        match refusal {
+            ReadRefusal::Failed => ReplayStatus::ReadFailed,
+            ReadRefusal::TooLong => ReplayStatus::TooLong,
+            ReadRefusal::NoMemory => ReplayStatus::NoMemory,
+        }
+    }
+}
+
+impl From<TextRefusal> for ReplayStatus {
+    ghost from_gives = { λ refusal status. status ≡ of_text refusal };
+
+    fn from(refusal: TextRefusal) -> Self {
+        match refusal {
+            TextRefusal::Fault(fault) => ReplayStatus::Text(fault),
+            TextRefusal::NoMemory => ReplayStatus::NoMemory,
+        }
+    }
+}
+
+impl From<NoMemory> for ReplayStatus {
+    ghost from_gives = { λ _ status. status ≡ no_memory };
+
+    fn from(_: NoMemory) -> Self {
+        ReplayStatus::NoMemory
+    }
 }
 
 fn note_of(status: ReplayStatus) -> Option<Note>

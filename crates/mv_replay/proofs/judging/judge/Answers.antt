@@ -25,7 +25,7 @@ entries-preserved c =
     subst (λ (o : Option (Option ℕ × Entry)). IsNextOf w.0 bytes config w.1 w.2 o c.next.new.self) c.in-Ok-Some.field-0-is
     (c.in-Ok-Some.ensures.read w.0 bytes config w.1 w.2 w.3) in
     let course =
-    c.in-Ok-take.ensures.course w.0 (is_copied c.args.command w.0) w.1 w.2 w.4 w.3.calls next.read.calls
+    c.in_ok-take-in-Ok-Some.ensures.course w.0 (is_copied c.args.command w.0) w.1 w.2 w.4 w.3.calls next.read.calls
     (c.line-line.ensures w.0 bytes config w.1 w.2 w.3) in (
       w.0,
       es,
