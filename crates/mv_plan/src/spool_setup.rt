@@ -12,7 +12,7 @@ ghost use Rattle.mv_plan.specs.SpoolSetup.{jobs_limit, spool_setup, task_budgets
 use crate::numbers::{SCHEDULER, done, end_for_scheduler, end_for_writer, writer};
 use mv_deck::{Deck, Job, Step, VOLUME_COUNT, step_events};
 use mv_io::NoMemory;
-use mv_machine::{CheckRefusal, Config, Exit, ValidConfig};
+use mv_machine::{Config, Exit, ValidConfig};
 use std::alloc::Global;
 
 // How many callers there are beside the initiators: the reader, the scheduler and the writer.
@@ -139,12 +139,5 @@ pub fn spool_config(alloc: Global, deck: &Deck, initiators: u32) -> Result<Valid
         owners: owners_of(alloc, jobs, initiators)?,
         exits: exits_of(alloc, jobs)?,
     };
-    match config.check(alloc) {
-        Ok(config) => Ok(config),
-        Err(refusal) => match refusal {
-            CheckRefusal::NoMemory => Err(NoMemory),
-            // No rule of configurations refuses it.
-            _ => unreachable!(),
-        },
-    }
+    ValidConfig::of(alloc, config)
 }
