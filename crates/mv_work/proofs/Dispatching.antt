@@ -7,7 +7,6 @@ use Rattle.std.proofs.Math.Nat.{suc-mul}
 use Rattle.std.proofs.lemmas.List.{drop_more, drop_all}
 use Rattle.std.proofs.lemmas.List.Sums.{sum_by-cons}
 use Rattle.mv_board.specs.Faces.{CallerFace}
-use Rattle.mv_machine.specs.Setup.{Setup}
 use Rattle.mv_calls.specs.Program.{Call, Done, Wrong, accepted, finished, followed, for_each}
 use Rattle.mv_calls.specs.Waits.{extend, wait}
 use Rattle.mv_deck.specs.declared.deck.After.{After}
@@ -24,6 +23,7 @@ use Rattle.mv_work.specs.Parts.{lowest_complete}
 use Rattle.mv_work.specs.Ran.{Ran, Leads}
 use Rattle.mv_work.specs.Scheduling.{scheduler_left, jobs_from, jobs_due, dismissals_from, first_idle, exit_set}
 use Rattle.mv_work.specs.Scheduling.{then_jobs}
+use Rattle.mv_work.specs.Spool.{SpoolFace}
 use Rattle.mv_work.proofs.Calls.{accepted-assoc, blocks_asked_in, found_is}
 use Rattle.mv_work.proofs.Runs.{leads_astray, leads_on}
 use Rattle.mv_work.proofs.Waits.{leads_as}
@@ -31,29 +31,31 @@ use Rattle.mv_work.proofs.Waits.{leads_as}
 -- ---- what is asked for
 
 -- the ends of the jobs that a job waits for
-pub ends_asked : (c : Setup) (deck : List JobData) (i j : ℕ) {b : Blocks} → 0 < length (job_at deck j).after
-    → IsWaitFor (length (job_at deck j).after) (ends_of (length deck) (job_at deck j).after) b
-    → then_jobs c deck i j (ends_awaited c (length deck) (job_at deck j).after (exit_set c deck i j))
-    ≡ followed (need_call c (need.Blocks b)) (scheduler_left c deck i (stage.Ends j))
-ends_asked c deck i j some is = ap (then_jobs c deck i j) (awaited (job_at deck j).after some) ∙ blocks_asked_in c is _ _ where
+pub ends_asked : (s : SpoolFace) (j : ℕ) {b : Blocks} → 0 < length (job_at s.jobs j).after
+    → IsWaitFor (length (job_at s.jobs j).after) (ends_of (length s.jobs) (job_at s.jobs j).after) b
+    → then_jobs s j (ends_awaited s.board.config (length s.jobs) (job_at s.jobs j).after (exit_set s j))
+    ≡ followed (need_call s.board.config (need.Blocks b)) (scheduler_left s (stage.Ends j))
+ends_asked s j some is = ap (then_jobs s j) (awaited (job_at s.jobs j).after some) ∙ blocks_asked_in s.board.config is _ _ where
   awaited : (parts : List After) → 0 < length parts
-      → ends_awaited c (length deck) parts (exit_set c deck i j)
-      ≡ accepted (wait c (length parts) (ends_of (length deck) parts)) (λ slots. exit_set c deck i j (some_end_above parts slots))
+      → ends_awaited s.board.config (length s.jobs) parts (exit_set s j)
+      ≡ accepted (wait s.board.config (length parts) (ends_of (length s.jobs) parts)) (λ slots. exit_set s j (some_end_above parts slots))
   awaited [] some = absurd (omega arith)
   awaited (part ∷ parts) some = refl
 
 -- behind the last job the initiators are dismissed
-pub jobs_over : (c : Setup) (deck : List JobData) (i j : ℕ) → length deck ≤ j → jobs_from c deck i j ≡ dismissals_from c deck i 0
-jobs_over c deck i j le =
-    ap (λ js. dispatch_all c (length deck) i j js (for_each (range_with_len 0 i) (dismiss c (length deck)) (finished [])))
-    (drop_all j deck le)
-    ∙ ap (λ m. for_each (range_with_len 0 m) (dismiss c (length deck)) (finished [])) (let e : i ≡ i - 0 = omega arith in e)
+pub jobs_over : (s : SpoolFace) (j : ℕ) → length s.jobs ≤ j → jobs_from s j ≡ dismissals_from s 0
+jobs_over s j le =
+    let n = length s.jobs in
+    let i = s.initiators in
+    let last = dismiss s.board.config n in
+    ap (λ js. dispatch_all s.board.config n i j js (for_each (range_with_len 0 i) last (finished []))) (drop_all j s.jobs le)
+    ∙ ap (λ m. for_each (range_with_len 0 m) last (finished [])) (let e : i ≡ i - 0 = omega arith in e)
 
 -- the exit of a job is set, and then an initiator is waited for
-pub exit_first : (c : Setup) (deck : List JobData) (i j : ℕ) (skipped : Bool) → then_jobs c deck i j (exit_set c deck i j skipped)
-    ≡ accepted (extend c (done (length deck) j) (j + 1)) (λ (linked : Unit {0}). then_jobs c deck i j (first_idle c deck i j skipped))
-exit_first c deck i j skipped = accepted-assoc (extend c (done (length deck) j) (j + 1))
-    (λ (linked : Unit {0}). first_idle c deck i j skipped) (λ (handed : Unit {0}). jobs_from c deck i (j + 1))
+pub exit_first : (s : SpoolFace) (j : ℕ) (skipped : Bool) → then_jobs s j (exit_set s j skipped)
+    ≡ accepted (extend s.board.config (done (length s.jobs) j) (j + 1)) (λ (linked : Unit {0}). then_jobs s j (first_idle s j skipped))
+exit_first s j skipped = accepted-assoc (extend s.board.config (done (length s.jobs) j) (j + 1))
+    (λ (linked : Unit {0}). first_idle s j skipped) (λ (handed : Unit {0}). jobs_from s (j + 1))
 
 -- ---- what was found
 
@@ -78,15 +80,17 @@ is_some (suc n) is = omega arith
 -- ---- events
 
 -- those from a job on
-pub due_next : (deck : List JobData) (i j : ℕ) → j < length deck
-    → jobs_due deck i j ≡ 5 + 2 * length (job_at deck j).after + 2 * i + jobs_due deck i (j + 1)
-due_next deck i j lt =
-    let product : (length deck - j) * i ≡ (length deck - (j + 1)) * i + i =
-    ap (λ k. k * i) (let e : length deck - j ≡ suc (length deck - (j + 1)) = omega arith in e) ∙ suc-mul (length deck - (j + 1)) i in
-    let parts : after_parts (drop j deck) ≡ length (job_at deck j).after + after_parts (drop (j + 1) deck) =
-    ap after_parts (drop_more deck j no_job lt)
-    ∙ sum_by-cons (λ (job : JobData). length job.after) (job_at deck j) (drop (j + 1) deck) in omega arith
+pub due_next : (s : SpoolFace) (j : ℕ) → j < length s.jobs
+    → jobs_due s j ≡ 5 + 2 * length (job_at s.jobs j).after + 2 * s.initiators + jobs_due s (j + 1)
+due_next s j lt =
+    let n = length s.jobs in
+    let i = s.initiators in
+    let product : (n - j) * i ≡ (n - (j + 1)) * i + i =
+    ap (λ k. k * i) (let e : n - j ≡ suc (n - (j + 1)) = omega arith in e) ∙ suc-mul (n - (j + 1)) i in
+    let parts : after_parts (drop j s.jobs) ≡ length (job_at s.jobs j).after + after_parts (drop (j + 1) s.jobs) =
+    ap after_parts (drop_more s.jobs j no_job lt)
+    ∙ sum_by-cons (λ (job : JobData). length job.after) (job_at s.jobs j) (drop (j + 1) s.jobs) in omega arith
 
 -- behind the last, those of the dismissals
-pub due_over : (deck : List JobData) (i j : ℕ) → length deck ≤ j → 4 * (i - 0) ≤ jobs_due deck i j
-due_over deck i j le = omega arith
+pub due_over : (s : SpoolFace) (j : ℕ) → length s.jobs ≤ j → 4 * (s.initiators - 0) ≤ jobs_due s j
+due_over s j le = omega arith

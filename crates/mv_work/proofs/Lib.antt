@@ -6,6 +6,7 @@ pub mod Waits
 -- the configuration, and sound decks
 pub mod Reaches
 pub mod Decks
+pub mod Spools
 -- numbers of a range, and a job's AFTER list
 pub mod Ranges
 -- marks that are appended

@@ -15,7 +15,7 @@ use Rattle.mv_work.specs.declared.need.Got.{Got}
 use Rattle.mv_work.specs.declared.need.Got.TheVariants as got
 use Rattle.mv_work.specs.declared.need.Need.{Need}
 use Rattle.mv_work.specs.declared.need.Need.TheVariants as need
-use Rattle.mv_work.specs.declared.initiator.Notes.{Notes}
+use Rattle.mv_work.specs.declared.initiator.Initiator.{Initiator}
 use Rattle.mv_work.specs.declared.stage.InitiatorStage.{InitiatorStage}
 use Rattle.mv_work.specs.declared.stage.InitiatorStage.TheVariants as at
 use Rattle.mv_work.specs.declared.stage.Stage.{Stage}
@@ -27,6 +27,7 @@ use Rattle.mv_work.specs.Needs.{Answer, answer_of, need_call, need_events}
 use Rattle.mv_work.specs.Noting.{initiating_noted}
 use Rattle.mv_work.specs.Ran.{Ran, RanOut}
 use Rattle.mv_work.specs.Scheduling.{AreBlocks, AreSlots}
+use Rattle.mv_work.specs.Spool.{SpoolFace, spool_of}
 use Rattle.mv_work.specs.Waiting.{IsResting, Stages, Told, Waits}
 use Rattle.mv_work.specs.Works.{HasCome, HasWorked, ToldAt, WaitsAt, ends_found, records}
 use Rattle.mv_work.proofs.Runs.{leads_astray, out_wrong, ran_last, served_as}
@@ -61,23 +62,29 @@ slots_are c k (Some count) (need.Blocks b) (got.Slots s) is fits may =
 slots_are c k (Some count) (need.Blocks b) g is fits may = absurd is
 slots_are c k count n g is fits may = absurd fits
 
-initiator_is : (deck : List JobData) (me : ℕ) (notes : Notes) (s : InitiatorStage) (n : Need) (g : Got) → IsAnswerTo n g
-    → IsInitiatorNeed deck me notes s n → IsInitiatorAnswer deck me notes s g
-initiator_is deck me notes (at.Pause round) (need.Pause token) (got.Given given) is fits = (fits.0, (is.0 ∙ fits.1.0, is.1))
-initiator_is deck me notes (at.Latch r) (need.Latch latch requestor mode) (got.Granted token) is fits = (fits.0, is ∙ fits.1)
-initiator_is deck me notes (at.Pause round) (need.Pause token) g is fits = absurd is
-initiator_is deck me notes (at.Latch r) (need.Latch latch requestor mode) g is fits = absurd is
-initiator_is deck me notes s n g is fits = absurd fits
+initiator_is : (sp : SpoolFace) (me : Initiator) (s : InitiatorStage) (n : Need) (g : Got) → IsAnswerTo n g → IsInitiatorNeed sp me s n
+    → IsInitiatorAnswer sp me s g
+initiator_is sp me (at.Pause round) (need.Pause token) (got.Given given) is fits = (fits.0, (is.0 ∙ fits.1.0, is.1))
+initiator_is sp me (at.Latch r) (need.Latch latch requestor mode) (got.Granted token) is fits = (fits.0, is ∙ fits.1)
+initiator_is sp me (at.Pause round) (need.Pause token) g is fits = absurd is
+initiator_is sp me (at.Latch r) (need.Latch latch requestor mode) g is fits = absurd is
+initiator_is sp me s n g is fits = absurd fits
 
 -- what is needed is there
 
-own_there : (c : Setup) (deck : List JobData) (i : ℕ) (notes : Notes) (me : ℕ) (s : InitiatorStage) (n : Need) → c ≡ spool_setup deck i
-    → me < i → IsInitiatorNeed deck me notes s n → MayMeet c (initiator me) n
-own_there c deck i notes me (at.Pause round) (need.Pause token) is lt fits =
+own_there : (sp : SpoolFace) (me : Initiator) (s : InitiatorStage) (n : Need) → sp.board.config ≡ spool_setup sp.jobs sp.initiators
+    → IsInitiatorNeed sp me s n → MayMeet sp.board.config (initiator me.index) n
+own_there sp me (at.Pause round) (need.Pause token) is fits =
     subst (λ c. token.element < element_count c) (sym is)
-    (let own = fits.1.0 in let one : (i + 3) * 1 ≡ i + 3 = omega arith in omega arith)
-own_there c deck i notes me (at.Latch r) (need.Latch latch requestor mode) is lt fits = tt
-own_there c deck i notes me s n is lt fits = absurd fits
+    (let own = fits.1.0 in let lt = fits.0.index in let one : (sp.initiators + 3) * 1 ≡ sp.initiators + 3 = omega arith in omega arith)
+own_there sp me (at.Latch r) (need.Latch latch requestor mode) is fits = tt
+own_there sp me s n is fits = absurd fits
+
+-- an initiator that waits is one of the spool's
+own_index : (sp : SpoolFace) (me : Initiator) (s : InitiatorStage) (n : Need) → IsInitiatorNeed sp me s n → me.index < sp.initiators
+own_index sp me (at.Pause round) (need.Pause token) fits = fits.0.index
+own_index sp me (at.Latch r) (need.Latch latch requestor mode) fits = fits.0.0.at.index
+own_index sp me s n fits = absurd fits
 
 -- the call of what the task waits for may be made; behind an answer the task was told that, and otherwise it has worked
 pub record CanMeet (b : BoardFace) (deck : List JobData) (i : ℕ) (w : SpoolWork) (t : CallerFace) (n : Need) (u : CallerFace)
@@ -111,9 +118,11 @@ module _ (b : BoardFace) (deck : List JobData) (i : ℕ) (w : SpoolWork) (t : Ca
       (λ g v x. (at.0, x))
       (λ v x. scheduler_worked b.config deck i w at.0 x)
   ready_at (Some (stage.Initiator s)) is at =
-      ready (records w) (Some (stage.Initiator s)) (initiator at.0) at.2 at.3 (own_there b.config deck i w.notes at.0 s n is at.1)
-      (initiator_is deck at.0 w.notes s n) (λ g v x. (at.0, at.1, at.2, x))
-      (λ v x. initiator_worked b.config deck i w at.0 at.1 at.2 x)
+      let sp = spool_of b deck i in
+      let me = w.initiator in
+      ready (records w) (Some (stage.Initiator s)) (initiator me.index) at.0 at.1 (own_there sp me s n is) (initiator_is sp me s n)
+      (λ g v x. (at.0, x))
+      (λ v x. initiator_worked b.config deck i w me.index (own_index sp me s n at.1.fits) at.0 x)
   ready_at (Some (stage.Writer j)) is at =
       ready (ends_found w) (Some (stage.Writer j)) (writer i) at.0 at.1 (λ fits. fits.may)
       (λ g to fits. record { number = fits.number; room = fits.room; slot = slots_are b.config (writer i) None n g to fits.block fits.may })

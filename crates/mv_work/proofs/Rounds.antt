@@ -1,17 +1,16 @@
 -- The rounds of an initiator, wait by wait. Used by initiator.
 use Rattle.std.proofs.Common.{◌≡◌, ℕ, zero, suc, ◌+◌, ◌-◌, ◌<◌, ◌==◌, Bool, true, false, List, [], ◌∷◌, ◌++◌, length, get_or, set, sum_by}
-use Rattle.std.proofs.Common.{◌||◌, Option, Some, None, Result, Ok, Err, refl, sym, ap, ◌∙◌, subst, if◌then◌else◌, arith}
+use Rattle.std.proofs.Common.{◌||◌, Option, Some, None, Result, refl, sym, ap, ◌∙◌, subst, if◌then◌else◌, arith}
 use Rattle.std.specs.List.{AllByRecursion, list_any}
 use Rattle.std.proofs.lemmas.Bool.{eq-eqb, ne_eqb, eqb-true}
 use Rattle.std.proofs.lemmas.List.{get_or-set_same, get_or-set_other, length-set, map-append}
 use Rattle.std.proofs.lemmas.List.Folds.{list_any-append}
 use Rattle.std.proofs.lemmas.List.Sums.{sum_by-cons}
 use Rattle.mv_board.specs.Faces.{CallerFace}
-use Rattle.mv_element.specs.declared.element.Token.{Token}
-use Rattle.mv_machine.specs.Setup.{Setup}
 use Rattle.mv_calls.specs.Endings.{end_of_job}
 use Rattle.mv_calls.specs.Pauses.{Gift, deallocate}
-use Rattle.mv_calls.specs.Program.{Call, accepted, finished, wrong, followed, unrefused}
+use Rattle.mv_calls.specs.Keeping.{kept_of}
+use Rattle.mv_calls.specs.Program.{Call, Program, accepted, finished, wrong, followed, unrefused}
 use Rattle.mv_calls.specs.Refusal.{Refusal}
 use Rattle.mv_deck.specs.Deck.{JobData}
 use Rattle.mv_deck.specs.EndCode.{not_run}
@@ -20,12 +19,15 @@ use Rattle.mv_plan.specs.Jobs.{job_at}
 use Rattle.mv_plan.specs.SpoolSetup.{done}
 use Rattle.mv_plan.specs.SpoolTasks.{Named, named_by, job_named}
 use Rattle.mv_wait.specs.Run.{IsServed}
-use Rattle.mv_work.specs.Initiating.{AreGiven, given_then, job_then, jobs_of_records, left_of, rounds_after, steps_then}
+use Rattle.mv_work.specs.declared.initiator.Initiator.{Initiator}
+use Rattle.mv_work.specs.declared.stage.Running.{Running}
+use Rattle.mv_work.specs.Initiating.{AreGiven, given_then, named_then, jobs_of_records, left_of, rounds_after, steps_then}
 use Rattle.mv_work.specs.Noting.{record_of, rounds_noted, steps_noted}
-use Rattle.mv_work.specs.Ran.{RanOut}
+use Rattle.mv_work.specs.Ran.{Ran}
 use Rattle.mv_work.specs.Records.{JobRecord}
+use Rattle.mv_work.specs.Spool.{SpoolFace}
 use Rattle.mv_work.proofs.Calls.{followed-assoc}
-use Rattle.mv_work.proofs.Runs.{ran_last, served_as, out_done, out_wrong}
+use Rattle.mv_work.proofs.Runs.{ran_last, served_as}
 
 -- ---- what was not given yet
 
@@ -84,71 +86,73 @@ jobs_more records r = map-append (λ (r : JobRecord). r.job) records (r ∷ [])
 -- ---- an initiator, in a round
 
 -- what follows a gift
-module _ (c : Setup) (deck : List JobData) (me round : ℕ) (records : List JobRecord) (gift : Gift) where
+module _ (s : SpoolFace) (me : Initiator) (round : ℕ) (gift : Gift) where
   abbrev whole : Call (List JobRecord)
-  whole = given_then c deck me (length deck - round) records gift
+  whole = given_then s me (length s.jobs - round) gift
 
   -- by code 0 the element is given back, or that is refused
-  pub ended : {u v : CallerFace} (a : Result (Unit {0}) Refusal) → gift.code ≡ 0 → IsServed 1 (deallocate c gift.next) (λ b. b ≡ a) u v
-      → RanOut whole records u v
-  ended {u} {v} a is s = subst (λ call. RanOut call records u v) (sym closing) (go a s) where
-    closing : whole ≡ accepted (deallocate c gift.next) (λ closed. finished records)
-    closing = rw (eq-eqb gift.code 0 is) refl
-
-    go : (a : Result (Unit {0}) Refusal) → IsServed 1 (deallocate c gift.next) (λ b. b ≡ a) u v
-        → RanOut (accepted (deallocate c gift.next) (λ closed. finished records)) records u v
-    go (Ok given_back) s = out_done (ran_last (served_as s) (unrefused (λ (closed : Unit {0}). finished records)) refl)
-    go (Err why) s = out_wrong records (ran_last (served_as s) (unrefused (λ (closed : Unit {0}). finished records)) refl)
+  pub ended : {u v : CallerFace} {a : Result (Unit {0}) Refusal} {q : Program (List JobRecord)} → gift.code ≡ 0
+      → IsServed 1 (deallocate s.board.config gift.next) (λ b. b ≡ a) u v
+      → unrefused (λ (closed : Unit {0}). finished me.noted.jobs) a (kept_of v.number v.log) ≡ q → Ran whole q u v
+  ended {u} {v} {q = q} is x left =
+      subst (λ call. Ran call q u v) (sym closing) (ran_last (served_as x) (unrefused (λ (closed : Unit {0}). finished me.noted.jobs)) left)
+    where
+      closing : whole ≡ accepted (deallocate s.board.config gift.next) (λ closed. finished me.noted.jobs)
+      closing = rw (eq-eqb gift.code 0 is) refl
 
   -- any other code may name a job
   module _ (other : gift.code ≡ 0 → ⊥) where
-    names : (o : Option Named) → o ≡ job_named (length deck) gift.code → (m : ℕ) → length deck - round ≡ m
-        → whole ≡ named_by o (jobs_of_records records) m (job_then c deck me m records gift.next)
-    names o is m left = by_code ∙ ap (λ m. named_by (job_named (length deck) gift.code) (jobs_of_records records) m
-        (job_then c deck me m records gift.next)) left
-        ∙ ap (λ o. named_by o (jobs_of_records records) m (job_then c deck me m records gift.next)) (sym is) where
-          by_code : whole ≡ named_by (job_named (length deck) gift.code) (jobs_of_records records) (length deck - round)
-              (job_then c deck me (length deck - round) records gift.next)
+    names : (o : Option Named) → o ≡ job_named (length s.jobs) gift.code → (m : ℕ) → length s.jobs - round ≡ m
+        → whole ≡ named_by o (jobs_of_records me.noted.jobs) m (named_then s me m gift.next)
+    names o is m left = by_code ∙ ap (λ m. named_by (job_named (length s.jobs) gift.code) (jobs_of_records me.noted.jobs) m
+        (named_then s me m gift.next)) left
+        ∙ ap (λ o. named_by o (jobs_of_records me.noted.jobs) m (named_then s me m gift.next)) (sym is) where
+          by_code : whole ≡ named_by (job_named (length s.jobs) gift.code) (jobs_of_records me.noted.jobs) (length s.jobs - round)
+              (named_then s me (length s.jobs - round) gift.next)
           by_code = rw (ne_eqb gift.code 0 other) refl
 
     -- it names none
-    pub unnamed : None ≡ job_named (length deck) gift.code → whole ≡ wrong
-    unnamed none = names None none (length deck - round) refl
+    pub unnamed : None ≡ job_named (length s.jobs) gift.code → whole ≡ wrong
+    unnamed none = names None none (length s.jobs - round) refl
 
-    module _ {named : Named} (some : Some named ≡ job_named (length deck) gift.code) where
+    module _ {named : Named} (some : Some named ≡ job_named (length s.jobs) gift.code) where
       -- a job where no round is left for it
-      pub last_named : round ≡ length deck → whole ≡ wrong
+      pub last_named : round ≡ length s.jobs → whole ≡ wrong
       last_named is = names (Some named) some 0 (omega arith)
 
       -- the job may have been given before
-      pub named_now : round < length deck → {given : List Bool} → AreGiven (jobs_of_records records) given → named.job < length given
-          → (b : Bool) → get_or given named.job false ≡ b
-          → whole ≡ (if b then wrong else job_then c deck me (rounds_after deck round) records gift.next named)
+      pub named_now : round < length s.jobs → {given : List Bool} → AreGiven (jobs_of_records me.noted.jobs) given
+          → named.job < length given → (b : Bool) → get_or given named.job false ≡ b
+          → whole ≡ (if b then wrong else named_then s me (rounds_after s round) gift.next named)
       named_now within are place b is =
-          names (Some named) some (suc (length deck - (round + 1))) (omega arith)
-          ∙ ap (λ (b : Bool). if b then wrong else job_then c deck me (rounds_after deck round) records gift.next named)
+          names (Some named) some (suc (length s.jobs - (round + 1))) (omega arith)
+          ∙ ap (λ (b : Bool). if b then wrong else named_then s me (rounds_after s round) gift.next named)
           (are.each named.job place ∙ is)
 
 -- ---- a job that was named
 
-module _ (c : Setup) (deck : List JobData) (me more job : ℕ) (records : List JobRecord) (next : Token) where
+module _ (s : SpoolFace) (me : Initiator) (r : Running) where
+  -- what follows the job's code
+  abbrev begun : Bool → Call (List JobRecord)
+  begun skipped = named_then s me (rounds_after s r.round.number) r.round.next (record { job = r.job; skipped = skipped })
+
   -- a job, once its steps are done
   job_ends : (call : Call JobRecord)
-      → followed (followed call (λ r. followed (end_of_job c (job + 1) (done (length deck) job) r.end) (λ counts. finished r)))
-      (λ r. rounds_noted c deck me more (records ++ r ∷ []) next)
-      ≡ followed call (steps_then c deck me more records next job)
+      → followed (followed call (λ n. followed (end_of_job s.board.config (r.job + 1) (done (length s.jobs) r.job) n.end) (λ counts. finished n)))
+      (λ n. rounds_noted s.board.config s.jobs me.index (rounds_after s r.round.number) (me.noted.jobs ++ n ∷ []) r.round.next)
+      ≡ followed call (steps_then s me r)
   job_ends call =
-      followed-assoc call (λ r. followed (end_of_job c (job + 1) (done (length deck) job) r.end) (λ counts. finished r))
-      (λ r. rounds_noted c deck me more (records ++ r ∷ []) next)
-      ∙ ap (followed call) (λ i r. followed-assoc (end_of_job c (job + 1) (done (length deck) job) r.end) (λ counts. finished r)
-      (λ r. rounds_noted c deck me more (records ++ r ∷ []) next) i)
+      followed-assoc call (λ n. followed (end_of_job s.board.config (r.job + 1) (done (length s.jobs) r.job) n.end) (λ counts. finished n))
+      (λ n. rounds_noted s.board.config s.jobs me.index (rounds_after s r.round.number) (me.noted.jobs ++ n ∷ []) r.round.next)
+      ∙ ap (followed call) (λ i n. followed-assoc (end_of_job s.board.config (r.job + 1) (done (length s.jobs) r.job) n.end)
+      (λ counts. finished n)
+      (λ n. rounds_noted s.board.config s.jobs me.index (rounds_after s r.round.number) (me.noted.jobs ++ n ∷ []) r.round.next) i)
 
   -- it is not to be run
-  pub job_skipped : (b : Bool) → b ≡ true → job_then c deck me more records next (record { job = job; skipped = b })
-      ≡ steps_then c deck me more records next job (record_of job not_run [])
-  job_skipped b is = rw is (job_ends (finished (record_of job not_run [])))
+  pub job_skipped : (b : Bool) → b ≡ true → begun b ≡ steps_then s me r (record_of r.job not_run [])
+  job_skipped b is = rw is (job_ends (finished (record_of r.job not_run [])))
 
   -- its steps are to be done
-  pub job_begun : (b : Bool) → b ≡ false → job_then c deck me more records next (record { job = job; skipped = b })
-      ≡ followed (steps_noted c job (λ latch. None) 0 [] (job_at deck job).steps) (steps_then c deck me more records next job)
-  job_begun b is = rw is (job_ends (steps_noted c job (λ latch. None) 0 [] (job_at deck job).steps))
+  pub job_begun : (b : Bool) → b ≡ false
+      → begun b ≡ followed (steps_noted s.board.config r.job (λ latch. None) 0 [] (job_at s.jobs r.job).steps) (steps_then s me r)
+  job_begun b is = rw is (job_ends (steps_noted s.board.config r.job (λ latch. None) 0 [] (job_at s.jobs r.job).steps))

@@ -4,12 +4,12 @@ use Rattle.std.proofs.Common.{get_or, option_map, sym, ap, ◌∙◌, subst, if�
 use Rattle.std.proofs.lemmas.Bool.{eq-eqb, eqb-true}
 use Rattle.std.proofs.lemmas.List.{get_or-set_same, get_or-set_other, length-set}
 use Rattle.mv_machine.specs.System.{with_at}
-use Rattle.mv_deck.specs.Deck.{JobData}
 use Rattle.mv_latchset.specs.declared.token.LatchToken.{LatchToken}
 use Rattle.mv_plan.proofs.lists.{all_get}
-use Rattle.mv_work.specs.declared.initiator.Notes.{Notes}
+use Rattle.mv_work.specs.declared.initiator.Initiator.{Initiator}
 use Rattle.mv_work.specs.Initiating.{AreGiven, IsAtJob, jobs_of_records}
 use Rattle.mv_work.specs.Records.{Recorded}
+use Rattle.mv_work.specs.Spool.{SpoolFace}
 use Rattle.mv_work.specs.Steps.{AreKept, requests_of}
 
 -- the number of a request
@@ -54,13 +54,14 @@ no_requests i latch =
     (refl, (refl, (refl, (refl, (refl, (refl, (refl, (refl, tt)))))))) refl) i
 
 -- a job that still runs, with what is noted now
-pub still_at : {deck : List JobData} {old : Notes} {round job marks : ℕ} (noted : Recorded) (less : ℕ) → noted.jobs ≡ old.noted.jobs
-    → less + old.noted.room ≤ noted.room + marks → IsAtJob deck old round job marks
-    → IsAtJob deck (record { given = old.given; noted = noted }) round job less
-still_at {old = old} {job = job} noted less jobs room at = record {
+pub still_at : {s : SpoolFace} {me : Initiator} {round job marks : ℕ} (noted : Recorded) (less : ℕ) → noted.jobs ≡ me.noted.jobs
+    → less + me.noted.room ≤ noted.room + marks → IsAtJob s me round job marks
+    → IsAtJob s (record { index = me.index; given = me.given; noted = noted }) round job less
+still_at {me = me} {job = job} noted less jobs room at = record {
+  index = at.index;
   round = at.round;
   job = at.job;
   size = at.size;
-  given = subst (λ js. AreGiven (js ++ job ∷ []) old.given.items) (ap jobs_of_records (sym jobs)) at.given;
+  given = subst (λ js. AreGiven (js ++ job ∷ []) me.given.items) (ap jobs_of_records (sym jobs)) at.given;
   room = (let few = at.room in omega arith);
 }

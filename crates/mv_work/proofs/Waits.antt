@@ -1,5 +1,5 @@
 -- A task that comes to its next wait. Used by all that ask for something, and by begin and go_on.
-use Rattle.std.proofs.Common.{◌≡◌, ℕ, ◌+◌, ◌≤◌, Option, Some, None, ap, ◌∙◌, subst, arith}
+use Rattle.std.proofs.Common.{◌≡◌, ℕ, ◌+◌, ◌≤◌, Result, Ok, Err, ap, ◌∙◌, subst, arith}
 use Rattle.mv_board.specs.Faces.{BoardFace, CallerFace}
 use Rattle.mv_calls.specs.Keeping.{kept_of}
 use Rattle.mv_calls.specs.Program.{Call, Done, Wrong, followed, wrong}
@@ -7,12 +7,15 @@ use Rattle.mv_calls.specs.Rest.{IsAtRest}
 use Rattle.mv_machine.specs.Setup.{Setup}
 use Rattle.mv_wait.proofs.Runs.{same_then}
 use Rattle.mv_wait.specs.Run.{IsServed}
+use Rattle.mv_work.specs.declared.lost.Lost.{Lost}
 use Rattle.mv_work.specs.declared.need.Got.{Got}
 use Rattle.mv_work.specs.declared.need.Need.{Need}
+use Rattle.mv_work.specs.declared.next.Next.{Next}
+use Rattle.mv_work.specs.declared.next.Next.TheVariants as next
 use Rattle.mv_work.specs.Needs.{answer_of, need_call, need_events}
-use Rattle.mv_work.specs.Ran.{Ran, Leads}
+use Rattle.mv_work.specs.Ran.{Ran, RanOut, Leads}
 use Rattle.mv_work.specs.Waiting.{Asks, AsksFor, Comes, ComesTo, IsResting, Stages, Told, Waits}
-use Rattle.mv_work.proofs.Runs.{astray, leads_all, leads_on, leads_out, leads_same, leads_then, out_done, out_wrong, ran_nothing}
+use Rattle.mv_work.proofs.Runs.{astray, leads_all, leads_on, leads_same, leads_then, out_done, out_wrong, ran_nothing}
 use Rattle.mv_work.proofs.Runs.{served_few, served_ran, still_of}
 
 -- a task at rest, with fewer events that it needs
@@ -39,54 +42,64 @@ leads_as {A} {whole} {later} u is = subst (λ call. Leads whole call u u) is (le
 
 module _ {S A : Type 0} {b : BoardFace} {stages : Stages S A} {Fits : S → Need → Type 0} {a : A} where
   -- what is left to do, asked for, is what the task comes to
-  pub asks_come : {later whole : Call A} {t u : CallerFace} {most : ℕ} {next : Option (S × Need)}
-      → Asks b.config stages Fits a later most next → Leads whole later t u → IsResting b most u
-      → Comes b stages Fits a whole t next u
-  asks_come {later} {whole} {t} {u} {most} {next} asks leads rests = record { come = go next asks.asks } where
-    go : (next : Option (S × Need)) → AsksFor b.config stages Fits a later most next → ComesTo b stages Fits a whole t next u
-    go (Some next) asks = record {
+  pub asks_come : {later whole : Call A} {t u : CallerFace} {most : ℕ} {came : Next S}
+      → Asks b.config stages Fits a later most came → Leads whole later t u → IsResting b most u
+      → Comes b stages Fits a whole t (Ok came) u
+  asks_come {later} {whole} {t} {u} {most} {came} asks leads rests = record { come = go came asks.asks } where
+    go : (came : Next S) → AsksFor b.config stages Fits a later most came → ComesTo b stages Fits a whole t (Ok came) u
+    go (next.Wait s n) asks = record {
       same = leads_same leads rests.quiet;
       rests = rests_less rests asks.2;
       fits = asks.1;
       leads = subst (λ r. Leads whole r t u) asks.0 leads;
     }
-    go None asks = out_done (leads (Done a) u (ran_nothing later (asks (kept_of u.number u.log)) rests.quiet))
+    go next.Done asks = leads (Done a) u (ran_nothing later (asks (kept_of u.number u.log)) rests.quiet)
 
   -- with nothing done before
-  pub asks_first : {later : Call A} {u : CallerFace} {most : ℕ} {next : Option (S × Need)} → Asks b.config stages Fits a later most next
-      → IsResting b most u → Comes b stages Fits a later u next u
+  pub asks_first : {later : Call A} {u : CallerFace} {most : ℕ} {came : Next S} → Asks b.config stages Fits a later most came
+      → IsResting b most u → Comes b stages Fits a later u (Ok came) u
   asks_first {later} {u} asks rests = asks_come asks (leads_all later u) rests
 
   -- what was left to do has come to its next wait: so has the whole
-  pub comes_on : {later whole : Call A} {t u v : CallerFace} {next : Option (S × Need)} → Leads whole later t u
-      → Comes b stages Fits a later u next v → Comes b stages Fits a whole t next v
-  comes_on {later} {whole} {t} {u} {v} {next} leads w = record { come = go next w.come } where
-    go : (next : Option (S × Need)) → ComesTo b stages Fits a later u next v → ComesTo b stages Fits a whole t next v
-    go (Some next) w =
-        let all : Leads whole (followed (need_call b.config next.1) (stages.then next.0)) t v = leads_then leads w.leads in
+  pub comes_on : {later whole : Call A} {t u v : CallerFace} {came : Result (Next S) Lost} → Leads whole later t u
+      → Comes b stages Fits a later u came v → Comes b stages Fits a whole t came v
+  comes_on {later} {whole} {t} {u} {v} {came} leads w = record { come = go came w.come } where
+    go : (came : Result (Next S) Lost) → ComesTo b stages Fits a later u came v → ComesTo b stages Fits a whole t came v
+    go (Ok (next.Wait s n)) w =
+        let all : Leads whole (followed (need_call b.config n) (stages.then s)) t v = leads_then leads w.leads in
         record { same = leads_same all w.rests.quiet; rests = w.rests; fits = w.fits; leads = all }
-    go None w = leads_out leads w
+    go (Ok next.Done) w = leads (Done a) v w
+    go (Err lost) w = leads Wrong v w
 
   -- what is left to do, by another name
-  pub comes_as : {later whole : Call A} {u v : CallerFace} {next : Option (S × Need)} → whole ≡ later
-      → Comes b stages Fits a later u next v → Comes b stages Fits a whole u next v
+  pub comes_as : {later whole : Call A} {u v : CallerFace} {came : Result (Next S) Lost} → whole ≡ later
+      → Comes b stages Fits a later u came v → Comes b stages Fits a whole u came v
   comes_as {later} {whole} {u} is w = comes_on (leads_as u is) w
 
   -- a call of it went astray
-  pub comes_astray : {whole : Call A} {u v : CallerFace} → Ran whole Wrong u v → Comes b stages Fits a whole u None v
-  comes_astray x = record { come = out_wrong a x }
+  pub comes_astray : {whole : Call A} {u v : CallerFace} {lost : Lost} → Ran whole Wrong u v
+      → Comes b stages Fits a whole u (Err lost) v
+  comes_astray x = record { come = x }
 
   -- it is foreseen nowhere
-  pub comes_nowhere : {whole : Call A} (u : CallerFace) → whole ≡ wrong → IsAtRest u.log → Comes b stages Fits a whole u None u
+  pub comes_nowhere : {whole : Call A} {lost : Lost} (u : CallerFace) → whole ≡ wrong → IsAtRest u.log
+      → Comes b stages Fits a whole u (Err lost) u
   comes_nowhere {whole} u is quiet = comes_astray (astray (leads_all whole u) is quiet)
+
+  -- a task that is done or lost has made all events
+  pub comes_out : {whole : Call A} {t u : CallerFace} → Comes b stages Fits a whole t (Ok next.Done) u → RanOut whole a t u
+  comes_out w = out_done w.come
+
+  pub lost_out : {whole : Call A} {t u : CallerFace} {lost : Lost} → Comes b stages Fits a whole t (Err lost) u → RanOut whole a t u
+  lost_out w = out_wrong a w.come
 
 -- what is asked for, by another name, and by no more events
 pub asks_as : {S A : Type 0} {c : Setup} {stages : Stages S A} {Fits : S → Need → Type 0} {a : A} {later whole : Call A} {less most : ℕ}
-    {next : Option (S × Need)} → whole ≡ later → less ≤ most → Asks c stages Fits a later less next → Asks c stages Fits a whole most next
-asks_as {S} {A} {c} {stages} {Fits} {a} {later} {whole} {less} {most} {next} is le asks = record { asks = go next asks.asks } where
-  go : (next : Option (S × Need)) → AsksFor c stages Fits a later less next → AsksFor c stages Fits a whole most next
-  go (Some next) asks = (is ∙ asks.0, asks.1, (let few = asks.2 in omega arith))
-  go None asks = λ kept. ap (λ call. call kept) is ∙ asks kept
+    {came : Next S} → whole ≡ later → less ≤ most → Asks c stages Fits a later less came → Asks c stages Fits a whole most came
+asks_as {S} {A} {c} {stages} {Fits} {a} {later} {whole} {less} {most} {came} is le asks = record { asks = go came asks.asks } where
+  go : (came : Next S) → AsksFor c stages Fits a later less came → AsksFor c stages Fits a whole most came
+  go (next.Wait s n) asks = (is ∙ asks.0, asks.1, (let few = asks.2 in omega arith))
+  go next.Done asks = λ kept. ap (λ call. call kept) is ∙ asks kept
 
 -- the task was told an answer
 pub told_answer : {S A : Type 0} {b : BoardFace} {stages : Stages S A} {Fits : S → Need → Type 0} {Answers : S → Got → Type 0}

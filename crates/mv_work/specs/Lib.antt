@@ -7,6 +7,8 @@ pub mod Noting
 pub mod Recording
 -- calls that a task has run
 pub mod Ran
+-- what the tasks have in common
+pub mod Spool
 -- what a task waits for, and what meets that
 pub mod Needs
 pub mod Meeting

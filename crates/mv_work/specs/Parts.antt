@@ -1,11 +1,9 @@
 -- Calls that are parts of the plan's tasks and have an answer of their own; and what the code's types say in the plan's words.
-use Rattle.std.specs.Prelude.{◌≡◌, ℕ, ◌+◌, ◌<◌, Bool, false, nat_lt, List, [], ◌∷◌, length, map, Option, Some, None}
-use Rattle.mv_machine.specs.Setup.{Setup}
+use Rattle.std.specs.Prelude.{ℕ, ◌+◌, Bool, false, nat_lt, List, [], ◌∷◌, length, map, Option, Some, None}
 use Rattle.mv_calls.specs.Program.{Call, finished, wrong}
 use Rattle.mv_deck.specs.declared.deck.After.{After}
 use Rattle.mv_deck.specs.declared.deck.Job.{Job}
 use Rattle.mv_deck.specs.Deck.{JobData, job_data}
-use Rattle.mv_plan.specs.SpoolSetup.{idle, initiator}
 use Rattle.mv_plan.specs.SpoolTasks.{Named}
 use Rattle.mv_work.specs.declared.finding.Found.{Found}
 use Rattle.mv_work.specs.declared.running.Named as code
@@ -30,12 +28,6 @@ pair_of f = (f.position, f.code)
 abbrev pub is_end_above : After → Option ℕ → Bool
 is_end_above part (Some end) = nat_lt part.most end
 is_end_above part None = false
-
--- ---- initiators
-
--- the configuration of n jobs has this initiator, its block, and its element
-abbrev pub HasInitiator : Setup → ℕ → ℕ → Type 0
-HasInitiator c n i = (idle n i < length c.owners) × (initiator i < c.callers) × (c.elements_per_caller ≡ 1)
 
 -- ---- the rounds of an initiator
 

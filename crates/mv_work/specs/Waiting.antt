@@ -1,20 +1,23 @@
 -- A task that waits, one that was told what it waited for, and one that has come to its next wait. A stage says where a task waits:
 -- what is left to do behind the answer, and how many events that may need. What a task of the spool waits for fits its stage.
-use Rattle.std.specs.Prelude.{◌≡◌, ℕ, ◌+◌, ◌≤◌, List, length, Option, Some, None}
+use Rattle.std.specs.Prelude.{◌≡◌, ℕ, ◌+◌, ◌≤◌, List, length, Result, Ok, Err}
 use Rattle.mv_board.specs.Faces.{BoardFace, CallerFace, IsOf, IsSame}
 use Rattle.mv_calls.specs.Keeping.{Kept}
-use Rattle.mv_calls.specs.Program.{Call, Done, followed}
+use Rattle.mv_calls.specs.Program.{Call, Done, Wrong, followed}
 use Rattle.mv_calls.specs.Rest.{IsAtRest}
 use Rattle.mv_deck.specs.declared.deck.Job.{Job}
 use Rattle.mv_deck.specs.Sound.{IsSound}
 use Rattle.mv_deck.specs.Weight.{most_initiators}
 use Rattle.mv_machine.specs.Setup.{Setup}
 use Rattle.mv_plan.specs.SpoolSetup.{jobs_limit, spool_setup}
+use Rattle.mv_work.specs.declared.lost.Lost.{Lost}
 use Rattle.mv_work.specs.declared.need.Got.{Got}
 use Rattle.mv_work.specs.declared.need.Need.{Need}
+use Rattle.mv_work.specs.declared.next.Next.{Next}
+use Rattle.mv_work.specs.declared.next.Next.TheVariants as next
 use Rattle.mv_work.specs.Needs.{Answer, answer_of, need_call, need_events}
 use Rattle.mv_work.specs.Parts.{jobs_of}
-use Rattle.mv_work.specs.Ran.{Leads, RanOut}
+use Rattle.mv_work.specs.Ran.{Leads, Ran}
 
 -- the board is that of a deck which so many initiators can run
 pub record IsSpool (b : BoardFace) (deck : List Job) (i : ℕ) : Type 0 where
@@ -50,26 +53,26 @@ pub record Told {S A : Type 0} (b : BoardFace) (stages : Stages S A) (Answers : 
   pub answers : Answers s g
   pub leads : Leads whole (stages.then s (answer_of g)) t u
 
--- it has come to its next wait, or has made all events of the whole, whose answer is this
-abbrev pub ComesTo : {S A : Type 0} → BoardFace → Stages S A → (S → Need → Type 0) → A → Call A → CallerFace → Option (S × Need)
+-- it has come to its next wait; or has made all events of the whole, whose answer is this; or has met a reply that nothing foresees
+abbrev pub ComesTo : {S A : Type 0} → BoardFace → Stages S A → (S → Need → Type 0) → A → Call A → CallerFace → Result (Next S) Lost
     → CallerFace → Type 0
-ComesTo b stages Fits a whole t (Some next) u = Waits b stages Fits whole t next.0 next.1 u
-ComesTo b stages Fits a whole t None u = RanOut whole a t u
+ComesTo b stages Fits a whole t (Ok (next.Wait s n)) u = Waits b stages Fits whole t s n u
+ComesTo b stages Fits a whole t (Ok next.Done) u = Ran whole (Done a) t u
+ComesTo b stages Fits a whole t (Err lost) u = Ran whole Wrong t u
 
 -- the same as a record, so that lemmas find what they speak of
 pub record Comes {S A : Type 0} (b : BoardFace) (stages : Stages S A) (Fits : S → Need → Type 0) (a : A) (whole : Call A) (t : CallerFace)
-    (next : Option (S × Need)) (u : CallerFace) : Type 0 where
+    (next : Result (Next S) Lost) (u : CallerFace) : Type 0 where
   pub come : ComesTo b stages Fits a whole t next u
 
 -- This is what is left to do: the call of the need, and behind its answer what the stage says; where nothing is needed, nothing. It
 -- needs at most so many events.
-abbrev pub AsksFor : {S A : Type 0} → Setup → Stages S A → (S → Need → Type 0) → A → Call A → ℕ → Option (S × Need) → Type 0
-AsksFor c stages Fits a later most (Some next) =
-    (later ≡ followed (need_call c next.1) (stages.then next.0)) × Fits next.0 next.1
-    × (need_events next.1 + stages.due next.0 ≤ most)
-AsksFor c stages Fits a later most None = (kept : Kept) → later kept ≡ Done a
+abbrev pub AsksFor : {S A : Type 0} → Setup → Stages S A → (S → Need → Type 0) → A → Call A → ℕ → Next S → Type 0
+AsksFor c stages Fits a later most (next.Wait s n) =
+    (later ≡ followed (need_call c n) (stages.then s)) × Fits s n × (need_events n + stages.due s ≤ most)
+AsksFor c stages Fits a later most next.Done = (kept : Kept) → later kept ≡ Done a
 
 -- the same as a record
 pub record Asks {S A : Type 0} (c : Setup) (stages : Stages S A) (Fits : S → Need → Type 0) (a : A) (later : Call A) (most : ℕ)
-    (next : Option (S × Need)) : Type 0 where
+    (next : Next S) : Type 0 where
   pub asks : AsksFor c stages Fits a later most next

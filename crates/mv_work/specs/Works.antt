@@ -17,20 +17,22 @@ use Rattle.mv_work.specs.Noting.{initiating_noted}
 use Rattle.mv_work.specs.Ran.{RanOut}
 use Rattle.mv_work.specs.Records.{JobRecord}
 use Rattle.mv_work.specs.Scheduling.{IsSchedulerAnswer, IsSchedulerNeed, scheduler_stages}
+use Rattle.mv_work.specs.Spool.{spool_of}
 use Rattle.mv_work.specs.Waiting.{Told, Waits}
-use Rattle.mv_work.specs.Writing.{IsWriterAnswer, IsWriterNeed, writer_stages}
+use Rattle.mv_work.specs.Writing.{IsWriterAnswer, IsWriterNeed, room_in, writer_stages}
 
 -- the work of task k was not begun, and has the room that it needs
 pub record IsNew (deck : List JobData) (i k : ℕ) (w : SpoolWork) : Type 0 where
-  pub given : AllByRecursion (λ b. b ≡ false) w.notes.given.items
-  pub none : (w.notes.noted.jobs ≡ []) × (w.notes.noted.notes ≡ []) × (w.ends.items ≡ [])
-  pub size : 2 ≤ k → k < i + 2 → length w.notes.given.items ≡ length deck
-  pub room : 2 ≤ k → k < i + 2 → marks_left w.notes.given.items deck ≤ w.notes.noted.room
+  pub given : AllByRecursion (λ b. b ≡ false) w.initiator.given.items
+  pub none : (w.initiator.noted.jobs ≡ []) × (w.initiator.noted.notes ≡ []) × (w.ends.items ≡ [])
+  pub index : 2 ≤ k → k < i + 2 → w.initiator.index + 2 ≡ k
+  pub size : 2 ≤ k → k < i + 2 → length w.initiator.given.items ≡ length deck
+  pub room : 2 ≤ k → k < i + 2 → marks_left w.initiator.given.items deck ≤ w.initiator.noted.room
   pub ends : k ≡ i + 2 → length deck ≤ vec_capacity w.ends
 
 -- what the task of number k brings back: the writer the ends, an initiator the records of the jobs that it ran
 abbrev pub records : SpoolWork → List JobRecord
-records w = w.notes.noted.jobs
+records w = w.initiator.noted.jobs
 
 -- the ends that the writer found
 abbrev pub ends_found : SpoolWork → List ℕ
@@ -48,23 +50,25 @@ HasWorked c deck i w t u =
 abbrev pub WaitsAt : BoardFace → List JobData → ℕ → SpoolWork → Option Stage → CallerFace → Need → CallerFace → Type 0
 WaitsAt b deck i w None t n u = ⊥
 WaitsAt b deck i w (Some (Scheduler s)) t n u = (t.number ≡ scheduler)
-    × Waits b (scheduler_stages b.config deck i) (IsSchedulerNeed b.config deck i) (scheduling b.config i deck) t s n u
-WaitsAt b deck i w (Some (Initiator s)) t n u = (me : ℕ) × (me < i) × (t.number ≡ initiator me)
-    × Waits b (initiator_stages b.config deck me w.notes) (IsInitiatorNeed deck me w.notes) (initiating_noted b.config deck me) t s n u
+    × Waits b (scheduler_stages (spool_of b deck i)) (IsSchedulerNeed (spool_of b deck i)) (scheduling b.config i deck) t s n u
+WaitsAt b deck i w (Some (Initiator s)) t n u = (t.number ≡ initiator w.initiator.index)
+    × Waits b (initiator_stages (spool_of b deck i) w.initiator) (IsInitiatorNeed (spool_of b deck i) w.initiator)
+    (initiating_noted b.config deck w.initiator.index) t s n u
 WaitsAt b deck i w (Some (Writer j)) t n u = (t.number ≡ writer i)
-    × Waits b (writer_stages b.config (length deck) (ends_found w))
-    (IsWriterNeed b.config i (length deck) (vec_capacity w.ends - length w.ends.items)) (writing b.config (length deck)) t j n u
+    × Waits b (writer_stages (spool_of b deck i) (ends_found w)) (IsWriterNeed (spool_of b deck i) (room_in w.ends))
+    (writing b.config (length deck)) t j n u
 
 -- It was told this.
 abbrev pub ToldAt : BoardFace → List JobData → ℕ → SpoolWork → Option Stage → CallerFace → Got → CallerFace → Type 0
 ToldAt b deck i w None t g u = ⊥
 ToldAt b deck i w (Some (Scheduler s)) t g u = (t.number ≡ scheduler)
-    × Told b (scheduler_stages b.config deck i) (IsSchedulerAnswer deck i) (scheduling b.config i deck) t s g u
-ToldAt b deck i w (Some (Initiator s)) t g u = (me : ℕ) × (me < i) × (t.number ≡ initiator me)
-    × Told b (initiator_stages b.config deck me w.notes) (IsInitiatorAnswer deck me w.notes) (initiating_noted b.config deck me) t s g u
+    × Told b (scheduler_stages (spool_of b deck i)) (IsSchedulerAnswer (spool_of b deck i)) (scheduling b.config i deck) t s g u
+ToldAt b deck i w (Some (Initiator s)) t g u = (t.number ≡ initiator w.initiator.index)
+    × Told b (initiator_stages (spool_of b deck i) w.initiator) (IsInitiatorAnswer (spool_of b deck i) w.initiator)
+    (initiating_noted b.config deck w.initiator.index) t s g u
 ToldAt b deck i w (Some (Writer j)) t g u = (t.number ≡ writer i)
-    × Told b (writer_stages b.config (length deck) (ends_found w))
-    (IsWriterAnswer (length deck) (vec_capacity w.ends - length w.ends.items)) (writing b.config (length deck)) t j g u
+    × Told b (writer_stages (spool_of b deck i) (ends_found w)) (IsWriterAnswer (spool_of b deck i) (room_in w.ends))
+    (writing b.config (length deck)) t j g u
 
 -- The task was t when it was new. It waits for what it needs, or needs nothing more and has worked.
 abbrev pub HasCome : BoardFace → List JobData → ℕ → SpoolWork → CallerFace → Option Need → CallerFace → Type 0

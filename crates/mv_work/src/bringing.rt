@@ -3,7 +3,7 @@
 ghost use Rattle.std.specs.Prelude.{◌≡◌, ◌≤◌, ◌-◌, [], drop, length, map, slice_index_or, take, vec_capacity};
 ghost use Rattle.mv_work.specs.Works.{ends_found, records};
 
-use crate::initiator::Notes;
+use crate::initiator::Initiator;
 use crate::records::InitiatorRecord;
 use crate::work::SpoolWork;
 
@@ -42,8 +42,8 @@ fn records_of(works: Vec<SpoolWork>, room: Vec<InitiatorRecord>) -> Vec<Initiato
 {
     let mut noted = room;
     for work in works {
-        let SpoolWork { notes, .. } = work;
-        let Notes { noted: record, .. } = notes;
+        let SpoolWork { initiator, .. } = work;
+        let Initiator { noted: record, .. } = initiator;
         noted.push_reserved(record);
     }
     noted

@@ -1,10 +1,11 @@
 //! What a wait for the first of some blocks found. Clauses cite `specs/Parts.antt`.
 
-ghost use Rattle.std.specs.Prelude.{◌≡◌, ◌<◌, length, IfSome, MatchOption};
+ghost use Rattle.std.specs.Prelude.{◌≡◌, ◌<◌, length, IfOk, MatchResult};
 ghost use Rattle.mv_calls.specs.Program.{finished, wrong};
 ghost use Rattle.mv_wait.specs.Answers.{slots_of};
 ghost use Rattle.mv_work.specs.Parts.{lowest_complete, pair_of};
 
+use crate::lost::Lost;
 use mv_wait::WaitSlot;
 
 /// A block that was found complete.
@@ -16,15 +17,15 @@ pub(crate) struct Found {
 }
 
 /// The lowest position that was found complete, with its code.
-pub(crate) fn first_in(slots: &[WaitSlot]) -> Option<Found>
-    ensures found { MatchOption result (lowest_complete 0 (slots_of slots.now) ≡ wrong)
-        (λ found. lowest_complete 0 (slots_of slots.now) ≡ finished (pair_of found)) }
-    ensures listed { IfSome result (λ found. found.position < length slots.now) }
+pub(crate) fn first_in(slots: &[WaitSlot]) -> Result<Found, Lost>
+    ensures found { MatchResult result (λ found. lowest_complete 0 (slots_of slots.now) ≡ finished (pair_of found))
+        (λ _. lowest_complete 0 (slots_of slots.now) ≡ wrong) }
+    ensures listed { IfOk result (λ found. found.position < length slots.now) }
 {
     for position in 0..slots.len() {
         if let WaitSlot::Complete(code) = slots[position] {
-            return Some(Found { position, code });
+            return Ok(Found { position, code });
         }
     }
-    None
+    Err(Lost)
 }

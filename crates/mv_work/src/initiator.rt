@@ -1,6 +1,6 @@
 //! An initiator. Clauses cite the plan's `SpoolTasks.antt`, and `specs/Waiting.antt`, `specs/Noting.antt` and `specs/Initiating.antt`.
 
-ghost use Rattle.std.specs.Prelude.{◌≡◌, ◌<◌, ◌≤◌, ◌+◌, ◌-◌, suc, [], false, length, option_map, IfOk};
+ghost use Rattle.std.specs.Prelude.{◌≡◌, ◌<◌, ◌≤◌, ◌+◌, ◌-◌, suc, [], false, length, Some, None, IfOk, MatchResult};
 ghost use Rattle.std.specs.List.{AllByRecursion};
 ghost use Rattle.mv_deck.specs.EndCode.{not_run};
 ghost use Rattle.mv_pause.specs.Answers.{gift_as};
@@ -8,25 +8,26 @@ ghost use Rattle.mv_plan.specs.Jobs.{job_at};
 ghost use Rattle.mv_plan.specs.SpoolSetup.{jobs_limit, initiator as plan_initiator};
 ghost use Rattle.mv_plan.specs.SpoolTasks.{job_named as named_by};
 ghost use Rattle.mv_work.specs.Initiating.{InitiatorComes, IsAtJob, IsInitiatorAnswer, IsBetween, IsOwn, initiator_due, initiator_left};
-ghost use Rattle.mv_work.specs.Initiating.{job_then, marks_left, rounds_after, rounds_due, steps_events, step_marks, steps_marks};
+ghost use Rattle.mv_work.specs.Initiating.{named_then, marks_left, rounds_after, rounds_due, steps_events, step_marks, steps_marks};
 ghost use Rattle.mv_work.specs.Initiating.{steps_then};
 ghost use Rattle.mv_work.specs.Needs.{Gave, answer_of};
 ghost use Rattle.mv_work.specs.Noting.{initiating_noted, record_of, rounds_noted};
 ghost use Rattle.mv_work.specs.Parts.{jobs_of, named_of};
-ghost use Rattle.mv_work.specs.Waiting.{IsResting, IsSpool};
+ghost use Rattle.mv_work.specs.Waiting.{IsResting};
 ghost use Rattle.mv_work.specs.declared.stage.InitiatorStage.TheVariants as stage;
 
+use crate::lost::Lost;
 use crate::need::{Got, Need};
+use crate::next::Next;
 use crate::records::InitiatorRecord;
-use crate::running::{Named, on_granted, run_on};
-use crate::stage::{InitiatorStage, Running};
-use mv_deck::{Job, NOT_RUN, Step, VOLUME_COUNT};
-use mv_element::Token;
+use crate::running::Named;
+use crate::spool::Spool;
+use crate::stage::{InitiatorStage, Round, Running};
+use mv_deck::{Job, NOT_RUN, Step};
 use mv_io::NoMemory;
 use mv_pause::{Given, allocate, deallocate};
-use mv_plan::{done, idle};
 use mv_task::{Gate, Point, end_of_job};
-use mv_wait::{Station, Task};
+use mv_wait::Task;
 use std::alloc::Global;
 use std::sync::Wait;
 
@@ -36,9 +37,11 @@ pub(crate) const NOT_TO_RUN: u32 = 1 << 23;
 /// The code that tells an initiator that no job follows.
 pub(crate) const NO_JOB: u32 = 0;
 
-/// What an initiator keeps.
+/// An initiator between two waits.
 #[derive(Drop)]
-pub(crate) struct Notes {
+pub(crate) struct Initiator {
+    /// Its index, from 0.
+    pub index: u32,
     /// Which jobs it was given.
     pub given: Vec<bool>,
     /// What it noted of those that it ran.
@@ -80,13 +83,14 @@ fn none_given(alloc: Global, jobs: usize) -> Result<Vec<bool>, NoMemory>
     Ok(vec![in alloc; false; jobs]?)
 }
 
-impl Notes {
-    /// Room for the notes of an initiator that may be given each of these jobs.
-    pub(crate) fn with_room(alloc: Global, deck: &[Job]) -> Result<Notes, NoMemory>
-        ensures given { IfOk result (λ notes. AllByRecursion (λ b. b ≡ false) notes.given.items) }
-        ensures size { IfOk result (λ notes. length notes.given.items ≡ length deck.now) }
-        ensures none { IfOk result (λ notes. (notes.noted.jobs ≡ []) × (notes.noted.notes ≡ [])) }
-        ensures room { IfOk result (λ notes. marks_left notes.given.items (jobs_of deck.now) ≤ notes.noted.room) }
+impl Initiator {
+    /// The initiator of this index, with room for the notes of each of these jobs.
+    pub(crate) fn with_room(alloc: Global, index: u32, deck: &[Job]) -> Result<Initiator, NoMemory>
+        ensures index { IfOk result (λ me. me.index ≡ index) }
+        ensures given { IfOk result (λ me. AllByRecursion (λ b. b ≡ false) me.given.items) }
+        ensures size { IfOk result (λ me. length me.given.items ≡ length deck.now) }
+        ensures none { IfOk result (λ me. (me.noted.jobs ≡ []) × (me.noted.notes ≡ [])) }
+        ensures room { IfOk result (λ me. marks_left me.given.items (jobs_of deck.now) ≤ me.noted.room) }
     {
         let mut room = 0_usize;
         for k in 0..deck.len() {
@@ -98,247 +102,180 @@ impl Notes {
             };
             room = more;
         }
-        Ok(Notes {
+        Ok(Initiator {
+            index,
             given: none_given(alloc, deck.len())?,
             noted: InitiatorRecord::with_room(alloc, room)?,
         })
     }
 }
 
-/// Allocates the initiator's element, and begins its first round.
-pub(crate) fn initiate<R: Wait>(
-    rt: &R,
-    station: &Station,
-    task: &mut Task,
-    deck: &[Job],
-    initiators: u32,
-    index: u32,
-    notes: &Notes,
-) -> Option<(InitiatorStage, Need)>
-    requires spool { IsSpool station.now deck.now initiators }
-    requires index { index < initiators }
-    requires number { task.old.number ≡ plan_initiator index }
-    requires between { IsBetween (jobs_of deck.now) notes.now 0 }
-    requires none { notes.now.noted.jobs ≡ [] }
-    requires rests { IsResting station.now (1 + rounds_due (jobs_of deck.now) notes.now.given.items 0) task.old }
-    ensures { InitiatorComes station.now (jobs_of deck.now) index notes.now
-        (initiating_noted station.now.config (jobs_of deck.now) index) task.old result task.new }
-{
-    let Ok(token) = allocate(station, rt, task) else {
-        return None;
-    };
-    begin_round(rt, station, task, deck, initiators, index, notes, 0, token)
-}
-
-/// Goes on from where it waited, by what it was told.
-pub(crate) fn go_on<R: Wait, G: Gate>(
-    rt: &R,
-    station: &Station,
-    task: &mut Task,
-    deck: &[Job],
-    initiators: u32,
-    gate: &G,
-    index: u32,
-    notes: &mut Notes,
-    stage: InitiatorStage,
-    got: Got,
-) -> Option<(InitiatorStage, Need)>
-    requires spool { IsSpool station.now deck.now initiators }
-    requires index { index < initiators }
-    requires answer { IsInitiatorAnswer (jobs_of deck.now) index notes.old stage got }
-    requires rests { IsResting station.now (initiator_due (jobs_of deck.now) notes.old.given.items stage) task.old }
-    ensures { InitiatorComes station.now (jobs_of deck.now) index notes.new
-        (initiator_left station.now.config (jobs_of deck.now) index notes.old stage (answer_of got)) task.old result task.new }
-{
-    match stage {
-        InitiatorStage::Pause(round) => {
-            let Got::Given(given) = got else {
-                unreachable!()
-            };
-            on_given(
-                rt, station, task, deck, initiators, gate, index, notes, round, given,
-            )
-        }
-        InitiatorStage::Latch(running) => {
-            let Got::Granted(token) = got else {
-                unreachable!()
-            };
-            on_granted(
-                rt, station, task, deck, initiators, gate, index, notes, running, token,
-            )
-        }
-    }
-}
-
-// Tells the scheduler that the initiator is idle and with which generation it pauses, and waits for what it is given.
-fn begin_round<R: Wait>(
-    rt: &R,
-    station: &Station,
-    task: &mut Task,
-    deck: &[Job],
-    initiators: u32,
-    index: u32,
-    notes: &Notes,
-    round: u32,
-    token: Token,
-) -> Option<(InitiatorStage, Need)>
-    requires spool { IsSpool station.now deck.now initiators }
-    requires index { index < initiators }
-    requires between { IsBetween (jobs_of deck.now) notes.now round }
-    requires token { IsOwn index token }
-    requires rests { IsResting station.now (rounds_due (jobs_of deck.now) notes.now.given.items round) task.old }
-    ensures { InitiatorComes station.now (jobs_of deck.now) index notes.now
-        (rounds_noted station.now.config (jobs_of deck.now) index (suc (length (jobs_of deck.now) - round)) notes.now.noted.jobs token)
-        task.old result task.new }
-{
-    station.post(rt, task, idle(deck.len() as u32, index), token.generation);
-    Some((InitiatorStage::Pause(round), Need::Pause(token)))
-}
-
-// It was given a code: the job that this names is begun, and the element is given back where no job follows.
-fn on_given<R: Wait, G: Gate>(
-    rt: &R,
-    station: &Station,
-    task: &mut Task,
-    deck: &[Job],
-    initiators: u32,
-    gate: &G,
-    index: u32,
-    notes: &mut Notes,
-    round: u32,
-    given: Given,
-) -> Option<(InitiatorStage, Need)>
-    requires spool { IsSpool station.now deck.now initiators }
-    requires index { index < initiators }
-    requires between { IsBetween (jobs_of deck.now) notes.old round }
-    requires token { IsOwn index given.next }
-    requires rests { IsResting station.now (initiator_due (jobs_of deck.now) notes.old.given.items (stage.Pause round)) task.old }
-    ensures { InitiatorComes station.now (jobs_of deck.now) index notes.new
-        (initiator_left station.now.config (jobs_of deck.now) index notes.old (stage.Pause round) (Gave (gift_as given)))
-        task.old result task.new }
-{
-    if given.code == NO_JOB {
-        let _ = deallocate(station, rt, task, given.next);
-        return None;
-    }
-    let jobs = deck.len() as u32;
-    let named = job_named(jobs, given.code)?;
-    // No run hands out more jobs than there are, nor one twice.
-    if round == jobs {
-        return None;
-    }
-    if notes.given[named.job as usize] {
-        return None;
-    }
-    notes.given[named.job as usize] = true;
-    start_job(
-        rt, station, task, deck, initiators, gate, index, notes, round, given.next, named,
-    )
-}
-
 // The job of so many that a code names, if it names one.
-fn job_named(jobs: u32, code: u32) -> Option<Named>
+fn job_named(jobs: u32, code: u32) -> Result<Named, Lost>
     requires { jobs ≤ jobs_limit }
-    ensures { option_map named_of result ≡ named_by jobs code }
+    ensures { MatchResult result (λ named. Some (named_of named) ≡ named_by jobs code) (λ _. None ≡ named_by jobs code) }
 {
     if 1 <= code && code <= jobs {
-        Some(Named {
+        Ok(Named {
             job: code - 1,
             skipped: false,
         })
     } else if 1 + NOT_TO_RUN <= code && code <= jobs + NOT_TO_RUN {
-        Some(Named {
+        Ok(Named {
             job: code - (1 + NOT_TO_RUN),
             skipped: true,
         })
     } else {
-        None
+        Err(Lost)
     }
 }
 
-// Begins a job that was named, which may be one that is not to be run.
-fn start_job<R: Wait, G: Gate>(
-    rt: &R,
-    station: &Station,
-    task: &mut Task,
-    deck: &[Job],
-    initiators: u32,
-    gate: &G,
-    index: u32,
-    notes: &mut Notes,
-    round: u32,
-    next: Token,
-    named: Named,
-) -> Option<(InitiatorStage, Need)>
-    requires spool { IsSpool station.now deck.now initiators }
-    requires index { index < initiators }
-    requires at { IsAtJob (jobs_of deck.now) notes.old round named.job (steps_marks (job_at (jobs_of deck.now) named.job).steps) }
-    requires none { notes.old.noted.notes ≡ [] }
-    requires token { IsOwn index next }
-    requires rests { IsResting station.now (steps_events (job_at (jobs_of deck.now) named.job).steps + 4
-        + rounds_due (jobs_of deck.now) notes.old.given.items (round + 1)) task.old }
-    ensures { InitiatorComes station.now (jobs_of deck.now) index notes.new
-        (job_then station.now.config (jobs_of deck.now) index (rounds_after (jobs_of deck.now) round) notes.old.noted.jobs next
-        (named_of named)) task.old result task.new }
-{
-    let job = named.job;
-    gate.pass(rt, task.number(), Point::Started(job));
-    if named.skipped {
-        return end_job(
-            rt, station, task, deck, initiators, gate, index, notes, round, next, job, NOT_RUN,
-        );
+impl<G: Gate> Spool<'_, G> {
+    /// Allocates the initiator's element, and begins its first round.
+    pub(crate) fn initiate<R: Wait>(
+        &self,
+        rt: &R,
+        task: &mut Task,
+        me: &Initiator,
+    ) -> Result<Next<InitiatorStage>, Lost>
+        requires number { task.old.number ≡ plan_initiator me.now.index }
+        requires between { IsBetween self.now me.now 0 }
+        requires none { me.now.noted.jobs ≡ [] }
+        requires rests { IsResting self.now.board (1 + rounds_due self.now me.now 0) task.old }
+        ensures { InitiatorComes self.now me.now (initiating_noted self.now.board.config self.now.jobs me.now.index) task.old result task.new }
+    {
+        let next = allocate(self.station, rt, task)?;
+        self.begin_round(rt, task, me, Round { number: 0, next })
     }
-    let running = Running {
-        round,
-        next,
-        job,
-        step: 0,
-        latch: 0,
-        requests: [None; VOLUME_COUNT],
-    };
-    run_on(
-        rt, station, task, deck, initiators, gate, index, notes, running,
-    )
-}
 
-/// Ends a job: its requestor is purged, and then its end is posted and noted. The next round begins.
-pub(crate) fn end_job<R: Wait, G: Gate>(
-    rt: &R,
-    station: &Station,
-    task: &mut Task,
-    deck: &[Job],
-    initiators: u32,
-    gate: &G,
-    index: u32,
-    notes: &mut Notes,
-    round: u32,
-    next: Token,
-    job: u32,
-    end: u32,
-) -> Option<(InitiatorStage, Need)>
-    requires spool { IsSpool station.now deck.now initiators }
-    requires index { index < initiators }
-    requires at { IsAtJob (jobs_of deck.now) notes.old round job 0 }
-    requires token { IsOwn index next }
-    requires end { end ≤ not_run }
-    requires rests { IsResting station.now (4 + rounds_due (jobs_of deck.now) notes.old.given.items (round + 1)) task.old }
-    ensures { InitiatorComes station.now (jobs_of deck.now) index notes.new
-        (steps_then station.now.config (jobs_of deck.now) index (rounds_after (jobs_of deck.now) round) notes.old.noted.jobs next job
-        (record_of job end notes.old.noted.notes)) task.old result task.new }
-{
-    gate.pass(rt, task.number(), Point::Ended(job));
-    let block = done(deck.len() as u32, job);
-    end_of_job(station, rt, task, job as u64 + 1, block, end);
-    notes.noted.end(job, end);
-    begin_round(
-        rt,
-        station,
-        task,
-        deck,
-        initiators,
-        index,
-        notes,
-        round + 1,
-        next,
-    )
+    /// Goes on from where it waited, by what it was told.
+    pub(crate) fn resume_initiator<R: Wait>(
+        &self,
+        rt: &R,
+        task: &mut Task,
+        me: &mut Initiator,
+        stage: InitiatorStage,
+        got: Got,
+    ) -> Result<Next<InitiatorStage>, Lost>
+        requires answer { IsInitiatorAnswer self.now me.old stage got }
+        requires rests { IsResting self.now.board (initiator_due self.now me.old stage) task.old }
+        ensures comes { InitiatorComes self.now me.new (initiator_left self.now me.old stage (answer_of got)) task.old result task.new }
+        ensures same { me.new.index ≡ me.old.index }
+    {
+        match (stage, got) {
+            (InitiatorStage::Pause(round), Got::Given(given)) => {
+                self.on_given(rt, task, me, round, given)
+            }
+            (InitiatorStage::Latch(running), Got::Granted(token)) => {
+                self.on_granted(rt, task, me, running, token)
+            }
+            _ => unreachable!(),
+        }
+    }
+
+    // Tells the scheduler that the initiator is idle and with which generation it pauses, and waits for what it is given.
+    fn begin_round<R: Wait>(
+        &self,
+        rt: &R,
+        task: &mut Task,
+        me: &Initiator,
+        round: Round,
+    ) -> Result<Next<InitiatorStage>, Lost>
+        requires between { IsBetween self.now me.now round.number }
+        requires token { IsOwn me.now round.next }
+        requires rests { IsResting self.now.board (rounds_due self.now me.now round.number) task.old }
+        ensures { InitiatorComes self.now me.now (rounds_noted self.now.board.config self.now.jobs me.now.index
+            (suc (length self.now.jobs - round.number)) me.now.noted.jobs round.next) task.old result task.new }
+    {
+        let idle = self.idle(me.index);
+        self.station.post(rt, task, idle, round.next.generation);
+        Ok(Next::Wait(InitiatorStage::Pause(round.number), Need::Pause(round.next)))
+    }
+
+    // It was given a code: the job that this names is begun, and the element is given back where no job follows.
+    fn on_given<R: Wait>(
+        &self,
+        rt: &R,
+        task: &mut Task,
+        me: &mut Initiator,
+        round: u32,
+        given: Given,
+    ) -> Result<Next<InitiatorStage>, Lost>
+        requires between { IsBetween self.now me.old round }
+        requires token { IsOwn me.old given.next }
+        requires rests { IsResting self.now.board (initiator_due self.now me.old (stage.Pause round)) task.old }
+        ensures comes { InitiatorComes self.now me.new (initiator_left self.now me.old (stage.Pause round) (Gave (gift_as given)))
+            task.old result task.new }
+        ensures same { me.new.index ≡ me.old.index }
+    {
+        if given.code == NO_JOB {
+            deallocate(self.station, rt, task, given.next)?;
+            return Ok(Next::Done);
+        }
+        let jobs = self.jobs();
+        let named = job_named(jobs, given.code)?;
+        // No run hands out more jobs than there are, nor one twice.
+        if round == jobs {
+            return Err(Lost);
+        }
+        if me.given[named.job as usize] {
+            return Err(Lost);
+        }
+        me.given[named.job as usize] = true;
+        let round = Round {
+            number: round,
+            next: given.next,
+        };
+        self.start_job(rt, task, me, round, named)
+    }
+
+    // Begins a job that was named, which may be one that is not to be run.
+    fn start_job<R: Wait>(
+        &self,
+        rt: &R,
+        task: &mut Task,
+        me: &mut Initiator,
+        round: Round,
+        named: Named,
+    ) -> Result<Next<InitiatorStage>, Lost>
+        requires at { IsAtJob self.now me.old round.number named.job (steps_marks (job_at self.now.jobs named.job).steps) }
+        requires none { me.old.noted.notes ≡ [] }
+        requires token { IsOwn me.old round.next }
+        requires rests { IsResting self.now.board (steps_events (job_at self.now.jobs named.job).steps + 4
+            + rounds_due self.now me.old (round.number + 1)) task.old }
+        ensures comes { InitiatorComes self.now me.new
+            (named_then self.now me.old (rounds_after self.now round.number) round.next (named_of named)) task.old result task.new }
+        ensures same { me.new.index ≡ me.old.index }
+    {
+        self.pass(rt, task, Point::Started(named.job));
+        let running = Running::new(round, named.job);
+        if named.skipped {
+            return self.end_job(rt, task, me, running, NOT_RUN);
+        }
+        self.run_on(rt, task, me, running)
+    }
+
+    /// Ends a job: its requestor is purged, and then its end is posted and noted. The next round begins.
+    pub(crate) fn end_job<R: Wait>(
+        &self,
+        rt: &R,
+        task: &mut Task,
+        me: &mut Initiator,
+        running: Running,
+        end: u32,
+    ) -> Result<Next<InitiatorStage>, Lost>
+        requires at { IsAtJob self.now me.old running.round.number running.job 0 }
+        requires token { IsOwn me.old running.round.next }
+        requires end { end ≤ not_run }
+        requires rests { IsResting self.now.board (4 + rounds_due self.now me.old (running.round.number + 1)) task.old }
+        ensures comes { InitiatorComes self.now me.new
+            (steps_then self.now me.old running (record_of running.job end me.old.noted.notes)) task.old result task.new }
+        ensures same { me.new.index ≡ me.old.index }
+    {
+        self.pass(rt, task, Point::Ended(running.job));
+        let done = self.done(running.job);
+        end_of_job(self.station, rt, task, running.requestor(), done, end);
+        me.noted.end(running.job, end);
+        self.begin_round(rt, task, me, running.round.after())
+    }
 }

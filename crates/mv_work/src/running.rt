@@ -8,18 +8,18 @@ ghost use Rattle.mv_deck.specs.Sound.{HasGoodNumbers};
 ghost use Rattle.mv_deck.specs.Weight.{step_events};
 ghost use Rattle.mv_work.specs.Initiating.{InitiatorComes, IsRunning, initiator_due, initiator_left, step_marks, steps_from};
 ghost use Rattle.mv_work.specs.Needs.{Holds};
-ghost use Rattle.mv_work.specs.Parts.{jobs_of};
 ghost use Rattle.mv_work.specs.Steps.{AreKept, BearsSteps, DoesStep, IsGoodDid, requests_of};
-ghost use Rattle.mv_work.specs.Waiting.{IsResting, IsSpool};
+ghost use Rattle.mv_work.specs.Waiting.{IsResting};
 ghost use Rattle.mv_work.specs.declared.stage.InitiatorStage.TheVariants as stage;
 
-use crate::initiator::{Notes, end_job};
+use crate::initiator::Initiator;
 use crate::lost::Lost;
 use crate::need::Need;
-use crate::parts::steps_of;
+use crate::next::Next;
 use crate::records::{InitiatorRecord, Noted};
+use crate::spool::Spool;
 use crate::stage::{InitiatorStage, Running};
-use mv_deck::{Job, Step};
+use mv_deck::Step;
 use mv_latch::Mode;
 use mv_latchset::{LatchToken, release_latch};
 use mv_task::Gate;
@@ -49,94 +49,69 @@ pub(crate) enum Did {
     Asks(u32, Mode),
 }
 
-/// Does the steps of a job from this one on, up to one that obtains a latch; behind the last, ends the job.
-pub(crate) fn run_on<R: Wait, G: Gate>(
-    rt: &R,
-    station: &Station,
-    task: &mut Task,
-    deck: &[Job],
-    initiators: u32,
-    gate: &G,
-    index: u32,
-    notes: &mut Notes,
-    running: Running,
-) -> Option<(InitiatorStage, Need)>
-    requires spool { IsSpool station.now deck.now initiators }
-    requires index { index < initiators }
-    requires running { IsRunning (jobs_of deck.now) index notes.old running }
-    requires rests { IsResting station.now (initiator_due (jobs_of deck.now) notes.old.given.items (stage.Latch running)) task.old }
-    ensures { InitiatorComes station.now (jobs_of deck.now) index notes.new
-        (steps_from station.now.config (jobs_of deck.now) index notes.old running running.step (requests_of running.requests))
-        task.old result task.new }
-{
-    let Running {
-        round,
-        next,
-        job,
-        ..
-    } = running;
-    let steps = steps_of(deck, job);
-    for place in running.step..steps.len() {
-        match do_step(
-            rt,
-            station,
-            task,
-            job,
-            place,
-            &steps[place],
-            &running.requests,
-            &mut notes.noted,
-        ) {
-            Ok(Did::Went) => {}
-            Ok(Did::Ended(end)) => {
-                return end_job(
-                    rt, station, task, deck, initiators, gate, index, notes, round, next, job, end,
-                );
+impl<G: Gate> Spool<'_, G> {
+    /// Does the steps of a job from the next on, up to one that obtains a latch; behind the last, ends the job.
+    pub(crate) fn run_on<R: Wait>(
+        &self,
+        rt: &R,
+        task: &mut Task,
+        me: &mut Initiator,
+        running: Running,
+    ) -> Result<Next<InitiatorStage>, Lost>
+        requires running { IsRunning self.now me.old running }
+        requires rests { IsResting self.now.board (initiator_due self.now me.old (stage.Latch running)) task.old }
+        ensures comes { InitiatorComes self.now me.new
+            (steps_from self.now me.old running running.step (requests_of running.requests)) task.old result task.new }
+        ensures same { me.new.index ≡ me.old.index }
+    {
+        let job = running.job;
+        let steps = self.steps_of(job);
+        for place in running.step..steps.len() {
+            match do_step(
+                rt,
+                self.station,
+                task,
+                job,
+                place,
+                &steps[place],
+                &running.requests,
+                &mut me.noted,
+            )? {
+                Did::Went => {}
+                Did::Ended(end) => return self.end_job(rt, task, me, running, end),
+                Did::Asks(latch, mode) => {
+                    let mut at = running;
+                    at.step = place + 1;
+                    at.latch = latch;
+                    let requestor = running.requestor();
+                    let need = Need::Latch(latch, requestor, mode);
+                    return Ok(Next::Wait(InitiatorStage::Latch(at), need));
+                }
             }
-            Ok(Did::Asks(latch, mode)) => {
-                let mut at = running;
-                at.step = place + 1;
-                at.latch = latch;
-                return Some((
-                    InitiatorStage::Latch(at),
-                    Need::Latch(latch, job as u64 + 1, mode),
-                ));
-            }
-            Err(_) => return None,
         }
+        self.end_job(rt, task, me, running, ENDED)
     }
-    end_job(
-        rt, station, task, deck, initiators, gate, index, notes, round, next, job, ENDED,
-    )
-}
 
-/// The latch was granted: the steps behind the one that obtains it follow.
-pub(crate) fn on_granted<R: Wait, G: Gate>(
-    rt: &R,
-    station: &Station,
-    task: &mut Task,
-    deck: &[Job],
-    initiators: u32,
-    gate: &G,
-    index: u32,
-    notes: &mut Notes,
-    running: Running,
-    token: LatchToken,
-) -> Option<(InitiatorStage, Need)>
-    requires spool { IsSpool station.now deck.now initiators }
-    requires index { index < initiators }
-    requires running { IsRunning (jobs_of deck.now) index notes.old running }
-    requires token { (running.latch ≤ highest_latch) × (token.latch ≡ running.latch) }
-    requires rests { IsResting station.now (initiator_due (jobs_of deck.now) notes.old.given.items (stage.Latch running)) task.old }
-    ensures { InitiatorComes station.now (jobs_of deck.now) index notes.new
-        (initiator_left station.now.config (jobs_of deck.now) index notes.old (stage.Latch running) (Holds token.id))
-        task.old result task.new }
-{
-    let mut running = running;
-    running.requests[running.latch as usize] = Some(token);
-    run_on(
-        rt, station, task, deck, initiators, gate, index, notes, running,
-    )
+    /// The latch was granted: the steps behind the one that obtains it follow.
+    pub(crate) fn on_granted<R: Wait>(
+        &self,
+        rt: &R,
+        task: &mut Task,
+        me: &mut Initiator,
+        running: Running,
+        token: LatchToken,
+    ) -> Result<Next<InitiatorStage>, Lost>
+        requires running { IsRunning self.now me.old running }
+        requires token { (running.latch ≤ highest_latch) × (token.latch ≡ running.latch) }
+        requires rests { IsResting self.now.board (initiator_due self.now me.old (stage.Latch running)) task.old }
+        ensures comes { InitiatorComes self.now me.new
+            (initiator_left self.now me.old (stage.Latch running) (Holds token.id)) task.old result task.new }
+        ensures same { me.new.index ≡ me.old.index }
+    {
+        let mut running = running;
+        running.requests[running.latch as usize] = Some(token);
+        self.run_on(rt, task, me, running)
+    }
 }
 
 // Does one step of a job, and notes it where it prints or scans. A USE makes no event: its latch is still to be obtained.
@@ -176,10 +151,8 @@ fn do_step<R: Wait>(
             let Some(token) = requests[*latch as usize] else {
                 return Err(Lost);
             };
-            match release_latch(station, rt, task, token, false) {
-                Ok(_) => Ok(Did::Went),
-                Err(_) => Err(Lost),
-            }
+            release_latch(station, rt, task, token, false)?;
+            Ok(Did::Went)
         }
         Step::Count(volume, amount) => {
             let number = station.read_volume(task, *volume);

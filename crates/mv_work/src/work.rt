@@ -8,12 +8,11 @@ ghost use Rattle.mv_work.specs.Waiting.{IsSpool};
 ghost use Rattle.mv_work.specs.Works.{HasCome, IsNew, ToldAt, WasTold};
 ghost use Rattle.mv_work.specs.declared.stage.Stage.TheVariants as at;
 
-use crate::initiator::{self, Notes, initiate};
+use crate::initiator::Initiator;
 use crate::need::{Got, Need};
-use crate::reader::read;
-use crate::scheduler::{self, schedule};
+use crate::next::Next;
+use crate::spool::Spool;
 use crate::stage::{InitiatorStage, SchedulerStage, Stage};
-use crate::writer::{on_end, write};
 use mv_deck::Job;
 use mv_io::NoMemory;
 use mv_plan::{FIRST_INITIATOR, READER, SCHEDULER, writer};
@@ -27,8 +26,8 @@ use std::sync::Wait;
 pub struct SpoolWork {
     /// Where it waits, once it has begun.
     pub(crate) stage: Option<Stage>,
-    /// What an initiator keeps.
-    pub(crate) notes: Notes,
+    /// The initiator, where the task is one.
+    pub(crate) initiator: Initiator,
     /// The ends that the writer found.
     pub(crate) ends: Vec<u32>,
 }
@@ -49,9 +48,15 @@ impl SpoolWork {
         ensures { IfOk result (λ work. IsNew (jobs_of deck.now) initiators number work) }
     {
         let initiates = FIRST_INITIATOR <= number && number < writer(initiators);
+        let index = if initiates {
+            number - FIRST_INITIATOR
+        } else {
+            0
+        };
+        let given = if initiates { deck } else { &[] };
         Ok(SpoolWork {
             stage: None,
-            notes: Notes::with_room(alloc, if initiates { deck } else { &[] })?,
+            initiator: Initiator::with_room(alloc, index, given)?,
             ends: Vec::with_capacity(
                 alloc,
                 if number == writer(initiators) {
@@ -79,25 +84,38 @@ impl SpoolWork {
         requires new { IsNew (jobs_of deck.now) initiators task.old.number self.old }
         ensures { HasCome station.now (jobs_of deck.now) initiators self.new task.old result task.new }
     {
+        let spool = Spool::new(station, deck, initiators, gate);
         let number = task.number();
         if number == READER {
-            read(rt, station, task, deck, initiators, gate);
+            spool.read(rt, task);
             return None;
         }
         if number == SCHEDULER {
-            let (stage, need) = schedule(station, deck, initiators, 0)?;
-            self.stage = Some(Stage::Scheduler(stage));
-            return Some(need);
+            return match spool.schedule(0) {
+                Next::Wait(stage, need) => {
+                    self.stage = Some(Stage::Scheduler(stage));
+                    Some(need)
+                }
+                Next::Done => None,
+            };
         }
         if number == writer(initiators) {
-            let (job, need) = write(station, deck, initiators, 0)?;
-            self.stage = Some(Stage::Writer(job));
-            return Some(need);
+            return match spool.write(0) {
+                Next::Wait(job, need) => {
+                    self.stage = Some(Stage::Writer(job));
+                    Some(need)
+                }
+                Next::Done => None,
+            };
         }
-        let index = number - FIRST_INITIATOR;
-        let (stage, need) = initiate(rt, station, task, deck, initiators, index, &self.notes)?;
-        self.stage = Some(Stage::Initiator(stage));
-        Some(need)
+        match spool.initiate(rt, task, &self.initiator) {
+            Ok(Next::Wait(stage, need)) => {
+                self.stage = Some(Stage::Initiator(stage));
+                Some(need)
+            }
+            Ok(Next::Done) => None,
+            Err(_) => None,
+        }
     }
 
     /// Goes on with the work of the task behind what it was told, and answers what it waits for next.
@@ -116,19 +134,14 @@ impl SpoolWork {
         ensures { (t : CallerFace) → WasTold station.now (jobs_of deck.now) initiators self.old t got task.old
             → HasCome station.now (jobs_of deck.now) initiators self.new t result task.new }
     {
+        let spool = Spool::new(station, deck, initiators, gate);
         let Some(waits) = self.stage else {
             unreachable!()
         };
         match waits {
-            Stage::Scheduler(stage) => {
-                self.go_on_scheduler(rt, station, task, deck, initiators, gate, stage, got)
-            }
-            Stage::Initiator(stage) => {
-                self.go_on_initiator(rt, station, task, deck, initiators, gate, stage, got)
-            }
-            Stage::Writer(job) => {
-                self.go_on_writer(rt, station, task, deck, initiators, gate, job, got)
-            }
+            Stage::Scheduler(stage) => self.go_on_scheduler(rt, &spool, task, stage, got),
+            Stage::Initiator(stage) => self.go_on_initiator(rt, &spool, task, stage, got),
+            Stage::Writer(job) => self.go_on_writer(rt, &spool, task, job, got),
         }
     }
 
@@ -136,75 +149,69 @@ impl SpoolWork {
     fn go_on_scheduler<R: Wait, G: Gate>(
         &mut self,
         rt: &R,
-        station: &Station,
+        spool: &Spool<'_, G>,
         task: &mut Task,
-        deck: &[Job],
-        initiators: u32,
-        gate: &G,
         stage: SchedulerStage,
         got: Got,
     ) -> Option<Need>
-        requires spool { IsSpool station.now deck.now initiators }
-        requires told { (t : CallerFace) × ToldAt station.now (jobs_of deck.now) initiators self.old (Some (at.Scheduler stage)) t got
-            task.old }
-        ensures { (t : CallerFace) → ToldAt station.now (jobs_of deck.now) initiators self.old (Some (at.Scheduler stage)) t got task.old
-            → HasCome station.now (jobs_of deck.now) initiators self.new t result task.new }
+        requires told { (t : CallerFace) × ToldAt spool.now.board spool.now.jobs spool.now.initiators self.old (Some (at.Scheduler stage)) t got task.old }
+        ensures { (t : CallerFace) → ToldAt spool.now.board spool.now.jobs spool.now.initiators self.old (Some (at.Scheduler stage)) t got task.old
+            → HasCome spool.now.board spool.now.jobs spool.now.initiators self.new t result task.new }
     {
-        let (stage, need) = scheduler::go_on(
-            rt, station, task, deck, initiators, gate, stage, got,
-        )?;
-        self.stage = Some(Stage::Scheduler(stage));
-        Some(need)
+        match spool.resume_scheduler(rt, task, stage, got) {
+            Ok(Next::Wait(stage, need)) => {
+                self.stage = Some(Stage::Scheduler(stage));
+                Some(need)
+            }
+            Ok(Next::Done) => None,
+            Err(_) => None,
+        }
     }
 
     // And of an initiator.
     fn go_on_initiator<R: Wait, G: Gate>(
         &mut self,
         rt: &R,
-        station: &Station,
+        spool: &Spool<'_, G>,
         task: &mut Task,
-        deck: &[Job],
-        initiators: u32,
-        gate: &G,
         stage: InitiatorStage,
         got: Got,
     ) -> Option<Need>
-        requires spool { IsSpool station.now deck.now initiators }
-        requires told { (t : CallerFace) × ToldAt station.now (jobs_of deck.now) initiators self.old (Some (at.Initiator stage)) t got
-            task.old }
-        ensures { (t : CallerFace) → ToldAt station.now (jobs_of deck.now) initiators self.old (Some (at.Initiator stage)) t got task.old
-            → HasCome station.now (jobs_of deck.now) initiators self.new t result task.new }
+        requires told { (t : CallerFace) × ToldAt spool.now.board spool.now.jobs spool.now.initiators self.old (Some (at.Initiator stage)) t got task.old }
+        ensures { (t : CallerFace) → ToldAt spool.now.board spool.now.jobs spool.now.initiators self.old (Some (at.Initiator stage)) t got task.old
+            → HasCome spool.now.board spool.now.jobs spool.now.initiators self.new t result task.new }
     {
-        let index = task.number() - FIRST_INITIATOR;
-        let notes = &mut self.notes;
-        let (stage, need) = initiator::go_on(
-            rt, station, task, deck, initiators, gate, index, notes, stage, got,
-        )?;
-        self.stage = Some(Stage::Initiator(stage));
-        Some(need)
+        match spool.resume_initiator(rt, task, &mut self.initiator, stage, got) {
+            Ok(Next::Wait(stage, need)) => {
+                self.stage = Some(Stage::Initiator(stage));
+                Some(need)
+            }
+            Ok(Next::Done) => None,
+            Err(_) => None,
+        }
     }
 
     // And of the writer, which waits for the end of this job.
     fn go_on_writer<R: Wait, G: Gate>(
         &mut self,
         rt: &R,
-        station: &Station,
+        spool: &Spool<'_, G>,
         task: &mut Task,
-        deck: &[Job],
-        initiators: u32,
-        gate: &G,
         job: u32,
         got: Got,
     ) -> Option<Need>
-        requires spool { IsSpool station.now deck.now initiators }
-        requires told { (t : CallerFace) × ToldAt station.now (jobs_of deck.now) initiators self.old (Some (at.Writer job)) t got task.old }
-        ensures { (t : CallerFace) → ToldAt station.now (jobs_of deck.now) initiators self.old (Some (at.Writer job)) t got task.old
-            → HasCome station.now (jobs_of deck.now) initiators self.new t result task.new }
+        requires told { (t : CallerFace) × ToldAt spool.now.board spool.now.jobs spool.now.initiators self.old (Some (at.Writer job)) t got task.old }
+        ensures { (t : CallerFace) → ToldAt spool.now.board spool.now.jobs spool.now.initiators self.old (Some (at.Writer job)) t got task.old
+            → HasCome spool.now.board spool.now.jobs spool.now.initiators self.new t result task.new }
     {
         let Got::Code(end) = got else { unreachable!() };
-        let ends = &mut self.ends;
-        let (job, need) = on_end(rt, station, task, deck, initiators, gate, ends, job, end)?;
-        self.stage = Some(Stage::Writer(job));
-        Some(need)
+        match spool.on_end(rt, task, &mut self.ends, job, end) {
+            Ok(Next::Wait(job, need)) => {
+                self.stage = Some(Stage::Writer(job));
+                Some(need)
+            }
+            Ok(Next::Done) => None,
+            Err(_) => None,
+        }
     }
 }

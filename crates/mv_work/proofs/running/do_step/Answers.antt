@@ -1,5 +1,6 @@
 use Rattle.std.proofs.Common.{◌+◌, ◌^◌, refl, arith}
 use Rattle.std.proofs.lemmas.Bool.{le-ltb, lt-ltb}
+use Rattle.std.proofs.lemmas.Result.{err_from_is_err_and}
 use Rattle.mv_work.proofs.Runs.{ran_followed, ran_last, ran_nothing, served_as}
 use Rattle.mv_work.proofs.running.do_step.Goals as goal
 
@@ -9,15 +10,16 @@ returns-in-Print-clause-does g c = rw (c.note.ensures.noted, c.in-Print.is) (λ 
 pub returns-in_default-clause-does : goal.returns-in_default-clause-does
 returns-in_default-clause-does g c = rw (c.in-Free.is, c.in_default.is) (λ steps. ran_nothing _ refl c.requires.rest)
 
-pub returns-in-Ok-clause-does : goal.returns-in-Ok-clause-does
-returns-in-Ok-clause-does g c =
+pub returns-in_ok-release_latch-in-Free-clause-does : goal.returns-in_ok-release_latch-in-Free-clause-does
+returns-in_ok-release_latch-in-Free-clause-does g c =
     let own = c.requires.requests.own c.in-Free.latch c.in-Some.token c.in-Some.is in
-    rw (c.in-Free.is, c.in-Some.is) (λ steps q v x. ran_followed (served_as (rw own at c.in-Ok.ensures.served)) _ x)
+    rw (c.in-Free.is, c.in-Some.is) (λ steps q v x. ran_followed (served_as (rw own at c.in_ok-release_latch-in-Free.ensures.served)) _ x)
 
-pub returns-in-Err-clause-does : goal.returns-in-Err-clause-does
-returns-in-Err-clause-does g c =
+pub returns-in_err-release_latch-in-Free-clause-does : goal.returns-in_err-release_latch-in-Free-clause-does
+returns-in_err-release_latch-in-Free-clause-does g c =
     let own = c.requires.requests.own c.in-Free.latch c.in-Some.token c.in-Some.is in
-    rw (c.in-Free.is, c.in-Some.is) (λ steps. ran_last (served_as (rw own at c.in-Err.ensures.served)) _ refl)
+    let p = err_from_is_err_and c.from_residual.result c.from_residual.ensures.1 in
+    rw (p.1, c.in-Free.is, c.in-Some.is) (λ steps. ran_last (served_as (rw own at c.in_err-release_latch-in-Free.ensures.served)) _ refl)
 
 pub returns-in-Some-checked_add-clause-does : goal.returns-in-Some-checked_add-clause-does
 returns-in-Some-checked_add-clause-does g c =

@@ -1,37 +1,37 @@
-use Rattle.std.proofs.Common.{◌-◌, Some, ap}
+use Rattle.std.proofs.Common.{Some}
 use Rattle.mv_work.specs.declared.stage.Stage.TheVariants as stage
 use Rattle.mv_work.specs.declared.work.SpoolWork.{SpoolWork}
-use Rattle.mv_work.specs.Parts.{jobs_of}
-use Rattle.mv_work.proofs.Going.{initiator_told, initiator_over, initiator_next}
+use Rattle.mv_work.proofs.Going.{initiator_lost, initiator_next, initiator_over}
 use Rattle.mv_work.proofs.work.SpoolWork.go_on_initiator.Goals as goal
 
-pub go_on-requires-clause-index : goal.go_on-requires-clause-index
-go_on-requires-clause-index g c =
-    let w = c.args.self.now in
-    (initiator_told c.args.station.now (jobs_of c.args.deck.now) c.args.initiators w w c.args.task.now c.args.got c.args.stage
-    c.requires.told.1 (c.number-index.result - 2) (ap (λ n. n - 2) c.number-index.ensures.number)).0
+pub resume_initiator-requires-clause-answer : goal.resume_initiator-requires-clause-answer
+resume_initiator-requires-clause-answer g c = c.requires.told.1.1.answers
 
-pub go_on-requires-clause-answer : goal.go_on-requires-clause-answer
-go_on-requires-clause-answer g c =
-    let w = c.args.self.now in
-    (initiator_told c.args.station.now (jobs_of c.args.deck.now) c.args.initiators w w c.args.task.now c.args.got c.args.stage
-    c.requires.told.1 (c.number-index.result - 2) (ap (λ n. n - 2) c.number-index.ensures.number)).1
+pub resume_initiator-requires-clause-rests : goal.resume_initiator-requires-clause-rests
+resume_initiator-requires-clause-rests g c = c.requires.told.1.1.rests
 
-pub go_on-requires-clause-rests : goal.go_on-requires-clause-rests
-go_on-requires-clause-rests g c = c.requires.told.1.3.rests
-
-pub returns-in_err-stage : goal.returns-in_err-stage
-returns-in_err-stage g c t told =
+pub returns-in-Ok-Wait : goal.returns-in-Ok-Wait
+returns-in-Ok-Wait g c t told =
+    let s = c.args.spool.now in
     let w = c.args.self.now in
-    let new : SpoolWork = record { stage = w.stage; notes = c.go_on.new.notes; ends = w.ends } in
-    rw c.from_residual.ensures
-    (initiator_over c.args.station.now (jobs_of c.args.deck.now) c.args.initiators w new c.go_on.new.task c.args.got c.args.stage told
-    (c.number-index.result - 2) (ap (λ n. n - 2) c.number-index.ensures.number) c.in_err-stage.ensures)
+    let to = c.in-Ok-Wait.stage in
+    let new : SpoolWork = record w { stage = Some (stage.Initiator to); initiator = c.resume_initiator.new.me } in
+    let step = rw c.in-Ok-Wait.field-0-is at c.in-Ok-Wait.ensures in
+    initiator_next s.board s.jobs s.initiators w new c.resume_initiator.new.task c.args.got c.args.stage told step.same to
+    c.in-Ok-Wait.need step.comes
 
-pub returns : goal.returns
-returns g c t told =
+pub returns-in-Ok-Done : goal.returns-in-Ok-Done
+returns-in-Ok-Done g c t told =
+    let s = c.args.spool.now in
     let w = c.args.self.now in
-    let next = c.in_ok-stage.stage in
-    let new : SpoolWork = record { stage = Some (stage.Initiator next); notes = c.go_on.new.notes; ends = w.ends } in
-    initiator_next c.args.station.now (jobs_of c.args.deck.now) c.args.initiators w new c.go_on.new.task c.args.got c.args.stage told
-    (c.number-index.result - 2) (ap (λ n. n - 2) c.number-index.ensures.number) next c.in_ok-stage.need c.in_ok-stage.ensures
+    let new : SpoolWork = record w { initiator = c.resume_initiator.new.me } in
+    let step = rw c.in-Ok-Done.field-0-is at c.in-Ok-Done.ensures in
+    initiator_over s.board s.jobs s.initiators w new c.resume_initiator.new.task c.args.got c.args.stage told step.same step.comes
+
+pub returns-in-Err : goal.returns-in-Err
+returns-in-Err g c t told =
+    let s = c.args.spool.now in
+    let w = c.args.self.now in
+    let new : SpoolWork = record w { initiator = c.resume_initiator.new.me } in
+    let step = c.in-Err.ensures in
+    initiator_lost s.board s.jobs s.initiators w new c.resume_initiator.new.task c.args.got c.args.stage told step.same _ step.comes

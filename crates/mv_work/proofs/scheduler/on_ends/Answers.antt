@@ -1,4 +1,0 @@
-use Rattle.mv_work.proofs.scheduler.on_ends.Goals as goal
-
-pub returns : goal.returns
-returns g c = rw (← c.after_of.ensures, ← c.some_above-skipped.ensures) c.set_exit.ensures

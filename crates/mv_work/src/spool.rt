@@ -1,0 +1,129 @@
+//! What the tasks of a run have in common. Clauses cite `specs/Spool.antt`, `specs/Meeting.antt` and the plan's `SpoolSetup.antt`.
+
+ghost use Rattle.std.specs.Prelude.{◌≡◌, ◌<◌, ◌≤◌, ◌+◌, length};
+ghost use Rattle.std.specs.List.{AllByRecursion};
+ghost use Rattle.mv_deck.specs.Operand.{most_after};
+ghost use Rattle.mv_machine.specs.Reach.{reach, release_cost};
+ghost use Rattle.mv_plan.specs.Jobs.{job_at};
+ghost use Rattle.mv_plan.specs.SpoolSetup.{done, end_for_writer, entered, idle, scheduler, writer};
+ghost use Rattle.mv_work.specs.Meeting.{MayMeet};
+ghost use Rattle.mv_work.specs.Parts.{jobs_of};
+ghost use Rattle.mv_work.specs.Spool.{IsSpool, spool_of};
+ghost use Rattle.mv_work.specs.declared.need.Need.TheVariants as need;
+
+use mv_deck::{After, Job, Step};
+use mv_plan::{done, end_for_writer, entered, idle};
+use mv_task::{Gate, Point};
+use mv_wait::{Station, Task};
+use std::marker::Model;
+use std::sync::Wait;
+
+/// A spool that runs: its station, its deck, how many initiators it has, and the gate that its tasks pass.
+#[derive(Drop)]
+pub struct Spool<'a, G> {
+    pub(crate) station: &'a Station,
+    pub(crate) deck: &'a [Job],
+    pub(crate) initiators: u32,
+    pub(crate) gate: &'a G,
+}
+
+impl<'a, G> Model for Spool<'a, G> {
+    ghost use Rattle.mv_work.specs.Parts.{jobs_of};
+    ghost use Rattle.mv_work.specs.Spool.{IsSpool, SpoolFace, spool_of};
+
+    ghost Value = { SpoolFace };
+
+    ghost view = { λ s. spool_of s.station.now (jobs_of s.deck.now) s.initiators };
+
+    ghost invariant = { λ s. IsSpool (spool_of s.station.now (jobs_of s.deck.now) s.initiators) };
+}
+
+impl<'a, G> Spool<'a, G> {
+    /// The spool of a station that is configured for this deck and so many initiators.
+    pub fn new(station: &'a Station, deck: &'a [Job], initiators: u32, gate: &'a G) -> Spool<'a, G>
+        requires spool { IsSpool (spool_of station.now (jobs_of deck.now) initiators) }
+        ensures { result ≡ spool_of station.now (jobs_of deck.now) initiators }
+    {
+        Spool {
+            station,
+            deck,
+            initiators,
+            gate,
+        }
+    }
+
+    /// How many jobs the deck has.
+    pub(crate) fn jobs(&self) -> u32
+        ensures jobs { result ≡ length self.now.jobs }
+        ensures spool { IsSpool self.now }
+    {
+        self.deck.len() as u32
+    }
+
+    /// The steps of a job.
+    pub(crate) fn steps_of(&self, job: u32) -> &[Step]
+        requires { job < length self.now.jobs }
+        ensures { result.now ≡ (job_at self.now.jobs job).steps }
+    {
+        &self.deck[job as usize].steps
+    }
+
+    /// The jobs that a job waits for.
+    pub(crate) fn after_of(&self, job: u32) -> &[After]
+        requires { job < length self.now.jobs }
+        ensures parts { result.now ≡ (job_at self.now.jobs job).after }
+        ensures few { length (job_at self.now.jobs job).after ≤ most_after }
+        ensures earlier { AllByRecursion (λ part. part.job < length self.now.jobs) (job_at self.now.jobs job).after }
+    {
+        &self.deck[job as usize].after
+    }
+
+    /// The block that says that a job was entered.
+    pub(crate) fn entered(&self, job: u32) -> u32
+        requires { job < length self.now.jobs }
+        ensures block { result ≡ entered job }
+        ensures own { MayMeet self.now.board.config scheduler (need.Block result) }
+        ensures cost { reach self.now.board.config result ≡ 1 }
+    {
+        let _ = self.jobs();
+        entered(job)
+    }
+
+    /// The block that says that a job is done.
+    pub(crate) fn done(&self, job: u32) -> u32
+        requires { job < length self.now.jobs }
+        ensures block { result ≡ done (length self.now.jobs) job }
+        ensures there { result < length self.now.board.config.owners }
+        ensures cost { release_cost self.now.board.config + reach self.now.board.config result ≡ 4 }
+    {
+        done(self.jobs(), job)
+    }
+
+    /// The block with a job's end, for the writer.
+    pub(crate) fn end_for_writer(&self, job: u32) -> u32
+        requires { job < length self.now.jobs }
+        ensures block { result ≡ end_for_writer (length self.now.jobs) job }
+        ensures own { MayMeet self.now.board.config (writer self.now.initiators) (need.Block result) }
+    {
+        end_for_writer(self.jobs(), job)
+    }
+
+    /// The block that says that an initiator is idle.
+    pub(crate) fn idle(&self, index: u32) -> u32
+        requires { index < self.now.initiators }
+        ensures block { result ≡ idle (length self.now.jobs) index }
+        ensures own { MayMeet self.now.board.config scheduler (need.Block result) }
+        ensures cost { reach self.now.board.config result ≡ 1 }
+    {
+        idle(self.jobs(), index)
+    }
+}
+
+impl<G: Gate> Spool<'_, G> {
+    /// Passes the gate with a task, at this point.
+    pub(crate) fn pass<R: Wait>(&self, rt: &R, task: &Task, point: Point)
+        ensures spool { IsSpool self.now }
+    {
+        self.gate.pass(rt, task.number(), point);
+    }
+}
