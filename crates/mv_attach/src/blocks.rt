@@ -7,7 +7,7 @@ ghost use Rattle.mv_machine.specs.Limits.{callers_limit, ecbs_limit, events_limi
 ghost use Rattle.mv_attach.specs.Blocks.{blocks_setup};
 
 use mv_io::NoMemory;
-use mv_machine::{CheckRefusal, Config, ValidConfig};
+use mv_machine::{Config, ValidConfig};
 use std::alloc::Global;
 
 /// A configuration with a caller for each of these budgets, and a block for each of these owners. Of all else it has the least that
@@ -47,11 +47,5 @@ pub fn config_of_blocks(
         owners: owners.to_vec(alloc)?,
         exits: Vec::new(alloc),
     };
-    match config.check(alloc) {
-        Ok(config) => Ok(config),
-        Err(refusal) => match refusal {
-            CheckRefusal::NoMemory => Err(NoMemory),
-            _ => unreachable!(),
-        },
-    }
+    ValidConfig::of(alloc, config)
 }
