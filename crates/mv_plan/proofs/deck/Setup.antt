@@ -137,7 +137,7 @@ within low high n a b = rw (le-leb low n a, le-leb n high b) refl
 -- ---- its limits are kept
 
 -- one budget for each caller
-length_budgets : (deck : List JobData) (initiators : ℕ) → length (task_budgets deck initiators) ≡ initiators + 3
+pub length_budgets : (deck : List JobData) (initiators : ℕ) → length (task_budgets deck initiators) ≡ initiators + 3
 length_budgets deck initiators = grind (arith, common_steps)
 
 -- each exit has two targets

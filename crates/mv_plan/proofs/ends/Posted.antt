@@ -103,7 +103,8 @@ posted_step : (d : ℕ) (v : EcbState) → (code : ℕ) × ((ecb_step (EcbOp.Pos
 posted_step d (Complete c) = (c, refl)
 posted_step d y = (d, refl)
 
-posted_is : (s : System) (k : ℕ) (o : Object) (op : Op) (b d : ℕ) → o ≡ Ecb b → op ≡ Op.Ecb (EcbOp.Post d) → IsComplete (moved s k o op) b
+pub posted_is : (s : System) (k : ℕ) (o : Object) (op : Op) (b d : ℕ) → o ≡ Ecb b → op ≡ Op.Ecb (EcbOp.Post d)
+    → IsComplete (moved s k o op) b
 posted_is s k o op b d e f = let c = posted_step d (block s b) in
     (c.0, moved_there s k b o op (EcbOp.Post d) e f ∙ c.1)
 

@@ -169,7 +169,7 @@ own_caller : (k id : ℕ) (q : Request) → is_own k id q ≡ true → q.caller 
 own_caller k id q e = search (rules, eqb-true)
 
 -- the one request of the caller at a latch above all that it holds
-asked_last : (k job : ℕ) (held : List Grant) (g : Grant) → AllByRecursion (λ h. h.latch < g.latch) (held_of held)
+pub asked_last : (k job : ℕ) (held : List Grant) (g : Grant) → AllByRecursion (λ h. h.latch < g.latch) (held_of held)
     → asked k job g.latch (held ++ g ∷ []) ≡ request_of k job g ∷ []
 asked_last k job held g b = asked_push k job g.latch held (g ∷ [])
     ∙ ap (λ z. z ++ asked k job g.latch (g ∷ [])) (asked_below k job g.latch held b) ∙ asked_here k job g

@@ -170,7 +170,7 @@ rises_without low latch [] r = tt
 rises_without low latch (g ∷ gs) r = grind (arith, common_steps, rises_less, rises_without (g.latch + 1) latch gs r.1)
 
 -- those that are held below a latch are not more than it
-rises_few : (low latch : ℕ) (gs : List Grant) → Rises low gs → low ≤ latch → AllByRecursion (λ h. h.latch < latch) (held_of gs)
+pub rises_few : (low latch : ℕ) (gs : List Grant) → Rises low gs → low ≤ latch → AllByRecursion (λ h. h.latch < latch) (held_of gs)
     → low + length gs ≤ latch
 rises_few low latch [] r le b = omega arith
 rises_few low latch (g ∷ gs) r le b =

@@ -21,7 +21,7 @@ module _ (deck : List JobData) (initiators : ℕ) (some : 1 ≤ initiators) (sou
   abbrev c : Setup
   c = spool_setup deck initiators
 
-  tasks_start : TasksAt c deck initiators nothing_kept (start_points deck initiators) (task_program deck initiators)
+  pub tasks_start : TasksAt c deck initiators nothing_kept (start_points deck initiators) (task_program deck initiators)
   tasks_start = record {
     at_reader = reader_enters c 0 (length deck) (nothing_kept reader) blocks;
     at_scheduler = stage_enters c deck initiators (facts deck initiators some) sound.jobs

@@ -1,0 +1,2 @@
+-- which histories can be continued to a run
+pub mod Progress
