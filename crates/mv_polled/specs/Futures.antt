@@ -29,7 +29,8 @@ abbrev pub NeedsBlock : List Watch → List ℕ → List Source → ℕ → Type
 NeedsBlock ready (e ∷ es) (x ∷ xs) s = ((is_listed ready e ≡ false) × (s ≡ x.id)) ⊎ NeedsBlock ready es xs s
 NeedsBlock ready es xs s = ⊥
 
--- an answer that the wait's program gives on the entries since the first poll of its call
+-- An answer that the wait may have from where it stands: some run of it, which need not be this task's, ends with it. Which entries this
+-- task has made, and that the answer is the program's on these, is said by IsWaited of the new call and of the new task.
 abbrev pub GivesWait : Setup → CallerFace → WaitFace → Result (Unit {0}) WaitRefusal → Type 0
 GivesWait c t w r = (t0 : CallerFace) → IsWaitAt c w t0 t
     → (v : WaitFace) × (u : CallerFace) × (v.count ≡ w.count) × (v.ecbs ≡ w.ecbs) × IsWaited c v r t0 u
@@ -39,7 +40,7 @@ pub record MayPollPause (b : BoardFace) (t : CallerFace) (p : PauseFace) : Type 
   pub task : IsOf b t
   pub stage : (t0 : CallerFace) × IsPauseAt b.config p t0 t
 
--- and an answer that its program gives
+-- and an answer that it may have from where it stands
 abbrev pub GivesPause : Setup → CallerFace → PauseFace → Result Given PauseRefusal → Type 0
 GivesPause c t p r = (t0 : CallerFace) → IsPauseAt c p t0 t
     → (q : PauseFace) × (u : CallerFace) × (q.token ≡ p.token) × IsPaused c q r t0 u
