@@ -53,10 +53,11 @@ abbrev pub AreOwn : (Op → Bool) → Object → ℕ → StandingRequest → Lis
 AreOwn kind o k t es =
     AllByRecursion (λ e. e.object ≡ o → kind e.op ≡ true → (e.caller ≡ k) × (t.request.mode ≡ Exclusive)) es
 
--- every event, and every write of a volume
+-- every event
 abbrev pub any_event : Op → Bool
 any_event op = true
 
+-- every write of a volume
 abbrev pub is_write : Op → Bool
 is_write (op_on.Volume (Write n)) = true
 is_write op = false
