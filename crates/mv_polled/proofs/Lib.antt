@@ -11,6 +11,8 @@ pub mod Pauses
 pub mod Obtains
 -- registering with sources
 pub mod Listening
+-- the wakers that are left there, and those that a ring takes
+pub mod Wakers
 -- the spool that is polled: the call of a need, from its first poll to its answer
 pub mod Calls
 -- a task that is polled, from one state to the next

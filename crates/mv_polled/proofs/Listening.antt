@@ -12,7 +12,7 @@ use Rattle.mv_polled.specs.Futures.{NeedsBlock}
 abbrev pub Stays : List Watch → List Watch → Type 0
 Stays ready later = (n : ℕ) → is_listed ready n ≡ true → is_listed later n ≡ true
 
-still_not : (ready later : List Watch) (e : ℕ) (b : Bool) → Stays ready later → is_listed ready e ≡ b → is_listed later e ≡ false
+pub still_not : (ready later : List Watch) (e : ℕ) (b : Bool) → Stays ready later → is_listed ready e ≡ b → is_listed later e ≡ false
     → is_listed ready e ≡ false
 still_not ready later e true stays is none = absurd (false≢true (sym none ∙ stays e is))
 still_not ready later e false stays is none = is

@@ -81,7 +81,7 @@ wait_begins c w x es t0 t u at new same here armed =
 
 -- a first poll that is refused
 pub refused_at_once : (c : Setup) (w f : WaitFace) (why : WaitRefusal) (t0 t u : CallerFace) → IsWaitAt c w t0 t → w.stage ≡ New
-    → f ≡ record { room = w.room; count = w.count; ecbs = w.ecbs; stage = Over; keys = []; slots = [] }
+    → f ≡ record { room = w.room; count = w.count; ecbs = w.ecbs; stage = Over; keys = []; slots = []; wakers = w.wakers }
     → wait_refusal c w.count w.ecbs (kept_of t.number t.log) ≡ Some (wait_refused why) → u ≡ t → IsWaited c f (Err why) t0 u
 refused_at_once c w f why t0 t u at new is refusal same =
     let first = at_new w.stage ((t ≡ t0) × MayWait c w.ecbs t0) (IsWaiting c w.count w.ecbs t0 t) new at in

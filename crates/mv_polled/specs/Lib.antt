@@ -1,6 +1,7 @@
 pub mod Turn
 pub mod Keys
 pub mod Found
+pub mod Wakers
 pub mod Waiting
 pub mod Pausing
 pub mod Obtaining

@@ -1,6 +1,6 @@
 //! Waits that are polled. Clauses cite `specs/Waiting.antt`.
 
-ghost use Rattle.std.specs.Prelude.{◌≡◌, ℕ, false, ◌<◌, ◌≤◌, [], ◌∷◌, ◌++◌, if◌then◌else◌, map, length, vec_capacity, vec_len, IfOk, ⊤};
+ghost use Rattle.std.specs.Prelude.{◌≡◌, ℕ, false, ◌<◌, ◌≤◌, [], ◌∷◌, ◌++◌, if◌then◌else◌, map, length, vec_capacity, vec_len, IfOk, IsSome, ◌⊎◌, ⊤};
 ghost use Rattle.futures.specs.Task.{Hears, IsArmed, Keeps};
 ghost use Rattle.mv_board.specs.Faces.{CallerFace, IsOf, IsSame};
 ghost use Rattle.mv_board.specs.declared.watch.Watch.TheVariants as watch;
@@ -12,9 +12,10 @@ ghost use Rattle.mv_polled.specs.Futures.{NeedsBlock};
 ghost use Rattle.mv_polled.specs.Keys.{key_of};
 ghost use Rattle.mv_polled.specs.Turn.{MatchTurn};
 ghost use Rattle.mv_polled.specs.Waiting.{new_wait, unready, AreFoundOpen, StaysListed, IsWaitAt, IsWaiting, IsWaited, IsLeftWaiting};
+ghost use Rattle.mv_polled.specs.Wakers.{no_wakers, HearsAll, HaveWakers, AreRung};
 ghost use Rattle.mv_polled.specs.declared.turn.Stage.TheVariants.{Begun, Over};
 
-use crate::keys::key;
+use crate::keys::{key, ring_one};
 use crate::turn::{Stage, Turn};
 use futures::task::{Context, Poll, Source, Waker};
 use mv_board::Watch;
@@ -94,7 +95,7 @@ impl WaitCall {
         self.keys.clear();
         put_blocks(&mut self.ecbs, ecbs);
         put_slots(&mut self.found, ecbs.len());
-        put_places(&mut self.wakers, ecbs.len());
+        put_places(&mut self.wakers, ecbs);
     }
 
     /// Goes on with the wait as far as it can: it arms each block at its first poll, and settles each once enough are complete. It
@@ -112,6 +113,7 @@ impl WaitCall {
         requires stage { (t0 : CallerFace) × IsWaitAt station.now.config self.old t0 task.old }
         ensures task { IsSame task.old task.new }
         ensures call { (self.new.count ≡ self.old.count) × (self.new.ecbs ≡ self.old.ecbs) × (self.new.room ≡ self.old.room) }
+        ensures wakers { self.new.wakers ≡ self.old.wakers }
         ensures turn { (t0 : CallerFace) → IsWaitAt station.now.config self.old t0 task.old → MatchTurn result
             (λ r. IsWaited station.now.config self.new r t0 task.new)
             (IsLeftWaiting station.now.config self.new t0 task.old task.new) }
@@ -151,6 +153,7 @@ impl WaitCall {
         requires waiting { (t0 : CallerFace) × IsWaiting station.now.config self.old.count self.old.ecbs t0 task.old }
         ensures task { IsSame task.old task.new }
         ensures call { (self.new.count ≡ self.old.count) × (self.new.ecbs ≡ self.old.ecbs) × (self.new.room ≡ self.old.room) }
+        ensures wakers { self.new.wakers ≡ self.old.wakers }
         ensures stays { MatchTurn result (λ _. ⊤) (StaysListed task.old task.new) }
         ensures turn { (t0 : CallerFace) → IsWaiting station.now.config self.old.count self.old.ecbs t0 task.old → MatchTurn result
             (λ r. IsWaited station.now.config self.new r t0 task.new)
@@ -240,14 +243,15 @@ fn put_slots(slots: &mut Vec<WaitSlot>, count: usize)
     }
 }
 
-// Places for so many wakers, in the room that there is.
-fn put_places(wakers: &mut Vec<Option<Waker>>, count: usize)
-    requires { count ≤ vec_capacity wakers.old }
-    ensures size { vec_len wakers.new ≡ count }
+// A place for the waker of each block, in the room that there is.
+fn put_places(wakers: &mut Vec<Option<Waker>>, ecbs: &[u32])
+    requires { length ecbs.now ≤ vec_capacity wakers.old }
+    ensures size { vec_len wakers.new ≡ length ecbs.now }
+    ensures items { wakers.new.items ≡ no_wakers ecbs.now }
     ensures room { vec_capacity wakers.new ≡ vec_capacity wakers.old }
 {
     wakers.clear();
-    for _i in 0..count {
+    for _ecb in ecbs {
         wakers.push_reserved(None);
     }
 }
@@ -266,7 +270,8 @@ impl WaitCall {
         requires own { AreOwn station.now.config task.old.number self.old.ecbs }
         requires distinct { AreDistinct self.old.ecbs }
         requires sources { length sources.now ≡ length self.old.ecbs }
-        ensures same { self.new ≡ self.old }
+        ensures same { self.new ≡ record self.old { wakers = self.new.wakers } }
+        ensures left { HaveWakers (length self.old.ecbs) task.new.ready self.old.ecbs self.new.wakers cx.new }
         ensures went { Went [] task.old task.new }
         ensures stays { StaysListed task.old task.new }
         ensures heard { (s : ℕ) → NeedsBlock task.new.ready self.old.ecbs sources.now s → Hears cx.new s }
@@ -278,7 +283,8 @@ impl WaitCall {
 
     // Wakes the task that is registered with the source of this key.
     pub(crate) fn ring(&mut self, rung: u64)
-        ensures { self.new ≡ self.old }
+        ensures same { self.new ≡ record self.old { wakers = self.new.wakers } }
+        ensures rung { AreRung rung self.old.ecbs self.old.wakers self.new.wakers }
     {
         drop_wakers(&self.ecbs, &mut self.wakers, rung);
     }
@@ -287,12 +293,10 @@ impl WaitCall {
 // Drops the waker of each block that has this key.
 fn drop_wakers(ecbs: &[u32], wakers: &mut [Option<Waker>], rung: u64)
     requires { length wakers.old ≡ length ecbs.now }
-    ensures { length wakers.new ≡ length wakers.old }
+    ensures { AreRung rung ecbs.now wakers.old wakers.new }
 {
     for i in 0..ecbs.len() {
-        if key(Watch::Ecb(ecbs[i])) == rung {
-            wakers[i] = None;
-        }
+        ring_one(&mut wakers[i], key(Watch::Ecb(ecbs[i])), rung);
     }
 }
 
@@ -311,6 +315,8 @@ fn register_all<R: Wait>(
     requires distinct { AreDistinct ecbs.now }
     requires sources { length sources.now ≡ length ecbs.now }
     requires wakers { length wakers.old ≡ length ecbs.now }
+    ensures left { HaveWakers (length ecbs.now) task.new.ready ecbs.now wakers.new cx.new }
+    ensures size { length wakers.new ≡ length ecbs.now }
     ensures went { Went [] task.old task.new }
     ensures stays { StaysListed task.old task.new }
     ensures heard { (s : ℕ) → NeedsBlock task.new.ready ecbs.now sources.now s → Hears cx.new s }
@@ -327,13 +333,18 @@ fn register_all<R: Wait>(
     }
 }
 
-// Registers with a source, unless what it stands for is ready.
+// Registers with a source and leaves the waker in the slot, unless what the source stands for is ready. Where there is no memory for a
+// waker, asks for another poll.
 fn listen(source: &Source, slot: &mut Option<Waker>, is_ready: bool, cx: &mut Context<'_>)
+    ensures left { is_ready ≡ false → IsSome slot.new ⊎ HearsAll cx.new }
     ensures heard { is_ready ≡ false → Hears cx.new source.now.id }
     ensures armed { is_ready ≡ false → IsArmed cx.new }
     ensures kept { Keeps cx.old cx.new }
 {
     if !is_ready {
         let _registered: Poll<()> = cx.register(source, slot);
+        if slot.is_none() {
+            let _asked: Poll<()> = cx.yield_now();
+        }
     }
 }

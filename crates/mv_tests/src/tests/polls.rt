@@ -394,7 +394,7 @@ where
     let mut future = PauseFuture::new(station, rt, first, call, &source);
     assert!(rt; task.poll(&mut future).is_pending() && !task.is_woken());
     assert!(rt; future.call().key() == ELEMENT);
-    future.ring();
+    future.ring(ELEMENT);
     assert!(rt; task.is_woken());
 }
 

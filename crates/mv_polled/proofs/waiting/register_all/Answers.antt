@@ -8,6 +8,7 @@ use Rattle.mv_wait.proofs.Runs.{went_then, went_look}
 use Rattle.mv_polled.specs.Futures.{NeedsBlock}
 use Rattle.mv_polled.proofs.Listening.{Stays, needs_still, needs_last, count_more, armed_more, either}
 use Rattle.mv_polled.proofs.Looks.{listed_stays, own_look}
+use Rattle.mv_polled.proofs.Wakers.{wakers_more}
 use Rattle.mv_polled.proofs.waiting.register_all.Goals as goal
 
 pub loop-i-preserved : goal.loop-i-preserved
@@ -40,6 +41,8 @@ loop-i-preserved g c =
     (count_more u.ready v.ready (take i es) e is stays own) in record {
       went = went_then [] [] t u v since.went (went_look u (Ecb e) look.word v look.found);
       stays = λ n l. stays n (since.stays n l);
+      left = wakers_more i u.ready v.ready es c.loop-i.wakers c.listen.new.slot c.loop-i.cx c.listen.new.cx is stays keep (omega arith) own
+          c.listen.ensures.left since.left;
       heard = λ s n. either
           (needs_last v.ready (take i es) (take i xs) e x s sizes
           (subst (λ ys. NeedsBlock v.ready (take i es ++ e ∷ []) ys s) there

@@ -7,7 +7,9 @@ use Rattle.mv_wait.proofs.Runs.{same_then}
 use Rattle.mv_polled.specs.Futures.{NeedsBlock}
 use Rattle.mv_polled.specs.Waiting.{WaitFace, IsWaiting, IsWaitAt}
 use Rattle.mv_polled.proofs.Listening.{needs_still, count_still}
+use Rattle.mv_polled.specs.Wakers.{HaveWakers}
 use Rattle.mv_polled.proofs.Looks.{met_since}
+use Rattle.mv_polled.proofs.Wakers.{wakers_still}
 use Rattle.mv_wait.proofs.Unrefusing.{accepted_count}
 use Rattle.mv_polled.proofs.Waits.{waiting_look, wait_goes_on, left_since}
 use Rattle.mv_polled.proofs.wait_future.WaitFutureFuture.poll.Goals.{After-register}
@@ -90,6 +92,17 @@ returns-in-Pending-clause-registered g c =
           (needs_still m.ready v.ready w.ecbs c.args.self.now.sources.now x stays
           (subst (λ es. NeedsBlock v.ready es c.args.self.now.sources.now x) blocks n)),
     )
+
+pub returns-in-Pending-clause-wakers : goal.returns-in-Pending-clause-wakers
+returns-in-Pending-clause-wakers g c =
+    let m = c.register.new.task in
+    let v = c.go_on.new.task in
+    let cx = c.register.new.cx in
+    let es = c.poll.new.self.ecbs in
+    let blocks = c.go_on.ensures.call.1 ∙ ap (λ (f : WaitFace). f.ecbs) c.register.ensures.same in
+    subst (λ xs. HaveWakers (length xs) v.ready xs c.go_on.new.self.wakers cx) (sym blocks)
+    (subst (λ ws. HaveWakers (length es) v.ready es ws cx) (sym c.go_on.ensures.wakers)
+    (wakers_still (length es) m.ready v.ready es c.register.new.self.wakers cx c.in-Pending.ensures.stays c.register.ensures.left))
 
 pub returns-in-Ready-go_on-clause-turn : goal.returns-in-Ready-go_on-clause-turn
 returns-in-Ready-go_on-clause-turn g c = λ t0 at.

@@ -95,7 +95,15 @@ returns-clause-turn g c = λ t0 w.
     let whole = found.ok.0 in
     let back : take found.len (out ++ drop (length out) found.items) ≡ out = given_back found.len out found.items size (omega arith) in
     subst (λ xs. IsWaited s
-    (record { room = c.self.inside.room; count = count; ecbs = es; stage = Over; keys = c.clear.new.self.items; slots = xs }) (Ok tt) t0 v)
+    (record {
+      room = c.self.inside.room;
+      count = count;
+      ecbs = es;
+      stage = Over;
+      keys = c.clear.new.self.items;
+      slots = xs;
+      wakers = c.self.inside.wakers.items;
+    }) (Ok tt) t0 v)
     (sym back)
     (record {
       served = waiting_ends s count es (slots_of out) t0 u v waiting settled c.settle_wait.ensures.rest;

@@ -1,0 +1,32 @@
+-- The wakers that futures of calls leave for the sources of what they wait for, and what takes them.
+use Rattle.std.specs.Prelude.{◌≡◌, ℕ, ◌<◌, ◌==◌, false, List, length, map, get_or, Option, None, IsSome, ◌⊎◌, if◌then◌else◌}
+use Rattle.futures.specs.Task.{Hears}
+use Rattle.futures.specs.declared.task.context.Context.{Context}
+use Rattle.futures.specs.declared.task.waker.Waker.{Waker}
+use Rattle.mv_board.specs.declared.watch.Watch.{Watch}
+use Rattle.mv_board.specs.declared.watch.Watch.TheVariants as watch
+use Rattle.mv_wait.specs.Listed.{is_listed}
+use Rattle.mv_polled.specs.Keys.{key_of}
+
+-- a place for the waker of each block, all of them empty
+abbrev pub no_wakers : List ℕ → List (Option Waker)
+no_wakers es = map (λ e. None) es
+
+-- the poll hears of every source, as it does once it has asked for another poll
+abbrev pub HearsAll : Context → Type 0
+HearsAll cx = (s : ℕ) → Hears cx s
+
+-- Each of the first n blocks whose watch is not listed has a waker at its place, or the poll has asked for another poll, as it does if
+-- there was no memory for a waker.
+abbrev pub HaveWakers : ℕ → List Watch → List ℕ → List (Option Waker) → Context → Type 0
+HaveWakers n ready es wakers cx =
+    (k : ℕ) → k < n → is_listed ready (get_or es k 0) ≡ false → IsSome (get_or wakers k None) ⊎ HearsAll cx
+
+-- what a ring leaves of the waker for something: nothing, if the key that is rung is its key
+abbrev pub waker_left : ℕ → ℕ → Option Waker → Option Waker
+waker_left rung own waker = if own == rung then None else waker
+
+-- A key was rung: the wakers of the blocks that have it were taken, and all others are as before.
+pub record AreRung (rung : ℕ) (es : List ℕ) (old new : List (Option Waker)) : Type 0 where
+  pub each : (k : ℕ) → k < length es → get_or new k None ≡ waker_left rung (key_of (watch.Ecb (get_or es k 0))) (get_or old k None)
+  pub size : length new ≡ length old
