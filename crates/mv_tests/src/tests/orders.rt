@@ -51,6 +51,25 @@ fn an_order_is_asked_before_each_poll(rt: HostRuntime) {
     assert!(rt; run.lines.is_empty() && order.picks == 5);
 }
 
+// One job without steps, and one initiator. The picks, round by round from the last task to the first:
+//
+// 1 to 4: the writer waits for the job's end; the initiator says that it is idle and pauses; the scheduler waits for the job's entry; the
+// reader enters the job and is finished.
+// 5 to 7: the writer and the initiator wait on; the scheduler is polled once with two answers: the job is entered, and the initiator is
+// idle. It hands the job out and waits until the initiator is idle again.
+// 8 to 10: the writer waits on; the initiator ends the job, says that it is idle and pauses; the scheduler dismisses it and is finished.
+// 11, 12: the writer has the job's end and is finished, and so is the initiator, which was dismissed.
+//
+// A poll that stopped after its first answer would leave the handing out to pick 10, the job's end and the dismissal to picks 12 and 13,
+// and the two last tasks to picks 14 and 15.
+#[test]
+fn a_poll_goes_on_after_an_answer(rt: HostRuntime) {
+    let deck = deck_of(&rt, rt.alloc(), b"//A JOB\n//\n", 1);
+    let mut order = Backwards { left: 0, picks: 0 };
+    let run = run_polled(&rt, rt.alloc(), &deck, 1, &mut order).expect(&rt, "memory for a run");
+    assert!(rt; run.ends.as_slice() == [0].as_slice() && order.picks == 12);
+}
+
 // ADD abends while it holds latch 0, and NEXT counts under it; LAST accepts no end of ADD above 0; CODE returns 7.
 const STEPS: &[u8] = b"// DECK 2
 //ADD JOB

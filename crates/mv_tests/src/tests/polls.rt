@@ -26,8 +26,8 @@ use std::process::Abort;
 use std::random::RandomSource;
 use std::sync::Wait;
 
-// The key of task 7's element, which is element 7.
-const ELEMENT: u64 = 4_294_967_303;
+// The key of the first task's element, which is element 0.
+const ELEMENT: u64 = 4_294_967_296;
 
 // A new station with eight tasks of an element each, blocks of these owners and one latch; and its tasks.
 pub(crate) fn open(rt: &impl Abort, alloc: Global, owners: Vec<u32>) -> (Station, Vec<Task>)
@@ -64,6 +64,21 @@ fn open_two(rt: &impl Abort, alloc: Global, owners: Vec<u32>) -> (Station, Vec<T
     let first = station.take_last(&mut tasks);
     let second = station.take_last(&mut tasks);
     (station, tasks, first, second)
+}
+
+// The first and the last task of a new station that has no blocks.
+fn open_first(rt: &impl Abort, alloc: Global) -> (Station, Task, Task)
+    ensures elements { element_count result.0.config ≡ 8 }
+    ensures first { IsOf result.0 result.1 × IsAtRest result.1.log }
+    ensures second { IsOf result.0 result.2 × IsAtRest result.2.log }
+{
+    let (station, mut tasks) = open(rt, alloc, Vec::new(alloc));
+    let last = station.take_last(&mut tasks);
+    for _i in 0..6 {
+        let _other = station.take_last(&mut tasks);
+    }
+    let first = station.take_last(&mut tasks);
+    (station, first, last)
 }
 
 // Lets a station and its tasks go. A test that did so itself would be proved in many times the time.
@@ -193,7 +208,7 @@ pub(crate) fn token(element: u32, generation: u32) -> Token
     }
 }
 
-// A pause of a task at rest with its element, which it allocates.
+// A pause of the first task, at rest, with its element, which it allocates.
 #[tactic(auto, using(mv_wait::proofs::Compose::served))]
 fn a_pause<R: Abort + Wait>(rt: &R, station: &Station, task: &mut Task) -> PauseCall
     requires task { IsOf station.now task.old }
@@ -205,7 +220,7 @@ fn a_pause<R: Abort + Wait>(rt: &R, station: &Station, task: &mut Task) -> Pause
     assert!(rt; task.left() > 0);
     assert!(rt; allocate(station, rt, task).is_ok());
     assert!(rt; task.left() >= 2);
-    PauseCall::new(token(7, 0))
+    PauseCall::new(token(0, 0))
 }
 
 // What a pause was given, once it is over.
@@ -257,8 +272,8 @@ fn pause_for_nine<R: Abort + Wait>(rt: &R, station: &Station, first: &mut Task, 
     let mut call = a_pause(rt, station, first);
     assert!(rt; given(rt, station, first, &mut call).is_none());
     assert!(rt; call.key() == ELEMENT);
-    release_to(rt, station, second, token(7, 0), 9);
-    let next = token(7, 1);
+    release_to(rt, station, second, token(0, 0), 9);
+    let next = token(0, 1);
     assert!(rt; given(rt, station, first, &mut call) == Some(Given { code: 9, next }));
 }
 
@@ -276,10 +291,10 @@ fn assert_paused<R: Abort>(rt: &R, first: &Task, second: &Task) {
 
 #[test]
 fn a_pause_goes_on_once_it_is_released(rt: HostRuntime) {
-    let (station, tasks, mut first, mut second) = open_two(&rt, rt.alloc(), Vec::new(rt.alloc()));
+    let (station, mut first, mut second) = open_first(&rt, rt.alloc());
     pause_for_nine(&rt, &station, &mut first, &mut second);
     assert_paused(&rt, &first, &second);
-    end(station, tasks, first, second);
+    end(station, Vec::new(rt.alloc()), first, second);
 }
 
 // ---- obtains
@@ -353,7 +368,7 @@ fn an_obtain_goes_on_once_it_is_granted(rt: HostRuntime) {
 
 // ---- futures
 
-// Polls the future of a wait for block 0, and rings another key, and then its own.
+// Two tasks poll the future of a wait for block 0, one after the other. Another key wakes nobody, and its own wakes the second.
 fn ring_a_wait<R>(rt: &R, station: &Station, waiter: &mut Task)
 where
     R: Abort + Wait + RandomSource + AllocGlobal,
@@ -361,17 +376,19 @@ where
     requires rest { IsAtRest waiter.old.log }
     requires one { length station.now.config.owners ≡ 1 }
 {
-    let task = MockTask::new(rt).expect(rt, "a task of the test's");
+    let first = MockTask::new(rt).expect(rt, "a task of the test's");
+    let second = MockTask::new(rt).expect(rt, "another task of the test's");
     assert!(rt; waiter.left() >= 2);
     let call = a_wait(rt, rt.alloc(), station, waiter, 1, &[0]);
     let sources = [Source::new()];
     let mut future = WaitFuture::new(station, rt, waiter, call, &sources);
-    assert!(rt; task.poll(&mut future).is_pending() && !task.is_woken());
+    assert!(rt; first.poll(&mut future).is_pending() && !first.is_woken());
+    assert!(rt; second.poll(&mut future).is_pending());
     assert!(rt; future.call().keys() == [0].as_slice());
     future.ring(1);
-    assert!(rt; !task.is_woken());
+    assert!(rt; !second.is_woken());
     future.ring(0);
-    assert!(rt; task.is_woken());
+    assert!(rt; second.is_woken());
 }
 
 #[test]
@@ -382,7 +399,7 @@ fn a_future_of_a_wait_registers_and_does_not_yield(rt: HostRuntime) {
     end(station, tasks, waiter, other);
 }
 
-// Polls the future of a pause, and rings its key.
+// Polls the future of a pause, and rings another key, and then its own.
 fn ring_a_pause<R>(rt: &R, station: &Station, first: &mut Task, call: PauseCall)
 where
     R: Abort + Wait + RandomSource + AllocGlobal,
@@ -394,16 +411,18 @@ where
     let mut future = PauseFuture::new(station, rt, first, call, &source);
     assert!(rt; task.poll(&mut future).is_pending() && !task.is_woken());
     assert!(rt; future.call().key() == ELEMENT);
+    future.ring(0);
+    assert!(rt; !task.is_woken());
     future.ring(ELEMENT);
     assert!(rt; task.is_woken());
 }
 
 #[test]
 fn a_future_of_a_pause_registers_and_does_not_yield(rt: HostRuntime) {
-    let (station, tasks, mut first, second) = open_two(&rt, rt.alloc(), Vec::new(rt.alloc()));
+    let (station, mut first, second) = open_first(&rt, rt.alloc());
     let call = a_pause(&rt, &station, &mut first);
     ring_a_pause(&rt, &station, &mut first, call);
-    end(station, tasks, first, second);
+    end(station, Vec::new(rt.alloc()), first, second);
 }
 
 // The future of a wait for block 0 is over at its first poll: an executor that polled it again without a ring would sleep for ever.
@@ -428,5 +447,72 @@ fn a_block_that_was_posted_ends_a_wait_at_once(rt: HostRuntime) {
     let (station, tasks, mut waiter, mut poster) = open_two(&rt, rt.alloc(), owners);
     post(&rt, &station, &mut poster, 0, 5);
     end_at_once(&rt, &station, &mut waiter);
+    end(station, tasks, waiter, poster);
+}
+
+// Polls the future of a wait for one of two blocks: it registers with both and does not yield, and is over once one is posted.
+fn poll_one_of_two<R>(rt: &R, station: &Station, waiter: &mut Task, poster: &mut Task)
+where
+    R: Abort + Wait + RandomSource + AllocGlobal,
+    requires waiter { IsOf station.now waiter.old }
+    requires poster { IsOf station.now poster.old }
+    requires rest { IsAtRest waiter.old.log × IsAtRest poster.old.log }
+    requires two { length station.now.config.owners ≡ 2 }
+{
+    let task = MockTask::new(rt).expect(rt, "a task of the test's");
+    assert!(rt; waiter.left() >= 4);
+    let call = a_wait(rt, rt.alloc(), station, waiter, 1, &[0, 1]);
+    let sources = [Source::new(), Source::new()];
+    let mut future = WaitFuture::new(station, rt, waiter, call, &sources);
+    assert!(rt; task.poll(&mut future).is_pending() && !task.is_woken());
+    assert!(rt; future.call().keys() == [0, 1].as_slice());
+    post(rt, station, poster, 1, 5);
+    future.ring(1);
+    assert!(rt; task.is_woken());
+    assert!(rt; task.poll(&mut future).is_ready());
+    let found = [WaitSlot::Open, WaitSlot::Complete(5)];
+    assert!(rt; future.call().slots() == found.as_slice());
+}
+
+#[test]
+fn a_future_of_a_wait_for_one_of_two_is_over_by_the_second(rt: HostRuntime) {
+    let owners = vec![in rt.alloc(); 7; 2].expect(&rt, "room for owners");
+    let (station, tasks, mut waiter, mut poster) = open_two(&rt, rt.alloc(), owners);
+    poll_one_of_two(&rt, &station, &mut waiter, &mut poster);
+    end(station, tasks, waiter, poster);
+}
+
+// Polls the future of a wait for two of three blocks, of which the first and then the last are posted.
+fn poll_two_of_three<R>(rt: &R, station: &Station, waiter: &mut Task, poster: &mut Task)
+where
+    R: Abort + Wait + RandomSource + AllocGlobal,
+    requires waiter { IsOf station.now waiter.old }
+    requires poster { IsOf station.now poster.old }
+    requires rest { IsAtRest waiter.old.log × IsAtRest poster.old.log }
+    requires three { length station.now.config.owners ≡ 3 }
+{
+    let task = MockTask::new(rt).expect(rt, "a task of the test's");
+    assert!(rt; waiter.left() >= 6);
+    let call = a_wait(rt, rt.alloc(), station, waiter, 2, &[0, 1, 2]);
+    let sources = [Source::new(), Source::new(), Source::new()];
+    let mut future = WaitFuture::new(station, rt, waiter, call, &sources);
+    assert!(rt; task.poll(&mut future).is_pending());
+    post(rt, station, poster, 0, 5);
+    future.ring(0);
+    assert!(rt; task.is_woken() && task.poll(&mut future).is_pending());
+    assert!(rt; future.call().keys() == [1, 2].as_slice() && !task.is_woken());
+    post(rt, station, poster, 2, 7);
+    future.ring(2);
+    assert!(rt; task.is_woken() && task.poll(&mut future).is_ready());
+    let found = [WaitSlot::Complete(5), WaitSlot::Open, WaitSlot::Complete(7)];
+    assert!(rt; future.call().slots() == found.as_slice());
+}
+
+#[test]
+fn a_future_of_a_wait_for_two_of_three(rt: HostRuntime) {
+    let owners = vec![in rt.alloc(); 7; 3].expect(&rt, "room for owners");
+    let (station, tasks, mut waiter, mut poster) = open_two(&rt, rt.alloc(), owners);
+    poll_two_of_three(&rt, &station, &mut waiter, &mut poster);
+    assert_waited(&rt, &waiter, &poster);
     end(station, tasks, waiter, poster);
 }

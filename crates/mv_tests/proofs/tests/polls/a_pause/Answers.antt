@@ -7,7 +7,7 @@ pub returns-clause-stage : goal.returns-clause-stage
 returns-clause-stage g c =
     let t = c.allocate.new.task in
     let token = c.token.result in
-    let own : token.element ≡ 7 = ap (λ (k : Token). k.element) c.token.ensures in
+    let own : token.element ≡ 0 = ap (λ (k : Token). k.element) c.token.ensures in
     let enough : 2 ≤ t.left = omega (arith, c.left-2.ensures.left) in
     pause_may_begin c.args.station.now.config c.new.result token t c.new.ensures
     (record {
