@@ -33,9 +33,10 @@ front_width = 84
 abbrev pub event_width : ℕ
 event_width = 134
 
--- an entry, and its line with the LF
+-- an entry
 abbrev pub entry_width : ℕ
 entry_width = 219
 
+-- its line with the LF
 abbrev pub line_width : ℕ
 line_width = 220
