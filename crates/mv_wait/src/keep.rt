@@ -74,6 +74,7 @@ impl Keep {
     }
 
     /// One more event of the task.
+    #[inline(always)]
     pub(crate) fn follow(&mut self, object: Object, op: Op, reply: Reply)
         requires block { Reaches object self.old }
         requires room { HasRoomFor self.old.requests 1 }
@@ -105,6 +106,7 @@ impl Keep {
     ghost use Rattle.mv_wait.specs.Keep.{AreExtended, AreElements};
 
     // A block is extended from an extend that is answered Armed until it is cleared.
+    #[inline(always)]
     fn follow_block(&mut self, n: u32, op: EcbOp, reply: EcbReply)
         requires block { n < length self.old.extended.items }
         ensures kept { (held : ℕ → Bool) → AreExtended held self.old
@@ -120,6 +122,7 @@ impl Keep {
     }
 
     // An element is in use from its opening until it is closed, and its generation goes by what the replies say.
+    #[inline(always)]
     fn follow_element(&mut self, n: u32, op: ElementOp, reply: ElementReply)
         requires closes { ClosesBelow (op_on.Element op) (reply_of.Element reply) }
         ensures kept { (used : ℕ → Bool) (generation : ℕ → ℕ) → AreElements used generation self.old
