@@ -4,13 +4,13 @@ use Rattle.std.proofs.Common.{get_or, map, None, refl, sym, ap, ◌∙◌, subst
 use Rattle.std.specs.List.{AllByRecursion}
 use Rattle.std.proofs.lemmas.List.{get_or-map, length-map}
 use Rattle.mv_board.specs.Faces.{BoardFace, CallerFace, IsOf, IsFresh, AreFresh, AreInOrder}
-use Rattle.mv_deck.specs.Deck.{JobData}
 use Rattle.mv_polled.specs.declared.polled.Polled.{Polled}
 use Rattle.mv_polled.specs.declared.polled.State.{State}
 use Rattle.mv_polled.specs.declared.polled.State.TheVariants.{New, Waits, Finished}
 use Rattle.mv_polled.specs.Polled.{ArePolled, IsUnpolled, Stands, is_finished, is_over, unfinished}
 use Rattle.mv_wait.proofs.Parts.{fresh_at, one_of}
 use Rattle.mv_work.specs.declared.work.SpoolWork.{SpoolWork}
+use Rattle.mv_work.specs.Spool.{SpoolFace}
 use Rattle.mv_work.specs.Works.{AreWorked, HasCome, IsNew}
 use Rattle.mv_work.proofs.Histories.{first_of}
 use Rattle.mv_work.proofs.Runs.{still_of}
@@ -25,21 +25,22 @@ abbrev pub work_of : Polled → SpoolWork
 work_of p = p.work
 
 -- tasks that were not polled are polled tasks
-pub are_polled : (b : BoardFace) (deck : List JobData) (i : ℕ) (tasks : List CallerFace) (ps : List Polled) → AreFresh b 0 tasks
-    → AllByRecursion (IsUnpolled deck i) ps → map task_of ps ≡ tasks → ArePolled b deck i ps
-are_polled b deck i tasks ps fresh new is k d lt =
+pub are_polled : (s : SpoolFace) (tasks : List CallerFace) (ps : List Polled) → AreFresh s.board 0 tasks
+    → AllByRecursion (IsUnpolled s.jobs s.initiators) ps → map task_of ps ≡ tasks → ArePolled s ps
+are_polled s tasks ps fresh new is k d lt =
     let count = task_count tasks ps is in
     let p = get_or ps k d in
     let t = get_or tasks k (task_of d) in
-    let one = one_of (IsUnpolled deck i) ps k d new lt in
-    let at = subst (λ m. IsFresh b m t) (let e : 0 + k ≡ k = omega arith in e) (fresh_at b 0 k tasks (task_of d) fresh (omega arith)) in
+    let one = one_of (IsUnpolled s.jobs s.initiators) ps k d new lt in
+    let at = subst (λ m. IsFresh s.board m t) (let e : 0 + k ≡ k = omega arith in e)
+    (fresh_at s.board 0 k tasks (task_of d) fresh (omega arith)) in
     let same : p.task ≡ t =
     sym (ap (λ (ts : List CallerFace). get_or ts k (task_of d)) (sym is) ∙ get_or-map task_of ps k d (task_of d) lt) in
     let number = ap (λ (f : CallerFace). f.number) same ∙ at.number in record {
       new = t;
       fresh = at;
       room = one.room;
-      stands = subst (Stands b deck i k t p) (sym one.state) (same, subst (λ m. IsNew deck i m p.work) number one.work);
+      stands = subst (Stands s k t p) (sym one.state) (same, subst (λ m. IsNew s.jobs s.initiators m p.work) number one.work);
     }
 
 -- where none is unfinished, each is finished
@@ -55,11 +56,11 @@ all_finished (p ∷ ps) none zero d lt = (finished_front p ps (is_finished p) re
 all_finished (p ∷ ps) none (suc k) d lt = all_finished ps (finished_front p ps (is_finished p) refl none).1 k d (omega arith)
 
 -- a task that is finished has come to its end
-over : (b : BoardFace) (deck : List JobData) (i k : ℕ) (t : CallerFace) (p : Polled) (s : State) → is_over s ≡ true
-    → Stands b deck i k t p s → HasCome b deck i p.work t None p.task
-over b deck i k t p Finished is s = s
-over b deck i k t p New is s = absurd (cc is)
-over b deck i k t p Waits is s = absurd (cc is)
+over : (s : SpoolFace) (k : ℕ) (t : CallerFace) (p : Polled) (st : State) → is_over st ≡ true → Stands s k t p st
+    → HasCome s p.work t None p.task
+over s k t p Finished is x = x
+over s k t p New is x = absurd (cc is)
+over s k t p Waits is x = absurd (cc is)
 
 -- ---- all tasks
 
@@ -75,35 +76,35 @@ in_order b j (p ∷ ps) each =
           let at = each (suc k) d (omega arith) in (at.0, at.1 ∙ (let e : j + suc k ≡ suc j + k = omega arith in e))),
     )
 
-module _ (deck : List JobData) (i : ℕ) (b : BoardFace) (ps : List Polled) (polled : ArePolled b deck i ps) (none : unfinished ps ≡ []) where
+module _ (s : SpoolFace) (ps : List Polled) (polled : ArePolled s ps) (none : unfinished ps ≡ []) where
   ended : (k : ℕ) (d : Polled) (lt : k < length ps)
-      → HasCome b deck i (get_or ps k d).work (polled k d lt).new None (task_of (get_or ps k d))
+      → HasCome s (get_or ps k d).work (polled k d lt).new None (task_of (get_or ps k d))
   ended k d lt =
       let p = get_or ps k d in
-      over b deck i k (polled k d lt).new p p.state (all_finished ps none k d lt) (polled k d lt).stands
+      over s k (polled k d lt).new p p.state (all_finished ps none k d lt) (polled k d lt).stands
 
   -- they are the board's tasks, in order
-  pub polled_in_order : AreInOrder b 0 (map task_of ps)
-  polled_in_order = in_order b 0 ps (λ k d lt.
+  pub polled_in_order : AreInOrder s.board 0 (map task_of ps)
+  polled_in_order = in_order s.board 0 ps (λ k d lt.
       let was = (polled k d lt).fresh in
       let same = (ended k d lt).0 in (
-        still_of b was.board same,
+        still_of s.board was.board same,
         same.number ∙ was.number ∙ (let e : k ≡ 0 + k = omega arith in e),
       ))
 
   -- and have worked
-  pub are_worked : length ps ≡ i + 3 → AreWorked deck i b (map work_of ps) (map task_of ps)
+  pub are_worked : length ps ≡ s.initiators + 3 → AreWorked s (map work_of ps) (map task_of ps)
   are_worked size = record {
     works = length-map ps work_of ∙ size;
     tasks = length-map ps task_of ∙ size;
     each = λ k w t lt.
-        let s = first_of ps (omega arith) in
+        let d = first_of ps (omega arith) in
         let within : k < length ps = omega arith in
-        let new = (polled k s within).new in record {
+        let new = (polled k d within).new in record {
           before = new;
-          fresh = (polled k s within).fresh;
-          come = subst (λ x. HasCome b deck i x new None (get_or (map task_of ps) k t)) (sym (get_or-map work_of ps k s w within))
-              (subst (λ u. HasCome b deck i (work_of (get_or ps k s)) new None u) (sym (get_or-map task_of ps k s t within))
-              (ended k s within));
+          fresh = (polled k d within).fresh;
+          come = subst (λ x. HasCome s x new None (get_or (map task_of ps) k t)) (sym (get_or-map work_of ps k d w within))
+              (subst (λ u. HasCome s (work_of (get_or ps k d)) new None u) (sym (get_or-map task_of ps k d t within))
+              (ended k d within));
         };
   }

@@ -1,7 +1,6 @@
--- A task that is polled, and that it makes what its program says. It is task k of a deck that i initiators run, and was t when it was
--- new.
+-- A task that is polled, and that it makes what its program says. It is task k of the spool, and was t when it was new.
 use Rattle.std.specs.Prelude.{◌≡◌, ℕ, ◌<◌, Bool, true, false, not, List, filter, length, take, slice_index_or, Option, Some, None}
-use Rattle.mv_board.specs.Faces.{BoardFace, CallerFace, IsFresh, IsSame}
+use Rattle.mv_board.specs.Faces.{CallerFace, IsFresh, IsSame}
 use Rattle.mv_deck.specs.Deck.{JobData}
 use Rattle.mv_polled.specs.declared.meeting.Meeting.{Meeting}
 use Rattle.mv_polled.specs.declared.polled.Polled.{Polled}
@@ -9,29 +8,30 @@ use Rattle.mv_polled.specs.declared.polled.State.{State}
 use Rattle.mv_polled.specs.declared.polled.State.TheVariants.{New, Waits, Finished}
 use Rattle.mv_polled.specs.Meeting.{HasRoom, IsMeeting, IsTakenUp}
 use Rattle.mv_work.specs.declared.need.Need.{Need}
+use Rattle.mv_work.specs.Spool.{SpoolFace}
 use Rattle.mv_work.specs.Works.{IsNew, HasCome}
 
 -- a task that waits in a call which it began as it was at u
-abbrev pub IsWaiting : BoardFace → List JobData → ℕ → CallerFace → Polled → Type 0
-IsWaiting b deck i t p = (n : Need) × (u : CallerFace) × HasCome b deck i p.work t (Some n) u × IsSame u p.task
-    × IsMeeting b.config n p.meeting u p.task
+abbrev pub IsWaiting : SpoolFace → CallerFace → Polled → Type 0
+IsWaiting s t p = (n : Need) × (u : CallerFace) × HasCome s p.work t (Some n) u × IsSame u p.task
+    × IsMeeting s.board.config n p.meeting u p.task
 
 -- what has come of the task
-abbrev pub Stands : BoardFace → List JobData → ℕ → ℕ → CallerFace → Polled → State → Type 0
-Stands b deck i k t p New = (p.task ≡ t) × IsNew deck i k p.work
-Stands b deck i k t p Waits = IsWaiting b deck i t p
-Stands b deck i k t p Finished = HasCome b deck i p.work t None p.task
+abbrev pub Stands : SpoolFace → ℕ → CallerFace → Polled → State → Type 0
+Stands s k t p New = (p.task ≡ t) × IsNew s.jobs s.initiators k p.work
+Stands s k t p Waits = IsWaiting s t p
+Stands s k t p Finished = HasCome s p.work t None p.task
 
--- task k of the board, as it stands between two polls
-pub record IsPolled (b : BoardFace) (deck : List JobData) (i k : ℕ) (p : Polled) : Type 0 where
+-- task k of the spool, as it stands between two polls
+pub record IsPolled (s : SpoolFace) (k : ℕ) (p : Polled) : Type 0 where
   pub new : CallerFace
-  pub fresh : IsFresh b k new
+  pub fresh : IsFresh s.board k new
   pub room : HasRoom p.meeting
-  pub stands : Stands b deck i k new p p.state
+  pub stands : Stands s k new p p.state
 
 -- each task is polled, in the order of the numbers
-abbrev pub ArePolled : BoardFace → List JobData → ℕ → List Polled → Type 0
-ArePolled b deck i ps = (k : ℕ) (d : Polled) → k < length ps → IsPolled b deck i k (slice_index_or ps k d)
+abbrev pub ArePolled : SpoolFace → List Polled → Type 0
+ArePolled s ps = (k : ℕ) (d : Polled) → k < length ps → IsPolled s k (slice_index_or ps k d)
 
 -- it was not polled, and has the room that its work needs
 pub record IsUnpolled (deck : List JobData) (i : ℕ) (p : Polled) : Type 0 where

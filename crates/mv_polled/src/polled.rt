@@ -1,20 +1,20 @@
 //! A task that is polled. Clauses cite `specs/Polled.antt`.
 
 ghost use Rattle.std.specs.Prelude.{◌≡◌, ◌<◌, ◌≤◌, ◌+◌, ℕ, IfSome, IfOk};
+ghost use Rattle.mv_deck.specs.Deck.{deck_data};
 ghost use Rattle.mv_deck.specs.Weight.{most_initiators};
 ghost use Rattle.mv_polled.specs.Meeting.{HasRoom, IsNeed};
 ghost use Rattle.mv_polled.specs.Polled.{HasTakenUp, IsPolled, IsUnpolled, is_finished};
 ghost use Rattle.mv_polled.specs.declared.polled.State.TheVariants as state;
-ghost use Rattle.mv_work.specs.Parts.{jobs_of};
-ghost use Rattle.mv_work.specs.Waiting.{IsSpool};
+ghost use Rattle.mv_work.specs.Spool.{IsSpool};
 
 use crate::Turn;
 use crate::meeting::Meeting;
-use mv_deck::Job;
+use mv_deck::Deck;
 use mv_io::NoMemory;
 use mv_task::OpenGate;
-use mv_wait::{Station, Task};
-use mv_work::{Need, SpoolWork};
+use mv_wait::Task;
+use mv_work::{Need, Spool, SpoolWork};
 use std::alloc::Global;
 use std::sync::Wait;
 
@@ -43,12 +43,12 @@ impl Polled {
     pub(crate) fn new(
         alloc: Global,
         task: Task,
-        deck: &[Job],
+        deck: &Deck,
         initiators: u32,
     ) -> Result<Polled, NoMemory>
         requires few { initiators ≤ most_initiators }
         ensures task { IfOk result (λ p. p.task ≡ task) }
-        ensures new { IfOk result (IsUnpolled (jobs_of deck.now) initiators) }
+        ensures new { IfOk result (IsUnpolled (deck_data deck.now) initiators) }
     {
         let meeting = Meeting::new(alloc)?;
         let work = SpoolWork::new(alloc, deck, initiators, task.number())?;
@@ -68,17 +68,17 @@ impl Polled {
     }
 
     /// Goes on with the task as far as it can: until it waits for what is not so, or is finished. It takes no memory.
-    pub(crate) fn poll<R: Wait>(&mut self, rt: &R, station: &Station, deck: &[Job], initiators: u32)
-        requires spool { IsSpool station.now deck.now initiators }
-        requires polled { (k : ℕ) × (k < initiators + 3) × IsPolled station.now (jobs_of deck.now) initiators k self.old }
-        ensures polled { (k : ℕ) → k < initiators + 3 → IsPolled station.now (jobs_of deck.now) initiators k self.old
-            → IsPolled station.now (jobs_of deck.now) initiators k self.new }
+    pub(crate) fn poll<R: Wait>(&mut self, rt: &R, spool: &Spool<'_, OpenGate>)
+        requires spool { IsSpool spool.now }
+        requires polled { (k : ℕ) × (k < spool.now.initiators + 3) × IsPolled spool.now k self.old }
+        ensures polled { (k : ℕ) → k < spool.now.initiators + 3 → IsPolled spool.now k self.old
+            → IsPolled spool.now k self.new }
     {
         for _ in rt.forever() {
             match self.state {
-                State::New => self.begin(rt, station, deck, initiators),
+                State::New => self.begin(rt, spool),
                 State::Waits => {
-                    if !self.advance(rt, station, deck, initiators) {
+                    if !self.advance(rt, spool) {
                         return;
                     }
                 }
@@ -88,44 +88,33 @@ impl Polled {
     }
 
     // Begins the task, up to its first wait.
-    fn begin<R: Wait>(&mut self, rt: &R, station: &Station, deck: &[Job], initiators: u32)
-        requires spool { IsSpool station.now deck.now initiators }
-        requires polled { (k : ℕ) × (k < initiators + 3) × IsPolled station.now (jobs_of deck.now) initiators k self.old }
+    fn begin<R: Wait>(&mut self, rt: &R, spool: &Spool<'_, OpenGate>)
+        requires spool { IsSpool spool.now }
+        requires polled { (k : ℕ) × (k < spool.now.initiators + 3) × IsPolled spool.now k self.old }
         requires new { self.old.state ≡ state.New }
-        ensures polled { (k : ℕ) → k < initiators + 3 → IsPolled station.now (jobs_of deck.now) initiators k self.old
-            → IsPolled station.now (jobs_of deck.now) initiators k self.new }
+        ensures polled { (k : ℕ) → k < spool.now.initiators + 3 → IsPolled spool.now k self.old
+            → IsPolled spool.now k self.new }
     {
-        let need = self
-            .work
-            .begin(rt, station, &mut self.task, deck, initiators, &OpenGate);
+        let need = self.work.begin(rt, spool, &mut self.task);
         self.take_up(need);
     }
 
     // Polls the call that the task waits in, and goes on behind its answer up to the next wait: whether there was one.
-    fn advance<R: Wait>(&mut self, rt: &R, station: &Station, deck: &[Job], initiators: u32) -> bool
-        requires spool { IsSpool station.now deck.now initiators }
-        requires polled { (k : ℕ) × (k < initiators + 3) × IsPolled station.now (jobs_of deck.now) initiators k self.old }
+    fn advance<R: Wait>(&mut self, rt: &R, spool: &Spool<'_, OpenGate>) -> bool
+        requires spool { IsSpool spool.now }
+        requires polled { (k : ℕ) × (k < spool.now.initiators + 3) × IsPolled spool.now k self.old }
         requires waits { self.old.state ≡ state.Waits }
-        ensures polled { (k : ℕ) → k < initiators + 3 → IsPolled station.now (jobs_of deck.now) initiators k self.old
-            → IsPolled station.now (jobs_of deck.now) initiators k self.new }
+        ensures polled { (k : ℕ) → k < spool.now.initiators + 3 → IsPolled spool.now k self.old
+            → IsPolled spool.now k self.new }
     {
-        match self.meeting.poll(rt, station, &mut self.task) {
+        match self.meeting.poll(rt, spool.station(), &mut self.task) {
             Turn::Pending => false,
             Turn::Ready(Err(_)) => {
                 self.state = State::Finished;
                 true
             }
             Turn::Ready(Ok(got)) => {
-                let work = &mut self.work;
-                let need = work.go_on(
-                    rt,
-                    station,
-                    &mut self.task,
-                    deck,
-                    initiators,
-                    &OpenGate,
-                    got,
-                );
+                let need = self.work.go_on(rt, spool, &mut self.task, got);
                 self.take_up(need);
                 true
             }

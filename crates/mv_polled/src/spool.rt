@@ -14,18 +14,18 @@ ghost use Rattle.mv_plan.specs.SpoolTasks.{task_program};
 ghost use Rattle.mv_polled.specs.Polled.{ArePolled, IsPicked, IsUnpolled, is_finished, unfinished};
 ghost use Rattle.mv_polled.specs.declared.polled.Polled.{Polled as PolledValue};
 ghost use Rattle.mv_report.specs.Outcome.{ends, lines, totals};
-ghost use Rattle.mv_work.specs.Parts.{jobs_of};
-ghost use Rattle.mv_work.specs.Recording.{AreBrought, IsLeft, all_records, lines_recorded};
-ghost use Rattle.mv_work.specs.Waiting.{IsSpool};
+ghost use Rattle.mv_work.specs.Recording.{AreBrought, AreResults, all_records, lines_recorded};
+ghost use Rattle.mv_work.specs.Spool.{IsSpool, spool_of};
 
 use crate::order::Order;
 use crate::polled::Polled;
-use mv_deck::{Deck, Job};
+use mv_deck::Deck;
 use mv_io::NoMemory;
 use mv_machine::ValidConfig;
 use mv_plan::spool_config;
+use mv_task::OpenGate;
 use mv_wait::{Station, Task};
-use mv_work::{Brought, InitiatorRecord, Left, SpoolRun, SpoolWork, brought_by, spool_run};
+use mv_work::{InitiatorRecord, RunResults, Spool, SpoolRun, SpoolWork, results_of, spool_run};
 use std::alloc::Global;
 use std::sync::Wait;
 
@@ -33,11 +33,11 @@ use std::sync::Wait;
 fn all_polled(
     alloc: Global,
     tasks: Vec<Task>,
-    deck: &[Job],
+    deck: &Deck,
     initiators: u32,
 ) -> Result<Vec<Polled>, NoMemory>
     requires few { initiators ≤ most_initiators }
-    ensures new { IfOk result (λ ps. AllByRecursion (IsUnpolled (jobs_of deck.now) initiators) ps.items) }
+    ensures new { IfOk result (λ ps. AllByRecursion (IsUnpolled (deck_data deck.now) initiators) ps.items) }
     ensures tasks { IfOk result (λ ps. map (λ p. p.task) ps.items ≡ tasks.items) }
 {
     let mut polled = Vec::with_capacity(alloc, tasks.len())?;
@@ -123,40 +123,31 @@ fn place_of(polled: &[Polled], number: u32) -> usize
 }
 
 // Polls the unfinished task of this number, and no other.
-fn poll_picked<R: Wait>(
-    rt: &R,
-    station: &Station,
-    deck: &[Job],
-    initiators: u32,
-    number: u32,
-    tasks: &mut [Polled],
-)
-    requires spool { IsSpool station.now deck.now initiators }
+fn poll_picked<R: Wait>(rt: &R, spool: &Spool<'_, OpenGate>, number: u32, tasks: &mut [Polled])
+    requires spool { IsSpool spool.now }
     requires some { number < length (unfinished tasks.old) }
-    requires count { length tasks.old ≡ initiators + 3 }
-    requires polled { ArePolled station.now (jobs_of deck.now) initiators tasks.old }
-    ensures count { length tasks.new ≡ initiators + 3 }
-    ensures polled { ArePolled station.now (jobs_of deck.now) initiators tasks.new }
+    requires count { length tasks.old ≡ spool.now.initiators + 3 }
+    requires polled { ArePolled spool.now tasks.old }
+    ensures count { length tasks.new ≡ spool.now.initiators + 3 }
+    ensures polled { ArePolled spool.now tasks.new }
     ensures picked { IsPicked number tasks.old tasks.new }
 {
     let place = place_of(tasks, number);
-    tasks[place].poll(rt, station, deck, initiators);
+    tasks[place].poll(rt, spool);
 }
 
 // Polls the tasks until all are finished.
 fn poll_all<R: Wait, O: Order>(
     rt: &R,
-    station: &Station,
-    deck: &[Job],
-    initiators: u32,
+    spool: &Spool<'_, OpenGate>,
     order: &mut O,
     mut tasks: Vec<Polled>,
 ) -> Vec<Polled>
-    requires spool { IsSpool station.now deck.now initiators }
-    requires count { length tasks.items ≡ initiators + 3 }
-    requires polled { ArePolled station.now (jobs_of deck.now) initiators tasks.items }
-    ensures count { length result.items ≡ initiators + 3 }
-    ensures polled { ArePolled station.now (jobs_of deck.now) initiators result.items }
+    requires spool { IsSpool spool.now }
+    requires count { length tasks.items ≡ spool.now.initiators + 3 }
+    requires polled { ArePolled spool.now tasks.items }
+    ensures count { length result.items ≡ spool.now.initiators + 3 }
+    ensures polled { ArePolled spool.now result.items }
     ensures finished { unfinished result.items ≡ [] }
 {
     for _ in rt.forever() {
@@ -165,7 +156,7 @@ fn poll_all<R: Wait, O: Order>(
             break;
         }
         let number = order.pick(unfinished);
-        poll_picked(rt, station, deck, initiators, number, &mut tasks);
+        poll_picked(rt, spool, number, &mut tasks);
     }
     tasks
 }
@@ -174,26 +165,27 @@ fn poll_all<R: Wait, O: Order>(
 fn run_all<R: Wait, O: Order>(
     rt: &R,
     station: Station,
-    deck: &[Job],
+    deck: &Deck,
     initiators: u32,
     order: &mut O,
     tasks: Vec<Polled>,
     room: Room,
-) -> Left
+) -> RunResults
     requires some { 1 ≤ initiators }
-    requires spool { IsSpool station deck.now initiators }
+    requires spool { IsSpool (spool_of station (deck_data deck.now) initiators) }
     requires count { length tasks.items ≡ initiators + 3 }
-    requires polled { ArePolled station (jobs_of deck.now) initiators tasks.items }
+    requires polled { ArePolled (spool_of station (deck_data deck.now) initiators) tasks.items }
     requires tasks { (room.tasks.items ≡ []) × (initiators + 3 ≤ vec_capacity room.tasks) }
     requires works { (room.works.items ≡ []) × (initiators + 3 ≤ vec_capacity room.works) }
     requires records { (room.records.items ≡ []) × (initiators + 3 ≤ vec_capacity room.records) }
-    ensures { IsLeft (jobs_of deck.now) initiators result.closed result.brought }
+    ensures { AreResults (deck_data deck.now) initiators result }
 {
-    let polled = poll_all(rt, &station, deck, initiators, order, tasks);
+    let polled = {
+        let spool = Spool::new(&station, deck, initiators, &OpenGate);
+        poll_all(rt, &spool, order, tasks)
+    };
     let (tasks, works, records) = parted(polled, room);
-    let closed = station.close(tasks);
-    let brought: Brought = brought_by(works, records);
-    Left { closed, brought }
+    results_of(station.close(tasks), works, records)
 }
 
 // Opens a station of this configuration, has its tasks do their work, and closes it.
@@ -201,15 +193,15 @@ fn run_tasks<R: Wait, O: Order>(
     rt: &R,
     alloc: Global,
     config: ValidConfig,
-    deck: &[Job],
+    deck: &Deck,
     initiators: u32,
     order: &mut O,
-) -> Result<Left, NoMemory>
+) -> Result<RunResults, NoMemory>
     requires some { 1 ≤ initiators }
-    requires few { (initiators ≤ most_initiators) × (length deck.now ≤ jobs_limit) }
-    requires sound { IsSound (jobs_of deck.now) initiators }
-    requires config { config ≡ spool_setup (jobs_of deck.now) initiators }
-    ensures left { IfOk result (λ left. IsLeft (jobs_of deck.now) initiators left.closed left.brought) }
+    requires few { (initiators ≤ most_initiators) × (length (deck_data deck.now) ≤ jobs_limit) }
+    requires sound { IsSound (deck_data deck.now) initiators }
+    requires config { config ≡ spool_setup (deck_data deck.now) initiators }
+    ensures results { IfOk result (AreResults (deck_data deck.now) initiators) }
 {
     let room = room_for(alloc, initiators as usize + 3)?;
     let (station, tasks) = Station::open(alloc, config)?;
@@ -253,7 +245,7 @@ pub fn run_polled<R: Wait, O: Order>(
     ensures volumes { IfOk result (λ run. run.volumes.items ≡ totals (deck_data deck.now)) }
 {
     let config = spool_config(alloc, deck, initiators)?;
-    let left = run_tasks(rt, alloc, config, &deck.jobs, initiators, order)?;
-    let run = spool_run(alloc, deck, initiators, left.closed, left.brought)?;
+    let results = run_tasks(rt, alloc, config, deck, initiators, order)?;
+    let run = spool_run(alloc, deck, initiators, results)?;
     Ok(run)
 }

@@ -3,7 +3,7 @@
 
 mod meeting;
 mod spool;
-mod working;
+mod tasks;
 
 pub use mv_work::SpoolRun;
 pub use spool::run_deck;

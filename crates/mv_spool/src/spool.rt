@@ -11,29 +11,28 @@ ghost use Rattle.mv_plan.specs.SpoolRun.{IsRun};
 ghost use Rattle.mv_plan.specs.SpoolSetup.{jobs_limit, spool_setup, writer};
 ghost use Rattle.mv_plan.specs.SpoolTasks.{task_program};
 ghost use Rattle.mv_report.specs.Outcome.{ends, lines, totals};
-ghost use Rattle.mv_work.specs.Parts.{jobs_of};
-ghost use Rattle.mv_work.specs.Recording.{AreBrought, IsLeft, all_records, lines_recorded};
+ghost use Rattle.mv_work.specs.Recording.{AreBrought, AreResults, all_records, lines_recorded};
 ghost use Rattle.mv_work.specs.Works.{IsNew};
 
-use crate::working::Working;
+use crate::tasks::SpoolTasks;
 use mv_attach::run_tasks;
-use mv_deck::{Deck, Job};
+use mv_deck::Deck;
 use mv_io::NoMemory;
 use mv_machine::ValidConfig;
 use mv_plan::spool_config;
 use mv_task::Gate;
 use mv_wait::Station;
-use mv_work::{Left, SpoolRun, SpoolWork, brought_by, spool_run};
+use mv_work::{RunResults, SpoolRun, SpoolWork, results_of, spool_run};
 use std::alloc::Global;
 use std::sync::Wait;
 use std::thread::Threads;
 
 // The work of each task, which was not begun.
-fn works_of(alloc: Global, deck: &[Job], initiators: u32) -> Result<Vec<SpoolWork>, NoMemory>
+fn works_of(alloc: Global, deck: &Deck, initiators: u32) -> Result<Vec<SpoolWork>, NoMemory>
     requires { initiators ≤ most_initiators }
     ensures count { IfOk result (λ works. length works.items ≡ initiators + 3) }
     ensures new { IfOk result (λ works. (k : ℕ) (d : _) → k < length works.items
-        → IsNew (jobs_of deck.now) initiators k (slice_index_or works.items k d)) }
+        → IsNew (deck_data deck.now) initiators k (slice_index_or works.items k d)) }
 {
     let tasks = initiators + 3;
     let mut works = Vec::with_capacity(alloc, tasks as usize)?;
@@ -48,28 +47,26 @@ fn run_station<R: Threads + Wait + Sync, G: Gate + Sync>(
     rt: &R,
     alloc: Global,
     config: ValidConfig,
-    deck: &[Job],
+    deck: &Deck,
     initiators: u32,
     gate: &G,
-) -> Result<Left, NoMemory>
+) -> Result<RunResults, NoMemory>
     requires some { 1 ≤ initiators }
-    requires few { (initiators ≤ most_initiators) × (length deck.now ≤ jobs_limit) }
-    requires sound { IsSound (jobs_of deck.now) initiators }
-    requires config { config ≡ spool_setup (jobs_of deck.now) initiators }
-    ensures left { IfOk result (λ left. IsLeft (jobs_of deck.now) initiators left.closed left.brought) }
+    requires few { (initiators ≤ most_initiators) × (length (deck_data deck.now) ≤ jobs_limit) }
+    requires sound { IsSound (deck_data deck.now) initiators }
+    requires config { config ≡ spool_setup (deck_data deck.now) initiators }
+    ensures results { IfOk result (AreResults (deck_data deck.now) initiators) }
 {
     let (station, tasks) = Station::open(alloc, config)?;
     let records = Vec::with_capacity(alloc, tasks.len())?;
     let works = works_of(alloc, deck, initiators)?;
-    let working = Working {
+    let work = SpoolTasks {
         deck,
         initiators,
         gate,
     };
-    let (tasks, works) = run_tasks(rt, alloc, &station, &working, tasks, works)?;
-    let closed = station.close(tasks);
-    let brought = brought_by(works, records);
-    Ok(Left { closed, brought })
+    let (tasks, works) = run_tasks(rt, alloc, &station, &work, tasks, works)?;
+    Ok(results_of(station.close(tasks), works, records))
 }
 
 /// Runs a deck by a reader, a scheduler, so many initiators and a writer, each on a thread of its own, and answers what it came
@@ -116,7 +113,7 @@ pub fn run_deck<R: Threads + Wait + Sync, G: Gate + Sync>(
     ensures volumes { IfOk result (λ run. run.volumes.items ≡ totals (deck_data deck.now)) }
 {
     let config = spool_config(alloc, deck, initiators)?;
-    let left = run_station(rt, alloc, config, &deck.jobs, initiators, gate)?;
-    let run = spool_run(alloc, deck, initiators, left.closed, left.brought)?;
+    let results = run_station(rt, alloc, config, deck, initiators, gate)?;
+    let run = spool_run(alloc, deck, initiators, results)?;
     Ok(run)
 }

@@ -1,5 +1,5 @@
 -- Decks that are sound, job by job, and the budgets of their tasks.
-use Rattle.std.proofs.Common.{◌≡◌, ℕ, zero, suc, ◌+◌, ◌-◌, ◌*◌, ◌<◌, ◌≤◌, List, [], ◌∷◌, ◌++◌, length, get_or, replicate, sym, ap, ◌∙◌}
+use Rattle.std.proofs.Common.{◌≡◌, ℕ, zero, suc, ◌+◌, ◌-◌, ◌*◌, ◌<◌, ◌≤◌, List, [], ◌∷◌, ◌++◌, length, get_or, map, replicate, ap, ◌∙◌}
 use Rattle.std.proofs.Common.{arith}
 use Rattle.std.specs.List.{AllByRecursion}
 use Rattle.std.proofs.lemmas.List.{length-map, length-replicate, get_or-map, get_or-replicate, get_or_append_left}
@@ -11,15 +11,15 @@ use Rattle.mv_deck.specs.Sound.{AreSoundJobs, AreSoundSteps, HasGoodNumbers}
 use Rattle.mv_deck.specs.Weight.{all_events}
 use Rattle.mv_plan.specs.Jobs.{job_at, no_job}
 use Rattle.mv_plan.specs.SpoolSetup.{task_budgets}
-use Rattle.mv_work.specs.Parts.{jobs_of}
 
 -- ---- jobs
 
-pub job_count : (deck : List Job) → length (jobs_of deck) ≡ length deck
+pub job_count : (deck : List Job) → length (map job_data deck) ≡ length deck
 job_count deck = length-map deck job_data
 
 -- the job of a number
-pub job_read : (deck : List Job) (j : ℕ) (job : Job) → j < length deck → get_or deck j job ≡ job → job_at (jobs_of deck) j ≡ job_data job
+pub job_read : (deck : List Job) (j : ℕ) (job : Job) → j < length deck → get_or deck j job ≡ job
+    → job_at (map job_data deck) j ≡ job_data job
 job_read deck j job lt is = get_or-map job_data deck j job no_job lt ∙ ap job_data is
 
 good_numbers : (done steps : List Step) → AreSoundSteps done steps → AllByRecursion HasGoodNumbers steps

@@ -1,12 +1,11 @@
 -- The history that the tasks' logs are parts of is a run, where each task has made all events of its program; and what the tasks
 -- bring back is what their parts of it say. For whoever runs tasks.
-use Rattle.std.proofs.Common.{◌≡◌, ℕ, ◌+◌, ◌-◌, ◌<◌, ◌≤◌, ◌==◌, Bool, true, false, List, [], ◌++◌, length, get_or, if◌then◌else◌, refl}
-use Rattle.std.proofs.Common.{sym, ap, ◌∷◌, ◌∙◌, drop, map, take, subst, arith}
-use Rattle.std.specs.Prelude.{MatchBool}
+use Rattle.std.proofs.Common.{◌≡◌, ℕ, ◌+◌, ◌-◌, ◌<◌, ◌≤◌, List, [], ◌++◌, length, get_or, refl}
+use Rattle.std.proofs.Common.{sym, ap, ◌∷◌, ◌∙◌, map, take, subst, arith}
 use Rattle.std.proofs.lemmas.Bool.{eq-eqb, ne_eqb}
-use Rattle.std.proofs.lemmas.List.{get_or-drop, get_or-map, get_or-take, length-drop, length-map, length-take-le}
+use Rattle.std.proofs.lemmas.List.{get_or_default, get_or-drop, get_or-map, get_or-take, length-drop, length-map, length-take-le}
 use Rattle.std.specs.List.{AllByRecursion}
-use Rattle.mv_board.specs.Faces.{AreHeld, BoardFace, CallerFace, IsIn}
+use Rattle.mv_board.specs.Faces.{AreHeld, CallerFace, IsIn}
 use Rattle.mv_board.specs.declared.closing.Closed.{Closed}
 use Rattle.mv_machine.specs.Setup.{Setup}
 use Rattle.mv_machine.specs.declared.entry.Entry.{Entry}
@@ -27,14 +26,18 @@ use Rattle.mv_plan.specs.SpoolSetup.{spool_setup, reader, scheduler, initiator, 
 use Rattle.mv_plan.specs.SpoolTasks.{task, task_program, reading, scheduling, writing, initiating}
 use Rattle.mv_plan.proofs.deck.Planned.{planned}
 use Rattle.mv_plan.proofs.results.NoneWrong.{none_wrong}
-use Rattle.mv_work.specs.declared.bringing.Brought.{Brought}
+use Rattle.mv_work.specs.declared.results.RunResults.{RunResults}
+use Rattle.mv_work.specs.declared.work.Role.{Role}
+use Rattle.mv_work.specs.declared.work.Role.TheVariants as role
 use Rattle.mv_work.specs.declared.work.SpoolWork.{SpoolWork}
 use Rattle.mv_work.specs.Noting.{initiating_noted}
 use Rattle.mv_work.specs.Ran.{Ran, RanOut, IsOver}
-use Rattle.mv_work.specs.Recording.{IsLeft}
+use Rattle.mv_work.specs.Recording.{AreResults}
 use Rattle.mv_work.specs.Records.{JobRecord}
-use Rattle.mv_work.specs.Works.{AreWorked, HasWorked, IsWorked, ends_found, records}
+use Rattle.mv_work.specs.Spool.{SpoolFace}
+use Rattle.mv_work.specs.Works.{AreWorked, HasWorked, IsWorked, IsWriter, ends_in, records}
 use Rattle.mv_work.proofs.brought.Forgetting.{done_noted, forgotten, initiating_forgets}
+use Rattle.mv_work.proofs.Roles.{IsRole, last_writes, noted_in, records_front}
 use Rattle.mv_work.proofs.Runs.{out_done, out_wrong, ran_astray, ran_last}
 use Rattle.mv_wait.proofs.Parts.{one_of}
 
@@ -66,36 +69,7 @@ forgets c deck m {records} {t} {u} r =
       go (Do object op next) over x = absurd over
       go Early over x = absurd over
 
--- ---- what a task of each number has made
-
--- what the program of task k answers: the writer's the ends that it found
-abbrev answered : ℕ → ℕ → SpoolWork → List ℕ
-answered i k w = if k == reader then [] else if k == scheduler then [] else if k == writer i then ends_found w else []
-
--- what the plan says of it
-plan_made : (deck : List JobData) (i : ℕ) (w : SpoolWork) (t u : CallerFace) → HasWorked (spool_setup deck i) deck i w t u
-    → RanOut (task deck i t.number) (answered i t.number w) t u
-plan_made deck i w t u made = go (t.number == reader) (t.number == scheduler) (t.number == writer i) made where
-  go : (x y z : Bool) → MatchBool x (RanOut (reading (spool_setup deck i) (length deck)) [] t u)
-      (MatchBool y (RanOut (scheduling (spool_setup deck i) i deck) [] t u)
-      (MatchBool z (RanOut (writing (spool_setup deck i) (length deck)) (ends_found w) t u)
-      (RanOut (initiating_noted (spool_setup deck i) deck (t.number - 2)) (records w) t u)))
-      → RanOut (if x then reading (spool_setup deck i) (length deck)
-      else if y then scheduling (spool_setup deck i) i deck
-      else if z then writing (spool_setup deck i) (length deck)
-      else initiating (spool_setup deck i) deck (t.number - 2))
-      (if x then [] else if y then [] else if z then ends_found w else []) t u
-  go true y z made = made
-  go false true z made = made
-  go false false true made = made
-  go false false false made = forgets (spool_setup deck i) deck (t.number - 2) made
-
--- an initiator's records
-initiator_made : (deck : List JobData) (i m : ℕ) (w : SpoolWork) (t u : CallerFace) → t.number ≡ initiator m → m < i
-    → HasWorked (spool_setup deck i) deck i w t u → RanOut (initiating_noted (spool_setup deck i) deck m) (records w) t u
-initiator_made deck i m w t u is lt made =
-    subst (λ k. RanOut (initiating_noted (spool_setup deck i) deck k) (records w) t u) (let e : t.number - 2 ≡ m = omega arith in e)
-    (rw (ne_eqb t.number reader (omega arith), ne_eqb t.number scheduler (omega arith), ne_eqb t.number (writer i) (omega arith)) at made)
+-- ---- what a task has made in each role
 
 -- which task has an initiator's number
 pub initiator_is : (deck : List JobData) (i m : ℕ) → m < i → task deck i (initiator m) ≡ initiating (spool_setup deck i) deck m
@@ -107,10 +81,47 @@ initiator_is deck i m lt =
     )
     (ap (initiating (spool_setup deck i) deck) (let e : initiator m - 2 ≡ m = omega arith in e))
 
--- and what the writer's answers
-writer_answered : (i : ℕ) (w : SpoolWork) → answered i (writer i) w ≡ ends_found w
-writer_answered i w =
+-- and the writer's
+writer_is : (deck : List JobData) (i : ℕ) → task deck i (writer i) ≡ writing (spool_setup deck i) (length deck)
+writer_is deck i =
     rw (ne_eqb (writer i) reader (λ e. omega arith), ne_eqb (writer i) scheduler (λ e. omega arith), eq-eqb (writer i) (writer i) refl) refl
+
+module _ (s : SpoolFace) (config : s.board.config ≡ spool_setup s.jobs s.initiators) (t u : CallerFace) where
+  -- what the plan says of it
+  plan_made : (r : Role) → HasWorked s r t u → RanOut (task s.jobs s.initiators t.number) (ends_in r) t u
+  plan_made role.Reader made =
+      subst (λ k. RanOut (task s.jobs s.initiators k) [] t u) (sym made.0)
+      (subst (λ (c : Setup). RanOut (reading c (length s.jobs)) [] t u) config made.1)
+  plan_made (role.Scheduler stage) made =
+      subst (λ k. RanOut (task s.jobs s.initiators k) [] t u) (sym made.0)
+      (subst (λ (c : Setup). RanOut (scheduling c s.initiators s.jobs) [] t u) config made.1)
+  plan_made (role.Initiator me stage) made =
+      subst (λ k. RanOut (task s.jobs s.initiators k) [] t u) (sym made.0)
+      (subst (λ call. RanOut call [] t u) (sym (initiator_is s.jobs s.initiators me.index made.1))
+      (forgets (spool_setup s.jobs s.initiators) s.jobs me.index
+      (subst (λ (c : Setup). RanOut (initiating_noted c s.jobs me.index) me.noted.jobs t u) config made.2)))
+  plan_made (role.Writer ends job) made =
+      subst (λ k. RanOut (task s.jobs s.initiators k) ends.items t u) (sym made.0)
+      (subst (λ call. RanOut call ends.items t u) (sym (writer_is s.jobs s.initiators))
+      (subst (λ (c : Setup). RanOut (writing c (length s.jobs)) ends.items t u) config made.1))
+
+  -- what an initiator of this number noted
+  initiator_made : (m : ℕ) → t.number ≡ initiator m → m < s.initiators → (r : Role) → HasWorked s r t u
+      → RanOut (initiating_noted (spool_setup s.jobs s.initiators) s.jobs m) (noted_in r) t u
+  initiator_made m is lt role.Reader made = absurd (let e = made.0 in omega arith)
+  initiator_made m is lt (role.Scheduler stage) made = absurd (let e = made.0 in omega arith)
+  initiator_made m is lt (role.Initiator me stage) made =
+      subst (λ k. RanOut (initiating_noted (spool_setup s.jobs s.initiators) s.jobs k) me.noted.jobs t u)
+      (let e : me.index ≡ m = (let own = made.0 in omega arith) in e)
+      (subst (λ (c : Setup). RanOut (initiating_noted c s.jobs me.index) me.noted.jobs t u) config made.2)
+  initiator_made m is lt (role.Writer ends job) made = absurd (let e = made.0 in omega arith)
+
+-- the role of a task that has worked is that of its number
+role_is : (s : SpoolFace) (t u : CallerFace) (r : Role) → HasWorked s r t u → IsRole s.initiators t.number r
+role_is s t u role.Reader made = made.0
+role_is s t u (role.Scheduler stage) made = made.0
+role_is s t u (role.Initiator me stage) made = (made.0, made.1)
+role_is s t u (role.Writer ends job) made = made.0
 
 -- ---- all tasks
 
@@ -119,12 +130,8 @@ pub first_of : {A : Type 0} (xs : List A) → 0 < length xs → A
 first_of [] some = absurd (omega arith)
 first_of (x ∷ xs) some = x
 
-module _ (deck : List JobData) (i : ℕ) (b : BoardFace) (works : List SpoolWork) (tasks : List CallerFace) (closed : Closed) (some : 1 ≤ i)
-    (sound : deck_is.IsSound deck i) (config : b.config ≡ spool_setup deck i) (legal : Legal b.config closed.history.coming)
-    (within : AllByRecursion (IsIn b.config closed.history.coming) tasks) (worked : AreWorked deck i b works tasks) where
-  abbrev es : List Entry
-  es = closed.history.coming
-
+-- what tasks of a spool brought back, that have all worked
+module _ (s : SpoolFace) (works : List SpoolWork) (tasks : List CallerFace) (worked : AreWorked s works tasks) where
   -- where none is to be read, the first is
   first_work : SpoolWork
   first_work = first_of works (let size = worked.works in omega arith)
@@ -138,106 +145,140 @@ module _ (deck : List JobData) (i : ℕ) (b : BoardFace) (works : List SpoolWork
   abbrev back : ℕ → CallerFace
   back k = get_or tasks k first_task
 
-  one : (k : ℕ) → k < i + 3 → IsWorked deck i k b (work k) (back k)
+  one : (k : ℕ) → k < s.initiators + 3 → IsWorked s k (work k) (back k)
   one k lt = worked.each k first_work first_task lt
 
-  made : (k : ℕ) (lt : k < i + 3) → HasWorked (spool_setup deck i) deck i (work k) (one k lt).before (back k)
-  made k lt = subst (λ (c : Setup). HasWorked c deck i (work k) (one k lt).before (back k)) config (one k lt).come.1
-
-  part : (k : ℕ) → k < i + 3 → IsIn (spool_setup deck i) es (back k)
-  part k lt = subst (λ (c : Setup). IsIn c es (back k)) config
-      (one_of (IsIn b.config es) tasks k first_task within (let size = worked.tasks in omega arith))
-
-  -- a call of the task of number k: it heard just the events that it made
-  module _ {A : Type 0} (call : Call A) (q : Program A) (k : ℕ) (lt : k < i + 3) (r : Ran call q (one k lt).before (back k)) where
-    heard : heard_in (spool_setup deck i) k es ≡ r.events
-    heard =
-        let w = one k lt in
-        let u = back k in
-        let number : u.number ≡ k = w.come.0.number ∙ w.fresh.number in
-        ap (λ n. heard_in (spool_setup deck i) n es) (sym number)
-        ∙ ap (λ log. noted log (told_to (spool_setup deck i) u.number es)) (part k lt).logged
-        ∙ ap (λ ws. noted u.log ws) (part k lt).told
-        ∙ heard_of call q w.before u r w.fresh.log w.fresh.told
-
-    -- it began with nothing kept
-    begun : kept_of (one k lt).before.number (one k lt).before.log ≡ nothing_kept k
-    begun =
-        let w = one k lt in ap (λ log. kept_of w.before.number log) w.fresh.log ∙ ap nothing_kept w.fresh.number
-
-    comes_to : left (call (nothing_kept k)) (heard_in (spool_setup deck i) k es) ≡ q
-    comes_to = ap (λ hs. left (call (nothing_kept k)) hs) heard ∙ ap (λ kept. left (call kept) r.events) (sym begun) ∙ r.leaves
-
-    says_so : Says (call (nothing_kept k)) (heard_in (spool_setup deck i) k es)
-    says_so = subst (λ hs. Says (call (nothing_kept k)) hs) (sym heard) (subst (λ kept. Says (call kept) r.events) begun r.says)
-
-  -- what the plan says of each task
-  plan_of : (k : ℕ) (lt : k < i + 3) → RanOut (task deck i k) (answered i k (work k)) (one k lt).before (back k)
-  plan_of k lt =
+  role_at : (k : ℕ) → k < s.initiators + 3 → IsRole s.initiators k (work k).role
+  role_at k lt =
       let w = one k lt in
-      subst (λ n. RanOut (task deck i n) (answered i n (work k)) w.before (back k)) w.fresh.number
-      (plan_made deck i (work k) w.before (back k) (made k lt))
+      subst (λ n. IsRole s.initiators n (work k).role) w.fresh.number (role_is s w.before (back k) (work k).role w.come.1)
 
-  follows : Follows deck i es
-  follows =
-      let own = subst (λ (c : Setup). Legal c es) config legal in record {
-        legal = own;
-        callers = callers_exist (spool_setup deck i) (opening (spool_setup deck i)) es own;
-        says = λ k lt. says_so (task deck i k) (plan_of k lt).last k lt (plan_of k lt).ran;
-        waits = λ k lt early.
-            subst (IsOver (answered i k (work k))) (sym (comes_to (task deck i k) (plan_of k lt).last k lt (plan_of k lt).ran) ∙ early)
-            (plan_of k lt).over;
-      }
-
-  -- since no task goes wrong, all are done
-  done_at : (k : ℕ) → k < i + 3 → left_in (spool_setup deck i) (task_program deck i) k es ≡ Done (answered i k (work k))
-  done_at k lt =
-      let comes = comes_to (task deck i k) (plan_of k lt).last k lt (plan_of k lt).ran in
-      comes ∙ is_done (answered i k (work k)) (plan_of k lt).last (plan_of k lt).over
-      (λ wrong. none_wrong deck i some (planned deck i sound) es follows k lt (comes ∙ wrong))
-
-  -- an initiator's part of the history says what it noted
-  records_said : (m : ℕ) → m < i → left (initiating_noted (spool_setup deck i) deck m (nothing_kept (initiator m)))
-      (heard_in (spool_setup deck i) (initiator m) es) ≡ Done (records (work (initiator m)))
-  records_said m low =
-      let c = spool_setup deck i in
-      let k = initiator m in
-      let lt : k < i + 3 = omega arith in
-      let w = one k lt in
-      let hs = heard_in c k es in
-      let kept = nothing_kept k in
-      let r = initiator_made deck i m (work k) w.before (back k) w.fresh.number low (made k lt) in
-      let comes = comes_to (initiating_noted c deck m) r.last k lt r.ran in
-      let plan = subst (λ call. left (call kept) hs ≡ Done (answered i k (work k))) (initiator_is deck i m low) (done_at k lt) in
-      let noted = done_noted c deck m kept hs (answered i k (work k)) plan in
-      noted.1 ∙ ap (λ rs. Done rs) (subst (IsOver (records (work k))) (sym comes ∙ noted.1) r.over)
-
-  -- so the history is a run, and what the tasks brought back is what their parts of it say
-  pub is_left : (brought : Brought) → closed.history.config ≡ b.config → closed.history.past ≡ [] → length es ≤ events_limit
-      → AreHeld b.config (after b.config es) closed.volumes
-      → map (λ r. r.jobs) brought.records.items ≡ drop 2 (map records (take (length works - 1) works))
-      → ((d : SpoolWork) → brought.ends.items ≡ ends_found (get_or works (length works - 1) d)) → IsLeft deck i closed brought
-  is_left brought own whole few held noted ends =
+  -- the last work is the writer's
+  pub works_end : (d : SpoolWork) → IsWriter (get_or works (length works - 1) d).role
+  works_end d =
       let size = worked.works in
-      let front : List SpoolWork = take (length works - 1) works in
-      let count : length front ≡ length works - 1 = length-take-le (length works - 1) works (omega arith) in record {
-        config = own ∙ config;
-        whole = whole;
-        few = few;
-        of_run = record {
-          run = record { follow = follows; done = λ k lt. (answered i k (work k), done_at k lt) };
-          volumes = subst (λ (c : Setup). AreHeld c (after c es) closed.volumes) config held;
-          records = record {
-            count = ap (λ (rs : List (List JobRecord)). length rs) noted ∙ length-drop 2 (map records front)
-                ∙ ap (λ n. n - 2) (length-map front records) ∙ (let e : length front - 2 ≡ i = omega arith in e);
-            each = λ m lt. records_said m lt ∙ ap (λ (rs : List JobRecord). Done rs)
-                (sym (ap (λ (rs : List (List JobRecord)). get_or rs m []) noted ∙ get_or-drop 2 (map records front) m []
-                ∙ get_or-map records front (2 + m) first_work [] (omega arith)
-                ∙ ap records (get_or-take (length works - 1) works (2 + m) first_work (omega arith))
-                ∙ ap (λ k. records (get_or works k first_work)) (let e : 2 + m ≡ initiator m = omega arith in e)));
+      let last : length works - 1 ≡ writer s.initiators = omega arith in
+      let at = role_at (writer s.initiators) (omega arith) in
+      subst (λ (w : SpoolWork). IsWriter w.role)
+      (get_or_default works (writer s.initiators) first_work d (omega arith) ∙ ap (λ k. get_or works k d) (sym last))
+      (last_writes s.initiators (work (writer s.initiators)).role at)
+
+  module _ (closed : Closed) (some : 1 ≤ s.initiators)
+      (sound : deck_is.IsSound s.jobs s.initiators) (config : s.board.config ≡ spool_setup s.jobs s.initiators)
+      (legal : Legal s.board.config closed.history.coming) (within : AllByRecursion (IsIn s.board.config closed.history.coming) tasks) where
+    abbrev es : List Entry
+    es = closed.history.coming
+
+    abbrev setup : Setup
+    setup = spool_setup s.jobs s.initiators
+
+    part : (k : ℕ) → k < s.initiators + 3 → IsIn setup es (back k)
+    part k lt = subst (λ (c : Setup). IsIn c es (back k)) config
+        (one_of (IsIn s.board.config es) tasks k first_task within (let size = worked.tasks in omega arith))
+
+    -- a call of the task of number k: it heard just the events that it made
+    module _ {A : Type 0} (call : Call A) (q : Program A) (k : ℕ) (lt : k < s.initiators + 3) (r : Ran call q (one k lt).before (back k))
+      where
+        heard : heard_in setup k es ≡ r.events
+        heard =
+            let w = one k lt in
+            let u = back k in
+            let number : u.number ≡ k = w.come.0.number ∙ w.fresh.number in
+            ap (λ n. heard_in setup n es) (sym number)
+            ∙ ap (λ log. noted log (told_to setup u.number es)) (part k lt).logged
+            ∙ ap (λ ws. noted u.log ws) (part k lt).told
+            ∙ heard_of call q w.before u r w.fresh.log w.fresh.told
+
+        -- it began with nothing kept
+        begun : kept_of (one k lt).before.number (one k lt).before.log ≡ nothing_kept k
+        begun =
+            let w = one k lt in ap (λ log. kept_of w.before.number log) w.fresh.log ∙ ap nothing_kept w.fresh.number
+
+        comes_to : left (call (nothing_kept k)) (heard_in setup k es) ≡ q
+        comes_to = ap (λ hs. left (call (nothing_kept k)) hs) heard ∙ ap (λ kept. left (call kept) r.events) (sym begun) ∙ r.leaves
+
+        says_so : Says (call (nothing_kept k)) (heard_in setup k es)
+        says_so = subst (λ hs. Says (call (nothing_kept k)) hs) (sym heard) (subst (λ kept. Says (call kept) r.events) begun r.says)
+
+    -- what the plan says of each task
+    plan_of : (k : ℕ) (lt : k < s.initiators + 3)
+        → RanOut (task s.jobs s.initiators k) (ends_in (work k).role) (one k lt).before (back k)
+    plan_of k lt =
+        let w = one k lt in
+        subst (λ n. RanOut (task s.jobs s.initiators n) (ends_in (work k).role) w.before (back k)) w.fresh.number
+        (plan_made s config w.before (back k) (work k).role w.come.1)
+
+    follows : Follows s.jobs s.initiators es
+    follows =
+        let own = subst (λ (c : Setup). Legal c es) config legal in record {
+          legal = own;
+          callers = callers_exist setup (opening setup) es own;
+          says = λ k lt. says_so (task s.jobs s.initiators k) (plan_of k lt).last k lt (plan_of k lt).ran;
+          waits = λ k lt early.
+              subst (IsOver (ends_in (work k).role))
+              (sym (comes_to (task s.jobs s.initiators k) (plan_of k lt).last k lt (plan_of k lt).ran) ∙ early)
+              (plan_of k lt).over;
+        }
+
+    -- since no task goes wrong, all are done
+    done_at : (k : ℕ) → k < s.initiators + 3 → left_in setup (task_program s.jobs s.initiators) k es ≡ Done (ends_in (work k).role)
+    done_at k lt =
+        let comes = comes_to (task s.jobs s.initiators k) (plan_of k lt).last k lt (plan_of k lt).ran in
+        comes ∙ is_done (ends_in (work k).role) (plan_of k lt).last (plan_of k lt).over
+        (λ wrong. none_wrong s.jobs s.initiators some (planned s.jobs s.initiators sound) es follows k lt (comes ∙ wrong))
+
+    -- an initiator's part of the history says what it noted
+    records_said : (m : ℕ) → m < s.initiators → left (initiating_noted setup s.jobs m (nothing_kept (initiator m)))
+        (heard_in setup (initiator m) es) ≡ Done (noted_in (work (initiator m)).role)
+    records_said m low =
+        let k = initiator m in
+        let lt : k < s.initiators + 3 = omega arith in
+        let w = one k lt in
+        let hs = heard_in setup k es in
+        let kept = nothing_kept k in
+        let ends = ends_in (work k).role in
+        let r = initiator_made s config w.before (back k) m w.fresh.number low (work k).role w.come.1 in
+        let comes = comes_to (initiating_noted setup s.jobs m) r.last k lt r.ran in
+        let plan = subst (λ call. left (call kept) hs ≡ Done ends) (initiator_is s.jobs s.initiators m low) (done_at k lt) in
+        let noted = done_noted setup s.jobs m kept hs ends plan in
+        noted.1 ∙ ap (λ rs. Done rs) (subst (IsOver (noted_in (work k).role)) (sym comes ∙ noted.1) r.over)
+
+    -- so the history is a run, and what the tasks brought back is what their parts of it say
+    pub are_results : (results : RunResults) → results.closed ≡ closed → closed.history.config ≡ s.board.config
+        → closed.history.past ≡ [] → length es ≤ events_limit → AreHeld s.board.config (after s.board.config es) closed.volumes
+        → map (λ r. r.jobs) results.records.items ≡ records (take (length works - 1) works)
+        → ((d : SpoolWork) → results.ends.items ≡ ends_in (get_or works (length works - 1) d).role)
+        → AreResults s.jobs s.initiators results
+    are_results results same own whole few held noted ends =
+        let size = worked.works in
+        let front : List SpoolWork = take (length works - 1) works in
+        let count : length front ≡ s.initiators + 2 = length-take-le (length works - 1) works (omega arith) ∙ (let e : length works - 1
+        ≡ s.initiators + 2 = omega arith in e) in
+        let all = noted ∙ records_front s.initiators front count (λ k d lt.
+        subst (λ (w : SpoolWork). IsRole s.initiators k w.role)
+        (get_or_default works k first_work d (omega arith) ∙ sym (get_or-take (length works - 1) works k d (omega arith)))
+        (role_at k (omega arith))) in
+        rw same (record {
+          config = own ∙ config;
+          whole = whole;
+          few = few;
+          of_run = record {
+            run = record { follow = follows; done = λ k lt. (ends_in (work k).role, done_at k lt) };
+            volumes = subst (λ (c : Setup). AreHeld c (after c es) closed.volumes) config held;
+            records = record {
+              count = ap (λ (rs : List (List JobRecord)). length rs) all
+                  ∙ length-drop 2 (map (λ (w : SpoolWork). noted_in w.role) front)
+                  ∙ ap (λ n. n - 2) (length-map front (λ (w : SpoolWork). noted_in w.role))
+                  ∙ (let e : length front - 2 ≡ s.initiators = omega arith in e);
+              each = λ m lt. records_said m lt ∙ ap (λ (rs : List JobRecord). Done rs)
+                  (sym (ap (λ (rs : List (List JobRecord)). get_or rs m []) all
+                  ∙ get_or-drop 2 (map (λ (w : SpoolWork). noted_in w.role) front) m []
+                  ∙ get_or-map (λ (w : SpoolWork). noted_in w.role) front (2 + m) first_work [] (omega arith)
+                  ∙ ap (λ (w : SpoolWork). noted_in w.role) (get_or-take (length works - 1) works (2 + m) first_work (omega arith))
+                  ∙ ap (λ k. noted_in (get_or works k first_work).role) (let e : 2 + m ≡ initiator m = omega arith in e)));
+            };
+            ends = done_at (writer s.initiators) (omega arith) ∙ ap (λ (es : List ℕ). Done es)
+                (sym (ends first_work ∙ ap (λ k. ends_in (get_or works k first_work).role)
+                (let e : length works - 1 ≡ writer s.initiators = omega arith in e)));
           };
-          ends = done_at (writer i) (omega arith) ∙ ap (λ (es : List ℕ). Done es) (writer_answered i (work (writer i))
-              ∙ sym (ends first_work ∙ ap (λ k. ends_found (get_or works k first_work))
-              (let e : length works - 1 ≡ writer i = omega arith in e)));
-        };
-      }
+        })

@@ -16,11 +16,13 @@ pub mod Dispatching
 -- an initiator
 pub mod Steps
 pub mod Rounds
--- a task that goes on
+-- a task that has come to its next wait, in its role
 pub mod Going
 -- whoever runs tasks
 pub mod Meeting
 -- what the initiators of a run bring back
 pub mod brought
+-- the works of all tasks, by their roles
+pub mod Roles
 -- from what each task has made to the run that they made together
 pub mod Histories

@@ -1,14 +1,11 @@
 -- From what a task waits for, and how that was met, to what it was told. For whoever runs tasks.
-use Rattle.std.proofs.Common.{◌≡◌, ℕ, ◌+◌, ◌-◌, ◌*◌, ◌<◌, ◌≤◌, List, [], length, Option, Some, None, Result, sym, ◌∙◌, subst, arith}
-use Rattle.std.proofs.lemmas.Bool.{eq-eqb, ne_eqb}
-use Rattle.mv_board.specs.Faces.{BoardFace, CallerFace, IsSame}
+use Rattle.std.proofs.Common.{◌≡◌, ℕ, ◌+◌, ◌*◌, ◌<◌, ◌≤◌, [], Option, Some, None, Result, sym, ◌∙◌, subst, arith}
+use Rattle.mv_board.specs.Faces.{CallerFace, IsSame}
 use Rattle.mv_machine.specs.Setup.{Setup, element_count}
 use Rattle.mv_calls.specs.Keeping.{kept_of}
 use Rattle.mv_calls.specs.Program.{Call, Program, Done, Wrong, accepted, unrefused}
 use Rattle.mv_calls.specs.Refusal.{Refusal}
-use Rattle.mv_deck.specs.Deck.{JobData}
 use Rattle.mv_plan.specs.SpoolSetup.{initiator, scheduler, spool_setup, writer}
-use Rattle.mv_plan.specs.SpoolTasks.{reading, scheduling, writing}
 use Rattle.mv_wait.proofs.Runs.{same_then}
 use Rattle.mv_wait.specs.Run.{IsServed}
 use Rattle.mv_work.specs.declared.need.Got.{Got}
@@ -18,38 +15,18 @@ use Rattle.mv_work.specs.declared.need.Need.TheVariants as need
 use Rattle.mv_work.specs.declared.initiator.Initiator.{Initiator}
 use Rattle.mv_work.specs.declared.stage.InitiatorStage.{InitiatorStage}
 use Rattle.mv_work.specs.declared.stage.InitiatorStage.TheVariants as at
-use Rattle.mv_work.specs.declared.stage.Stage.{Stage}
-use Rattle.mv_work.specs.declared.stage.Stage.TheVariants as stage
-use Rattle.mv_work.specs.declared.work.SpoolWork.{SpoolWork}
+use Rattle.mv_work.specs.declared.work.Role.{Role}
+use Rattle.mv_work.specs.declared.work.Role.TheVariants as role
 use Rattle.mv_work.specs.Initiating.{IsInitiatorAnswer, IsInitiatorNeed}
 use Rattle.mv_work.specs.Meeting.{IsAnswerTo, MayMeet}
 use Rattle.mv_work.specs.Needs.{Answer, answer_of, need_call, need_events}
-use Rattle.mv_work.specs.Noting.{initiating_noted}
 use Rattle.mv_work.specs.Ran.{Ran, RanOut}
 use Rattle.mv_work.specs.Scheduling.{AreBlocks, AreSlots}
-use Rattle.mv_work.specs.Spool.{SpoolFace, spool_of}
+use Rattle.mv_work.specs.Spool.{SpoolFace}
 use Rattle.mv_work.specs.Waiting.{IsResting, Stages, Told, Waits}
-use Rattle.mv_work.specs.Works.{HasCome, HasWorked, ToldAt, WaitsAt, ends_found, records}
+use Rattle.mv_work.specs.Works.{HasComeAs, HasWorked, ToldAs, WaitsAs}
 use Rattle.mv_work.proofs.Runs.{leads_astray, out_wrong, ran_last, served_as}
 use Rattle.mv_work.proofs.Waits.{rests_less, told_answer}
-
--- ---- what a task of each number has made
-
-module _ (c : Setup) (deck : List JobData) (i : ℕ) (w : SpoolWork) {t u : CallerFace} where
-  pub reader_worked : t.number ≡ 0 → RanOut (reading c (length deck)) [] t u → HasWorked c deck i w t u
-  reader_worked is x = rw (eq-eqb t.number 0 is) x
-
-  pub scheduler_worked : t.number ≡ 1 → RanOut (scheduling c i deck) [] t u → HasWorked c deck i w t u
-  scheduler_worked is x = rw (ne_eqb t.number 0 (omega arith), eq-eqb t.number 1 is) x
-
-  pub writer_worked : t.number ≡ i + 2 → RanOut (writing c (length deck)) (ends_found w) t u → HasWorked c deck i w t u
-  writer_worked is x = rw (ne_eqb t.number 0 (omega arith), ne_eqb t.number 1 (omega arith), eq-eqb t.number (i + 2) is) x
-
-  pub initiator_worked : (me : ℕ) → me < i → t.number ≡ me + 2 → RanOut (initiating_noted c deck me) (records w) t u
-      → HasWorked c deck i w t u
-  initiator_worked me lt is x =
-      rw (ne_eqb t.number 0 (omega arith), ne_eqb t.number 1 (omega arith), ne_eqb t.number (i + 2) (omega arith))
-      (subst (λ m. RanOut (initiating_noted c deck m) (records w) t u) (let e : me ≡ t.number - 2 = omega arith in e) x)
 
 -- ---- a need was met
 
@@ -87,50 +64,52 @@ own_index sp me (at.Latch r) (need.Latch latch requestor mode) fits = fits.0.0.a
 own_index sp me s n fits = absurd fits
 
 -- the call of what the task waits for may be made; behind an answer the task was told that, and otherwise it has worked
-pub record CanMeet (b : BoardFace) (deck : List JobData) (i : ℕ) (w : SpoolWork) (t : CallerFace) (n : Need) (u : CallerFace)
-    (o : Option Stage) : Type 0 where
+pub record CanMeet (sp : SpoolFace) (r : Role) (t : CallerFace) (n : Need) (u : CallerFace) : Type 0 where
   pub same : IsSame t u
-  pub rests : IsResting b (need_events n) u
-  pub may : MayMeet b.config u.number n
-  pub told : (g : Got) (v : CallerFace) → IsAnswerTo n g → Ran (need_call b.config n) (Done (answer_of g)) u v
-      → u.left ≤ v.left + need_events n → ToldAt b deck i w o t g v
-  pub lost : (v : CallerFace) → Ran (need_call b.config n) Wrong u v → HasCome b deck i w t None v
+  pub rests : IsResting sp.board (need_events n) u
+  pub may : MayMeet sp.board.config u.number n
+  pub told : (g : Got) (v : CallerFace) → IsAnswerTo n g → Ran (need_call sp.board.config n) (Done (answer_of g)) u v
+      → u.left ≤ v.left + need_events n → ToldAs sp r t g v
+  pub lost : (v : CallerFace) → Ran (need_call sp.board.config n) Wrong u v → HasComeAs sp r t None v
 
-module _ (b : BoardFace) (deck : List JobData) (i : ℕ) (w : SpoolWork) (t : CallerFace) (n : Need) (u : CallerFace) where
+module _ (sp : SpoolFace) (t : CallerFace) (n : Need) (u : CallerFace) where
   ready : {S A : Type 0} {stages : Stages S A} {Fits : S → Need → Type 0} {Answers : S → Got → Type 0} {whole : Call A} {s : S} (a : A)
-      (o : Option Stage) (k : ℕ) → t.number ≡ k → Waits b stages Fits whole t s n u → (Fits s n → MayMeet b.config k n)
+      (r : Role) (k : ℕ) → t.number ≡ k → Waits sp.board stages Fits whole t s n u → (Fits s n → MayMeet sp.board.config k n)
       → ((g : Got) → IsAnswerTo n g → Fits s n → Answers s g)
-      → ((g : Got) (v : CallerFace) → Told b stages Answers whole t s g v → ToldAt b deck i w o t g v)
-      → ((v : CallerFace) → RanOut whole a t v → HasWorked b.config deck i w t v) → CanMeet b deck i w t n u o
-  ready {stages = stages} {s = s} a o k is x may answers told worked = record {
+      → ((g : Got) (v : CallerFace) → Told sp.board stages Answers whole t s g v → ToldAs sp r t g v)
+      → ((v : CallerFace) → RanOut whole a t v → HasWorked sp r t v) → CanMeet sp r t n u
+  ready {stages = stages} {s = s} a r k is x may answers told worked = record {
     same = x.same;
     rests = rests_less x.rests (omega arith);
-    may = subst (λ k. MayMeet b.config k n) (sym (x.same.number ∙ is)) (may x.fits);
-    told = λ g v is r few. told g v (told_answer g (answers g is) x r few);
-    lost = λ v r. (same_then t u v x.same r.went.same, worked v (out_wrong a (leads_astray (stages.then s) x.leads r)));
+    may = subst (λ k. MayMeet sp.board.config k n) (sym (x.same.number ∙ is)) (may x.fits);
+    told = λ g v is ran few. told g v (told_answer g (answers g is) x ran few);
+    lost = λ v ran. (same_then t u v x.same ran.went.same, worked v (out_wrong a (leads_astray (stages.then s) x.leads ran)));
   }
 
-  ready_at : (o : Option Stage) → b.config ≡ spool_setup deck i → WaitsAt b deck i w o t n u → CanMeet b deck i w t n u o
-  ready_at None is at = absurd at
-  ready_at (Some (stage.Scheduler s)) is at =
-      ready [] (Some (stage.Scheduler s)) scheduler at.0 at.1 (λ fits. fits.may)
-      (λ g to fits. record { numbers = fits.numbers; slots = slots_are b.config scheduler _ n g to fits.blocks fits.may })
+  -- so it is of a task that waits in its role
+  pub waits_ready : (r : Role) → sp.board.config ≡ spool_setup sp.jobs sp.initiators → WaitsAs sp r t n u → CanMeet sp r t n u
+  waits_ready role.Reader is at = absurd at
+  waits_ready (role.Scheduler None) is at = absurd at
+  waits_ready (role.Scheduler (Some s)) is at =
+      ready [] (role.Scheduler (Some s)) scheduler at.0 at.1 (λ fits. fits.may)
+      (λ g to fits. record { numbers = fits.numbers; slots = slots_are sp.board.config scheduler _ n g to fits.blocks fits.may })
       (λ g v x. (at.0, x))
-      (λ v x. scheduler_worked b.config deck i w at.0 x)
-  ready_at (Some (stage.Initiator s)) is at =
-      let sp = spool_of b deck i in
-      let me = w.initiator in
-      ready (records w) (Some (stage.Initiator s)) (initiator me.index) at.0 at.1 (own_there sp me s n is) (initiator_is sp me s n)
+      (λ v x. (at.0, x))
+  waits_ready (role.Initiator me None) is at = absurd at
+  waits_ready (role.Initiator me (Some s)) is at =
+      ready me.noted.jobs (role.Initiator me (Some s)) (initiator me.index) at.0 at.1 (own_there sp me s n is) (initiator_is sp me s n)
       (λ g v x. (at.0, x))
-      (λ v x. initiator_worked b.config deck i w me.index (own_index sp me s n at.1.fits) at.0 x)
-  ready_at (Some (stage.Writer j)) is at =
-      ready (ends_found w) (Some (stage.Writer j)) (writer i) at.0 at.1 (λ fits. fits.may)
-      (λ g to fits. record { number = fits.number; room = fits.room; slot = slots_are b.config (writer i) None n g to fits.block fits.may })
+      (λ v x. (at.0, own_index sp me s n at.1.fits, x))
+  waits_ready (role.Writer ends None) is at = absurd at
+  waits_ready (role.Writer ends (Some j)) is at =
+      ready ends.items (role.Writer ends (Some j)) (writer sp.initiators) at.0 at.1 (λ fits. fits.may)
+      (λ g to fits. record {
+        number = fits.number;
+        room = fits.room;
+        slot = slots_are sp.board.config (writer sp.initiators) None n g to fits.block fits.may;
+      })
       (λ g v x. (at.0, x))
-      (λ v x. writer_worked b.config deck i w at.0 x)
-
-  pub waits_ready : b.config ≡ spool_setup deck i → HasCome b deck i w t (Some n) u → CanMeet b deck i w t n u w.stage
-  waits_ready is at = ready_at w.stage is at
+      (λ v x. (at.0, x))
 
 -- ---- how the calls of the services meet needs
 

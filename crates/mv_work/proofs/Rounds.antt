@@ -138,7 +138,8 @@ module _ (s : SpoolFace) (me : Initiator) (r : Running) where
 
   -- a job, once its steps are done
   job_ends : (call : Call JobRecord)
-      → followed (followed call (λ n. followed (end_of_job s.board.config (r.job + 1) (done (length s.jobs) r.job) n.end) (λ counts. finished n)))
+      → followed
+      (followed call (λ n. followed (end_of_job s.board.config (r.job + 1) (done (length s.jobs) r.job) n.end) (λ counts. finished n)))
       (λ n. rounds_noted s.board.config s.jobs me.index (rounds_after s r.round.number) (me.noted.jobs ++ n ∷ []) r.round.next)
       ≡ followed call (steps_then s me r)
   job_ends call =

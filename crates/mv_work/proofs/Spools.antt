@@ -1,36 +1,26 @@
 -- A spool: its blocks, and how far posts lead in its configuration.
-use Rattle.std.proofs.Common.{◌≡◌, ℕ, ◌+◌, ◌*◌, ◌<◌, ◌≤◌, List, [], length, get_or, sym, ap, ◌∙◌}
+use Rattle.std.proofs.Common.{rules, ◌≡◌, ℕ, ◌+◌, ◌*◌, ◌<◌, ◌≤◌, [], length, get_or, ap, ◌∙◌}
 use Rattle.std.proofs.Common.{true, subst, arith}
 use Rattle.std.specs.List.{AllByRecursion}
-use Rattle.mv_board.specs.Faces.{BoardFace}
-use Rattle.mv_deck.specs.declared.deck.Job.{Job}
+use Rattle.mv_board.specs.Faces.{CallerFace, IsFresh}
 use Rattle.mv_deck.specs.declared.deck.After.{After}
 use Rattle.mv_deck.specs.Operand.{most_after}
 use Rattle.mv_deck.specs.Sound.{HasGoodNumbers}
 use Rattle.mv_machine.specs.Reach.{reach, release_cost}
 use Rattle.mv_machine.specs.Setup.{Setup, is_exit_of, owner_of}
 use Rattle.mv_plan.specs.Jobs.{job_at}
-use Rattle.mv_plan.specs.SpoolSetup.{block_owners, done}
+use Rattle.mv_plan.specs.SpoolSetup.{block_owners, done, task_budgets}
 use Rattle.mv_plan.proofs.deck.Ends.{sound_job}
 use Rattle.mv_plan.proofs.deck.Planned.{planned, IsPlannedJob}
 use Rattle.mv_plan.proofs.deck.Setup.{exit_source}
 use Rattle.mv_machine.proofs.Lists.{all_map}
 use Rattle.mv_work.specs.declared.need.Need.TheVariants as need
 use Rattle.mv_work.specs.Meeting.{MayMeet}
-use Rattle.mv_work.specs.Parts.{jobs_of}
-use Rattle.mv_work.specs.Spool.{IsSpool, SpoolFace, spool_of}
-use Rattle.mv_work.specs.Waiting as parts
-use Rattle.mv_work.proofs.Decks.{job_count, numbers_of}
+use Rattle.mv_work.specs.Spool.{IsSpool, SpoolFace}
+use Rattle.mv_work.specs.Steps.{BearsSteps}
+use Rattle.mv_work.specs.Waiting.{IsResting}
+use Rattle.mv_work.proofs.Decks.{numbers_of}
 use Rattle.mv_work.proofs.Reaches.{block_count, reach_alone, reach_done, release_cost_is}
-
--- the parts make a spool
-pub spool_made : {b : BoardFace} {deck : List Job} {i : ℕ} → parts.IsSpool b deck i → IsSpool (spool_of b (jobs_of deck) i)
-spool_made {deck = deck} is = record {
-  few = (let n = job_count deck in let few = is.few in omega arith);
-  initiators = is.initiators;
-  sound = is.sound;
-  config = is.config;
-}
 
 module _ {s : SpoolFace} (spool : IsSpool s) where
   -- the numbers of a job's steps are in their ranges
@@ -82,3 +72,21 @@ module _ {s : SpoolFace} (spool : IsSpool s) where
       let purge : release_cost s.board.config ≡ 1 = ap release_cost spool.config ∙ release_cost_is s.jobs s.initiators in
       let post : reach s.board.config (done (length s.jobs) j) ≡ 3 = ap (λ c. reach c (done (length s.jobs) j)) spool.config
       ∙ reach_done s.jobs s.initiators j lt in omega arith
+
+  -- the configuration has what steps name
+  pub steps_borne : BearsSteps s.board.config
+  steps_borne = (
+    ap (λ (c : Setup). c.latches) spool.config,
+    ap (λ (c : Setup). c.volumes) spool.config,
+    ap release_cost spool.config ∙ release_cost_is s.jobs s.initiators,
+  )
+
+  -- a new task has the events of its budget
+  pub fresh_left : (k : ℕ) (t : CallerFace) → IsFresh s.board k t → t.left ≡ get_or (task_budgets s.jobs s.initiators) k 0
+  fresh_left k t fresh = fresh.left ∙ ap (λ (c : Setup). get_or c.budgets k 0) spool.config
+
+  -- and is at rest
+  pub fresh_rests : (k most : ℕ) (t : CallerFace) → IsFresh s.board k t → most ≤ get_or (task_budgets s.jobs s.initiators) k 0
+      → IsResting s.board most t
+  fresh_rests k most t fresh le =
+      record { board = fresh.board; quiet = search rules; left = (let left = fresh_left k t fresh in omega arith) }

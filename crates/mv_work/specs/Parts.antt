@@ -1,16 +1,10 @@
 -- Calls that are parts of the plan's tasks and have an answer of their own; and what the code's types say in the plan's words.
-use Rattle.std.specs.Prelude.{ℕ, ◌+◌, Bool, false, nat_lt, List, [], ◌∷◌, length, map, Option, Some, None}
+use Rattle.std.specs.Prelude.{ℕ, ◌+◌, Bool, false, nat_lt, List, [], ◌∷◌, Option, Some, None}
 use Rattle.mv_calls.specs.Program.{Call, finished, wrong}
 use Rattle.mv_deck.specs.declared.deck.After.{After}
-use Rattle.mv_deck.specs.declared.deck.Job.{Job}
-use Rattle.mv_deck.specs.Deck.{JobData, job_data}
 use Rattle.mv_plan.specs.SpoolTasks.{Named}
 use Rattle.mv_work.specs.declared.finding.Found.{Found}
 use Rattle.mv_work.specs.declared.running.Named as code
-
--- the jobs of a deck without where they lie in memory
-abbrev pub jobs_of : List Job → List JobData
-jobs_of jobs = map job_data jobs
 
 -- ---- waits
 

@@ -2,7 +2,6 @@
 use Rattle.std.specs.Prelude.{◌≡◌, ℕ, ◌+◌, ◌<◌, ◌==◌, ◌≤◌, Bool, List, [], ◌∷◌, length, filter, flat_map, fold, map, replicate, set}
 use Rattle.std.specs.Prelude.{Option, Some, slice_get, slice_index_or}
 use Rattle.std.specs.List.{AllByRecursion}
-use Rattle.mv_board.specs.declared.closing.Closed.{Closed}
 use Rattle.mv_board.specs.Faces.{AreHeld}
 use Rattle.mv_machine.specs.declared.entry.Entry.{Entry}
 use Rattle.mv_machine.specs.Legal.{after}
@@ -18,7 +17,7 @@ use Rattle.mv_plan.specs.Jobs.{job_at, end_of}
 use Rattle.mv_plan.specs.SpoolRun.{IsRun}
 use Rattle.mv_plan.specs.SpoolSetup.{spool_setup, initiator, writer}
 use Rattle.mv_plan.specs.SpoolTasks.{task_program}
-use Rattle.mv_work.specs.declared.bringing.Brought.{Brought}
+use Rattle.mv_work.specs.declared.results.RunResults.{RunResults}
 use Rattle.mv_work.specs.declared.records.Noted.{Noted}
 use Rattle.mv_work.specs.declared.records.Noted.TheVariants.{Printed, Scanned}
 use Rattle.mv_work.specs.Noting.{initiating_noted}
@@ -64,20 +63,21 @@ pub record AreBrought (deck : List JobData) (initiators : ℕ) (es : List Entry)
 abbrev pub all_records : List (List JobRecord) → List JobRecord
 all_records records = flat_map (λ rs. rs) records
 
--- what is left, and what tasks brought back, are of one run of the deck: what the initiators noted, and which ends the writer found
-pub record AreOfRun (deck : List JobData) (initiators : ℕ) (closed : Closed) (brought : Brought) : Type 0 where
-  pub run : IsRun deck initiators closed.history.coming
-  pub volumes : AreHeld (spool_setup deck initiators) (after (spool_setup deck initiators) closed.history.coming) closed.volumes
-  pub records : AreBrought deck initiators closed.history.coming (map (λ r. r.jobs) brought.records.items)
-  pub ends : left_in (spool_setup deck initiators) (task_program deck initiators) (writer initiators) closed.history.coming
-      ≡ Done brought.ends.items
+-- the results are of one run of the deck: what its board held, what the initiators noted, and which ends the writer found
+pub record AreOfRun (deck : List JobData) (initiators : ℕ) (results : RunResults) : Type 0 where
+  pub run : IsRun deck initiators results.closed.history.coming
+  pub volumes :
+      AreHeld (spool_setup deck initiators) (after (spool_setup deck initiators) results.closed.history.coming) results.closed.volumes
+  pub records : AreBrought deck initiators results.closed.history.coming (map (λ r. r.jobs) results.records.items)
+  pub ends : left_in (spool_setup deck initiators) (task_program deck initiators) (writer initiators) results.closed.history.coming
+      ≡ Done results.ends.items
 
--- what a closed run of the deck left, and what its tasks brought back
-pub record IsLeft (deck : List JobData) (initiators : ℕ) (closed : Closed) (brought : Brought) : Type 0 where
-  pub config : closed.history.config ≡ spool_setup deck initiators
-  pub whole : closed.history.past ≡ []
-  pub few : length closed.history.coming ≤ events_limit
-  pub of_run : AreOfRun deck initiators closed brought
+-- they are of a run that was closed, of which nothing was given yet
+pub record AreResults (deck : List JobData) (initiators : ℕ) (results : RunResults) : Type 0 where
+  pub config : results.closed.history.config ≡ spool_setup deck initiators
+  pub whole : results.closed.history.past ≡ []
+  pub few : length results.closed.history.coming ≤ events_limit
+  pub of_run : AreOfRun deck initiators results
 
 -- ---- the lines that records give
 

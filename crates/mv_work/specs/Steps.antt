@@ -3,18 +3,20 @@ use Rattle.std.specs.Prelude.{◌≡◌, ℕ, ◌+◌, ◌<◌, ◌≤◌, List,
 use Rattle.mv_board.specs.Faces.{CallerFace}
 use Rattle.mv_calls.specs.Program.{Done, Wrong}
 use Rattle.mv_deck.specs.declared.deck.Step.{Step}
-use Rattle.mv_deck.specs.declared.deck.Step.TheVariants.{Use}
+use Rattle.mv_deck.specs.declared.deck.Step.TheVariants.{Return, Use}
 use Rattle.mv_deck.specs.EndCode.{not_run}
 use Rattle.mv_deck.specs.Operand.{volume_count, highest_latch}
 use Rattle.mv_latchset.specs.declared.token.LatchToken.{LatchToken}
 use Rattle.mv_machine.specs.Reach.{release_cost}
 use Rattle.mv_machine.specs.Setup.{Setup}
+use Rattle.mv_plan.specs.Jobs.{job_at}
 use Rattle.mv_work.specs.declared.lost.Lost.{Lost}
 use Rattle.mv_work.specs.declared.records.Noted.{Noted}
 use Rattle.mv_work.specs.declared.running.Did.{Did}
 use Rattle.mv_work.specs.declared.running.Did.TheVariants as did
 use Rattle.mv_work.specs.Noting.{record_of, steps_noted}
 use Rattle.mv_work.specs.Ran.{Leads, Ran}
+use Rattle.mv_work.specs.Spool.{SpoolFace}
 
 -- the configuration has the latches and volumes that steps may name, and a release makes one event
 abbrev pub BearsSteps : Setup → Type 0
@@ -28,6 +30,10 @@ requests_of tokens latch = option_map (λ t. t.id) (slice_index_or tokens latch 
 pub record AreKept (tokens : List (Option LatchToken)) : Type 0 where
   pub count : length tokens ≡ volume_count
   pub own : (latch : ℕ) (t : LatchToken) → slice_index_or tokens latch None ≡ Some t → t.latch ≡ latch
+
+-- the step of a job at this place; what a place behind the last has says nothing
+abbrev pub step_at : SpoolFace → ℕ → ℕ → Step
+step_at s job place = slice_index_or (job_at s.jobs job).steps place (Return 0)
 
 -- The step at this place was done, whatever steps follow it: with what is noted now they are what is left to do; or the job has
 -- ended with this code; or it is a USE, whose latch is still to be obtained; or the task is lost.

@@ -1,30 +1,18 @@
 -- A task that waits, one that was told what it waited for, and one that has come to its next wait. A stage says where a task waits:
 -- what is left to do behind the answer, and how many events that may need. What a task of the spool waits for fits its stage.
-use Rattle.std.specs.Prelude.{◌≡◌, ℕ, ◌+◌, ◌≤◌, List, length, Result, Ok, Err}
+use Rattle.std.specs.Prelude.{◌≡◌, ℕ, ◌+◌, ◌≤◌, Option, Some, None, Result, Ok, Err}
 use Rattle.mv_board.specs.Faces.{BoardFace, CallerFace, IsOf, IsSame}
 use Rattle.mv_calls.specs.Keeping.{Kept}
 use Rattle.mv_calls.specs.Program.{Call, Done, Wrong, followed}
 use Rattle.mv_calls.specs.Rest.{IsAtRest}
-use Rattle.mv_deck.specs.declared.deck.Job.{Job}
-use Rattle.mv_deck.specs.Sound.{IsSound}
-use Rattle.mv_deck.specs.Weight.{most_initiators}
 use Rattle.mv_machine.specs.Setup.{Setup}
-use Rattle.mv_plan.specs.SpoolSetup.{jobs_limit, spool_setup}
 use Rattle.mv_work.specs.declared.lost.Lost.{Lost}
 use Rattle.mv_work.specs.declared.need.Got.{Got}
 use Rattle.mv_work.specs.declared.need.Need.{Need}
 use Rattle.mv_work.specs.declared.next.Next.{Next}
 use Rattle.mv_work.specs.declared.next.Next.TheVariants as next
 use Rattle.mv_work.specs.Needs.{Answer, answer_of, need_call, need_events}
-use Rattle.mv_work.specs.Parts.{jobs_of}
 use Rattle.mv_work.specs.Ran.{Leads, Ran}
-
--- the board is that of a deck which so many initiators can run
-pub record IsSpool (b : BoardFace) (deck : List Job) (i : ℕ) : Type 0 where
-  pub few : length deck ≤ jobs_limit
-  pub initiators : i ≤ most_initiators
-  pub sound : IsSound (jobs_of deck) i
-  pub config : b.config ≡ spool_setup (jobs_of deck) i
 
 -- a task of the board that is at rest, with so many events left
 pub record IsResting (b : BoardFace) (most : ℕ) (u : CallerFace) : Type 0 where
@@ -76,3 +64,15 @@ AsksFor c stages Fits a later most next.Done = (kept : Kept) → later kept ≡ 
 pub record Asks {S A : Type 0} (c : Setup) (stages : Stages S A) (Fits : S → Need → Type 0) (a : A) (later : Call A) (most : ℕ)
     (next : Next S) : Type 0 where
   pub asks : AsksFor c stages Fits a later most next
+
+-- where a task waits once it has come so far: at the next stage, or where it waited
+abbrev pub stage_then : {S : Type 0} → Option S → Result (Next S) Lost → Option S
+stage_then at (Ok (next.Wait s n)) = Some s
+stage_then at (Ok next.Done) = at
+stage_then at (Err lost) = at
+
+-- and what it waits for there, if anything
+abbrev pub need_of : {S : Type 0} → Result (Next S) Lost → Option Need
+need_of (Ok (next.Wait s n)) = Some n
+need_of (Ok next.Done) = None
+need_of (Err lost) = None

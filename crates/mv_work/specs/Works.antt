@@ -1,92 +1,138 @@
--- The work of a task: where it waits, and what it comes to. Jobs and initiators are counted from 0; tasks have their numbers.
-use Rattle.std.specs.Prelude.{◌≡◌, ℕ, ◌+◌, ◌-◌, ◌<◌, ◌≤◌, ◌==◌, false, List, [], length, vec_capacity, Option, Some, None, MatchBool}
+-- The work of a task: the role that it plays, where it waits, and what it comes to. Jobs and initiators are counted from 0; tasks have
+-- their numbers.
+use Rattle.std.specs.Prelude.{◌≡◌, ℕ, ◌+◌, ◌<◌, ◌≤◌, false, List, [], ◌∷◌, flat_map, length, vec_capacity, Option, Some, None}
 use Rattle.std.specs.Prelude.{slice_index_or}
 use Rattle.std.specs.List.{AllByRecursion}
-use Rattle.mv_board.specs.Faces.{BoardFace, CallerFace, IsFresh, IsSame}
-use Rattle.mv_machine.specs.Setup.{Setup}
+use Rattle.mv_board.specs.Faces.{CallerFace, IsFresh, IsSame}
 use Rattle.mv_deck.specs.Deck.{JobData}
 use Rattle.mv_plan.specs.SpoolSetup.{reader, scheduler, writer, initiator}
 use Rattle.mv_plan.specs.SpoolTasks.{reading, scheduling, writing}
+use Rattle.mv_work.specs.declared.initiator.Initiator as code
 use Rattle.mv_work.specs.declared.need.Got.{Got}
 use Rattle.mv_work.specs.declared.need.Need.{Need}
-use Rattle.mv_work.specs.declared.stage.Stage.{Stage}
-use Rattle.mv_work.specs.declared.stage.Stage.TheVariants.{Scheduler, Initiator, Writer}
+use Rattle.mv_work.specs.declared.work.Role.{Role}
+use Rattle.mv_work.specs.declared.work.Role.TheVariants.{Reader, Scheduler, Initiator, Writer}
 use Rattle.mv_work.specs.declared.work.SpoolWork.{SpoolWork}
 use Rattle.mv_work.specs.Initiating.{IsInitiatorAnswer, IsInitiatorNeed, initiator_stages, marks_left}
 use Rattle.mv_work.specs.Noting.{initiating_noted}
 use Rattle.mv_work.specs.Ran.{RanOut}
 use Rattle.mv_work.specs.Records.{JobRecord}
 use Rattle.mv_work.specs.Scheduling.{IsSchedulerAnswer, IsSchedulerNeed, scheduler_stages}
-use Rattle.mv_work.specs.Spool.{spool_of}
+use Rattle.mv_work.specs.Spool.{SpoolFace}
 use Rattle.mv_work.specs.Waiting.{Told, Waits}
 use Rattle.mv_work.specs.Writing.{IsWriterAnswer, IsWriterNeed, room_in, writer_stages}
 
--- the work of task k was not begun, and has the room that it needs
-pub record IsNew (deck : List JobData) (i k : ℕ) (w : SpoolWork) : Type 0 where
-  pub given : AllByRecursion (λ b. b ≡ false) w.initiator.given.items
-  pub none : (w.initiator.noted.jobs ≡ []) × (w.initiator.noted.notes ≡ []) × (w.ends.items ≡ [])
-  pub index : 2 ≤ k → k < i + 2 → w.initiator.index + 2 ≡ k
-  pub size : 2 ≤ k → k < i + 2 → length w.initiator.given.items ≡ length deck
-  pub room : 2 ≤ k → k < i + 2 → marks_left w.initiator.given.items deck ≤ w.initiator.noted.room
-  pub ends : k ≡ i + 2 → length deck ≤ vec_capacity w.ends
+-- ---- a task that was not begun
 
--- what the task of number k brings back: the writer the ends, an initiator the records of the jobs that it ran
-abbrev pub records : SpoolWork → List JobRecord
-records w = w.initiator.noted.jobs
+-- an initiator that was given no job, with room for what it notes of all
+pub record IsNewInitiator (deck : List JobData) (i k : ℕ) (me : code.Initiator) : Type 0 where
+  pub number : k ≡ initiator me.index
+  pub index : me.index < i
+  pub given : AllByRecursion (λ b. b ≡ false) me.given.items
+  pub size : length me.given.items ≡ length deck
+  pub none : (me.noted.jobs ≡ []) × (me.noted.notes ≡ [])
+  pub room : marks_left me.given.items deck ≤ me.noted.room
 
--- the ends that the writer found
-abbrev pub ends_found : SpoolWork → List ℕ
-ends_found w = w.ends.items
+-- The role of task k was not begun, and has the room that it needs. No task has a number above the writer's.
+abbrev pub IsNewRole : List JobData → ℕ → ℕ → Role → Type 0
+IsNewRole deck i k Reader = k ≡ reader
+IsNewRole deck i k (Scheduler stage) = k ≡ scheduler
+IsNewRole deck i k (Initiator me stage) = IsNewInitiator deck i k me
+IsNewRole deck i k (Writer ends job) = (writer i ≤ k) × (ends.items ≡ []) × (length deck ≤ vec_capacity ends)
 
--- All events of the task were made, which was t when it was new, and the work has what it brings back.
-abbrev pub HasWorked : Setup → List JobData → ℕ → SpoolWork → CallerFace → CallerFace → Type 0
-HasWorked c deck i w t u =
-    MatchBool (t.number == reader) (RanOut (reading c (length deck)) [] t u)
-    (MatchBool (t.number == scheduler) (RanOut (scheduling c i deck) [] t u)
-    (MatchBool (t.number == writer i) (RanOut (writing c (length deck)) (ends_found w) t u)
-    (RanOut (initiating_noted c deck (t.number - 2)) (records w) t u)))
+-- the same of its work
+abbrev pub IsNew : List JobData → ℕ → ℕ → SpoolWork → Type 0
+IsNew deck i k w = IsNewRole deck i k w.role
 
--- The task, which was t when it was new, waits for this.
-abbrev pub WaitsAt : BoardFace → List JobData → ℕ → SpoolWork → Option Stage → CallerFace → Need → CallerFace → Type 0
-WaitsAt b deck i w None t n u = ⊥
-WaitsAt b deck i w (Some (Scheduler s)) t n u = (t.number ≡ scheduler)
-    × Waits b (scheduler_stages (spool_of b deck i)) (IsSchedulerNeed (spool_of b deck i)) (scheduling b.config i deck) t s n u
-WaitsAt b deck i w (Some (Initiator s)) t n u = (t.number ≡ initiator w.initiator.index)
-    × Waits b (initiator_stages (spool_of b deck i) w.initiator) (IsInitiatorNeed (spool_of b deck i) w.initiator)
-    (initiating_noted b.config deck w.initiator.index) t s n u
-WaitsAt b deck i w (Some (Writer j)) t n u = (t.number ≡ writer i)
-    × Waits b (writer_stages (spool_of b deck i) (ends_found w)) (IsWriterNeed (spool_of b deck i) (room_in w.ends))
-    (writing b.config (length deck)) t j n u
+-- ---- what tasks bring back
+
+-- the records that a role brings back: an initiator's are one list
+abbrev pub records_in : Role → List (List JobRecord)
+records_in Reader = []
+records_in (Scheduler stage) = []
+records_in (Initiator me stage) = me.noted.jobs ∷ []
+records_in (Writer ends job) = []
+
+-- the lists of all initiators, in the order of the works
+abbrev pub records : List SpoolWork → List (List JobRecord)
+records works = flat_map (λ w. records_in w.role) works
+
+-- the ends that a role brings back: the writer's
+abbrev pub ends_in : Role → List ℕ
+ends_in Reader = []
+ends_in (Scheduler stage) = []
+ends_in (Initiator me stage) = []
+ends_in (Writer ends job) = ends.items
+
+-- the role is the writer's
+abbrev pub IsWriter : Role → Type 0
+IsWriter Reader = ⊥
+IsWriter (Scheduler stage) = ⊥
+IsWriter (Initiator me stage) = ⊥
+IsWriter (Writer ends job) = Unit {0}
+
+-- All events of the task were made, which was t when it was new, and the role has what it brings back.
+abbrev pub HasWorked : SpoolFace → Role → CallerFace → CallerFace → Type 0
+HasWorked s Reader t u = (t.number ≡ reader) × RanOut (reading s.board.config (length s.jobs)) [] t u
+HasWorked s (Scheduler stage) t u =
+    (t.number ≡ scheduler) × RanOut (scheduling s.board.config s.initiators s.jobs) [] t u
+HasWorked s (Initiator me stage) t u = (t.number ≡ initiator me.index) × (me.index < s.initiators)
+    × RanOut (initiating_noted s.board.config s.jobs me.index) me.noted.jobs t u
+HasWorked s (Writer ends job) t u =
+    (t.number ≡ writer s.initiators) × RanOut (writing s.board.config (length s.jobs)) ends.items t u
+
+-- ---- from one wait to the next
+
+-- The task, which was t when it was new, waits for this in its role.
+abbrev pub WaitsAs : SpoolFace → Role → CallerFace → Need → CallerFace → Type 0
+WaitsAs s Reader t n u = ⊥
+WaitsAs s (Scheduler None) t n u = ⊥
+WaitsAs s (Scheduler (Some stage)) t n u = (t.number ≡ scheduler)
+    × Waits s.board (scheduler_stages s) (IsSchedulerNeed s) (scheduling s.board.config s.initiators s.jobs) t stage n u
+WaitsAs s (Initiator me None) t n u = ⊥
+WaitsAs s (Initiator me (Some stage)) t n u = (t.number ≡ initiator me.index)
+    × Waits s.board (initiator_stages s me) (IsInitiatorNeed s me) (initiating_noted s.board.config s.jobs me.index) t stage n u
+WaitsAs s (Writer ends None) t n u = ⊥
+WaitsAs s (Writer ends (Some job)) t n u = (t.number ≡ writer s.initiators)
+    × Waits s.board (writer_stages s ends.items) (IsWriterNeed s (room_in ends)) (writing s.board.config (length s.jobs)) t job n u
 
 -- It was told this.
-abbrev pub ToldAt : BoardFace → List JobData → ℕ → SpoolWork → Option Stage → CallerFace → Got → CallerFace → Type 0
-ToldAt b deck i w None t g u = ⊥
-ToldAt b deck i w (Some (Scheduler s)) t g u = (t.number ≡ scheduler)
-    × Told b (scheduler_stages (spool_of b deck i)) (IsSchedulerAnswer (spool_of b deck i)) (scheduling b.config i deck) t s g u
-ToldAt b deck i w (Some (Initiator s)) t g u = (t.number ≡ initiator w.initiator.index)
-    × Told b (initiator_stages (spool_of b deck i) w.initiator) (IsInitiatorAnswer (spool_of b deck i) w.initiator)
-    (initiating_noted b.config deck w.initiator.index) t s g u
-ToldAt b deck i w (Some (Writer j)) t g u = (t.number ≡ writer i)
-    × Told b (writer_stages (spool_of b deck i) (ends_found w)) (IsWriterAnswer (spool_of b deck i) (room_in w.ends))
-    (writing b.config (length deck)) t j g u
+abbrev pub ToldAs : SpoolFace → Role → CallerFace → Got → CallerFace → Type 0
+ToldAs s Reader t g u = ⊥
+ToldAs s (Scheduler None) t g u = ⊥
+ToldAs s (Scheduler (Some stage)) t g u = (t.number ≡ scheduler)
+    × Told s.board (scheduler_stages s) (IsSchedulerAnswer s) (scheduling s.board.config s.initiators s.jobs) t stage g u
+ToldAs s (Initiator me None) t g u = ⊥
+ToldAs s (Initiator me (Some stage)) t g u = (t.number ≡ initiator me.index)
+    × Told s.board (initiator_stages s me) (IsInitiatorAnswer s me) (initiating_noted s.board.config s.jobs me.index) t stage g u
+ToldAs s (Writer ends None) t g u = ⊥
+ToldAs s (Writer ends (Some job)) t g u = (t.number ≡ writer s.initiators)
+    × Told s.board (writer_stages s ends.items) (IsWriterAnswer s (room_in ends)) (writing s.board.config (length s.jobs)) t job g u
 
--- The task was t when it was new. It waits for what it needs, or needs nothing more and has worked.
-abbrev pub HasCome : BoardFace → List JobData → ℕ → SpoolWork → CallerFace → Option Need → CallerFace → Type 0
-HasCome b deck i w t (Some n) u = WaitsAt b deck i w w.stage t n u
-HasCome b deck i w t None u = IsSame t u × HasWorked b.config deck i w t u
+-- The task was t when it was new. In its role it waits for what it needs, or needs nothing more and has worked.
+abbrev pub HasComeAs : SpoolFace → Role → CallerFace → Option Need → CallerFace → Type 0
+HasComeAs s role t (Some n) u = WaitsAs s role t n u
+HasComeAs s role t None u = IsSame t u × HasWorked s role t u
+
+-- the same of its work
+abbrev pub HasCome : SpoolFace → SpoolWork → CallerFace → Option Need → CallerFace → Type 0
+HasCome s w t need u = HasComeAs s w.role t need u
 
 -- The task, which was t when it was new, was told what it waited for.
-abbrev pub WasTold : BoardFace → List JobData → ℕ → SpoolWork → CallerFace → Got → CallerFace → Type 0
-WasTold b deck i w t g u = ToldAt b deck i w w.stage t g u
+abbrev pub WasTold : SpoolFace → SpoolWork → CallerFace → Got → CallerFace → Type 0
+WasTold s w t g u = ToldAs s w.role t g u
 
--- Task k of the board was new once. It has made all its events, and the work has what it brings back.
-pub record IsWorked (deck : List JobData) (i k : ℕ) (b : BoardFace) (w : SpoolWork) (u : CallerFace) : Type 0 where
+-- ---- a task that makes no more events
+
+-- Task k of the spool was new once. It has made all its events, and the work has what it brings back.
+pub record IsWorked (s : SpoolFace) (k : ℕ) (w : SpoolWork) (u : CallerFace) : Type 0 where
   pub before : CallerFace
-  pub fresh : IsFresh b k before
-  pub come : HasCome b deck i w before None u
+  pub fresh : IsFresh s.board k before
+  pub come : HasCome s w before None u
 
 -- So each task has, in the order of their numbers.
-pub record AreWorked (deck : List JobData) (i : ℕ) (b : BoardFace) (ws : List SpoolWork) (ts : List CallerFace) : Type 0 where
-  pub works : length ws ≡ i + 3
-  pub tasks : length ts ≡ i + 3
-  pub each : (k : ℕ) (w : SpoolWork) (t : CallerFace) → k < i + 3 → IsWorked deck i k b (slice_index_or ws k w) (slice_index_or ts k t)
+pub record AreWorked (s : SpoolFace) (ws : List SpoolWork) (ts : List CallerFace) : Type 0 where
+  pub works : length ws ≡ s.initiators + 3
+  pub tasks : length ts ≡ s.initiators + 3
+  pub each : (k : ℕ) (w : SpoolWork) (t : CallerFace) → k < s.initiators + 3
+      → IsWorked s k (slice_index_or ws k w) (slice_index_or ts k t)

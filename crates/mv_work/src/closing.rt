@@ -13,23 +13,14 @@ ghost use Rattle.mv_plan.specs.SpoolTasks.{task_program};
 ghost use Rattle.mv_report.specs.Outcome.{ends as ends_of_deck, lines as lines_of_deck, totals};
 ghost use Rattle.mv_work.specs.Recording.{AreBrought, AreOfRun, all_records, lines_recorded as lines_of_records};
 
-use crate::bringing::Brought;
 use crate::records::InitiatorRecord;
 use crate::reporting::lines_recorded;
-use mv_board::Closed;
+use crate::results::RunResults;
 use mv_deck::{Deck, VOLUME_COUNT};
 use mv_io::NoMemory;
 use mv_machine::History;
 use mv_report::Lines;
 use std::alloc::Global;
-
-/// What a closed run left.
-#[derive(Drop)]
-pub struct Left {
-    pub closed: Closed,
-    /// What its tasks brought back.
-    pub brought: Brought,
-}
 
 /// What a run of a deck came to; what is said job by job stands in the order of the deck.
 #[derive(Drop)]
@@ -68,15 +59,14 @@ pub fn spool_run(
     alloc: Global,
     deck: &Deck,
     initiators: u32,
-    closed: Closed,
-    brought: Brought,
+    results: RunResults,
 ) -> Result<SpoolRun, NoMemory>
     requires some { 1 ≤ initiators }
     requires sound { IsSound (deck_data deck.now) initiators }
-    requires run { AreOfRun (deck_data deck.now) initiators closed brought }
-    ensures history { IfOk result (λ run. run.history ≡ closed.history) }
+    requires run { AreOfRun (deck_data deck.now) initiators results }
+    ensures history { IfOk result (λ run. run.history ≡ results.closed.history) }
     ensures run { IfOk result (λ run. IsRun (deck_data deck.now) initiators run.history.coming) }
-    ensures records { IfOk result (λ run. run.records.items ≡ brought.records.items) }
+    ensures records { IfOk result (λ run. run.records.items ≡ results.records.items) }
     ensures brought { IfOk result (λ run. AreBrought (deck_data deck.now) initiators run.history.coming
         (map (λ r. r.jobs) run.records.items)) }
     ensures found { IfOk result (λ run. left_in (spool_setup (deck_data deck.now) initiators) (task_program (deck_data deck.now) initiators)
@@ -87,7 +77,11 @@ pub fn spool_run(
     ensures lines { IfOk result (λ run. run.lines.items ≡ lines_of_deck (deck_data deck.now)) }
     ensures volumes { IfOk result (λ run. run.volumes.items ≡ totals (deck_data deck.now)) }
 {
-    let Brought { records, ends } = brought;
+    let RunResults {
+        closed,
+        records,
+        ends,
+    } = results;
     let lines = lines_recorded(alloc, deck, &records)?;
     let volumes = volumes_of(alloc, &closed.volumes)?;
     Ok(SpoolRun {

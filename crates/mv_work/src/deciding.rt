@@ -1,4 +1,5 @@
-//! What the scheduler decides. Clauses cite the plan's `SpoolTasks.antt`, and `specs/Needs.antt`, `Parts.antt`.
+//! What the scheduler decides: the blocks of a wait, whether a job is to be run, and its code. Clauses cite the plan's
+//! `SpoolTasks.antt`, and `specs/Needs.antt`, `Parts.antt`.
 
 ghost use Rattle.std.specs.Prelude.{◌≡◌, ◌<◌, ◌≤◌, length, map, take};
 ghost use Rattle.std.specs.List.{AllByRecursion, range_with_len};

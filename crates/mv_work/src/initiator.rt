@@ -1,29 +1,43 @@
-//! An initiator. Clauses cite the plan's `SpoolTasks.antt`, and `specs/Waiting.antt`, `specs/Noting.antt` and `specs/Initiating.antt`.
+//! An initiator: runs the jobs that it is given, and notes what they do. Clauses cite the plan's `SpoolTasks.antt`, and
+//! `specs/Waiting.antt`, `specs/Noting.antt` and `specs/Initiating.antt`.
+//!
+//! ```text
+//!   begin ── allocates an element ──> Pause(0)
+//!   Pause(round) ─┬─ a job ──> its steps (running.rt) ──> its end ──> Pause(round + 1)
+//!                 └─ NO_JOB ── deallocates the element ──> done
+//! ```
+//!
+//! Before each pause it posts `idle(index)` with the generation that it pauses for. A job that is not to be run has no steps. At the end
+//! of a job it purges the job's requestor, posts `done(job)` and notes the end.
 
-ghost use Rattle.std.specs.Prelude.{◌≡◌, ◌<◌, ◌≤◌, ◌+◌, ◌-◌, suc, [], false, length, Some, None, IfOk, MatchResult};
+ghost use Rattle.std.specs.Prelude.{◌≡◌, ◌<◌, ◌≤◌, ◌+◌, ◌-◌, suc, [], false, length, map, sum_by, Some, None, IfOk, MatchResult};
 ghost use Rattle.std.specs.List.{AllByRecursion};
+ghost use Rattle.mv_board.specs.Faces.{CallerFace, IsFresh};
+ghost use Rattle.mv_deck.specs.Deck.{deck_data, job_data};
 ghost use Rattle.mv_deck.specs.EndCode.{not_run};
 ghost use Rattle.mv_pause.specs.Answers.{gift_as};
 ghost use Rattle.mv_plan.specs.Jobs.{job_at};
 ghost use Rattle.mv_plan.specs.SpoolSetup.{jobs_limit, initiator as plan_initiator};
 ghost use Rattle.mv_plan.specs.SpoolTasks.{job_named as named_by};
 ghost use Rattle.mv_work.specs.Initiating.{InitiatorComes, IsAtJob, IsInitiatorAnswer, IsBetween, IsOwn, initiator_due, initiator_left};
-ghost use Rattle.mv_work.specs.Initiating.{named_then, marks_left, rounds_after, rounds_due, steps_events, step_marks, steps_marks};
+ghost use Rattle.mv_work.specs.Initiating.{job_marks, named_then, marks_left, rounds_after, rounds_due, steps_events, step_marks, steps_marks};
 ghost use Rattle.mv_work.specs.Initiating.{steps_then};
 ghost use Rattle.mv_work.specs.Needs.{Gave, answer_of};
 ghost use Rattle.mv_work.specs.Noting.{initiating_noted, record_of, rounds_noted};
-ghost use Rattle.mv_work.specs.Parts.{jobs_of, named_of};
+ghost use Rattle.mv_work.specs.Parts.{named_of};
 ghost use Rattle.mv_work.specs.Waiting.{IsResting};
+ghost use Rattle.mv_work.specs.Works.{HasComeAs, IsNewInitiator, ToldAs};
 ghost use Rattle.mv_work.specs.declared.stage.InitiatorStage.TheVariants as stage;
+ghost use Rattle.mv_work.specs.declared.work.Role.TheVariants as role;
 
 use crate::lost::Lost;
 use crate::need::{Got, Need};
-use crate::next::Next;
+use crate::next::{Next, keep_stage};
 use crate::records::InitiatorRecord;
 use crate::running::Named;
 use crate::spool::Spool;
 use crate::stage::{InitiatorStage, Round, Running};
-use mv_deck::{Job, NOT_RUN, Step};
+use mv_deck::{Deck, Job, NOT_RUN, Step};
 use mv_io::NoMemory;
 use mv_pause::{Given, allocate, deallocate};
 use mv_task::{Gate, Point, end_of_job};
@@ -48,108 +62,45 @@ pub(crate) struct Initiator {
     pub noted: InitiatorRecord,
 }
 
-// The marks that are made of a step.
-fn marks_of_step(step: &Step) -> usize
-    ensures marks { result ≡ step_marks step.now }
-    ensures few { result ≤ 1 }
-{
-    match step {
-        Step::Print(_) => 1,
-        Step::Scan(_) => 1,
-        Step::Use(..) => 0,
-        Step::Free(_) => 0,
-        Step::Count(..) => 0,
-        Step::Abend(_) => 0,
-        Step::Return(_) => 0,
-    }
-}
-
-// And of these steps.
-fn marks_of(steps: &[Step]) -> usize
-    ensures { result ≡ steps_marks steps.now }
-{
-    let mut marks = 0;
-    for k in 0..steps.len() {
-        marks += marks_of_step(&steps[k]);
-    }
-    marks
-}
-
-// Of none of so many jobs it is noted that it was given.
-fn none_given(alloc: Global, jobs: usize) -> Result<Vec<bool>, NoMemory>
-    ensures none { IfOk result (λ given. AllByRecursion (λ b. b ≡ false) given.items) }
-    ensures size { IfOk result (λ given. length given.items ≡ jobs) }
-{
-    Ok(vec![in alloc; false; jobs]?)
-}
-
-impl Initiator {
-    /// The initiator of this index, with room for the notes of each of these jobs.
-    pub(crate) fn with_room(alloc: Global, index: u32, deck: &[Job]) -> Result<Initiator, NoMemory>
-        ensures index { IfOk result (λ me. me.index ≡ index) }
-        ensures given { IfOk result (λ me. AllByRecursion (λ b. b ≡ false) me.given.items) }
-        ensures size { IfOk result (λ me. length me.given.items ≡ length deck.now) }
-        ensures none { IfOk result (λ me. (me.noted.jobs ≡ []) × (me.noted.notes ≡ [])) }
-        ensures room { IfOk result (λ me. marks_left me.given.items (jobs_of deck.now) ≤ me.noted.room) }
-    {
-        let mut room = 0_usize;
-        for k in 0..deck.len() {
-            let Some(more) = room.checked_add(marks_of(&deck[k].steps)) else {
-                return Err(NoMemory);
-            };
-            let Some(more) = more.checked_add(1) else {
-                return Err(NoMemory);
-            };
-            room = more;
-        }
-        Ok(Initiator {
-            index,
-            given: none_given(alloc, deck.len())?,
-            noted: InitiatorRecord::with_room(alloc, room)?,
-        })
-    }
-}
-
-// The job of so many that a code names, if it names one.
-fn job_named(jobs: u32, code: u32) -> Result<Named, Lost>
-    requires { jobs ≤ jobs_limit }
-    ensures { MatchResult result (λ named. Some (named_of named) ≡ named_by jobs code) (λ _. None ≡ named_by jobs code) }
-{
-    if 1 <= code && code <= jobs {
-        Ok(Named {
-            job: code - 1,
-            skipped: false,
-        })
-    } else if 1 + NOT_TO_RUN <= code && code <= jobs + NOT_TO_RUN {
-        Ok(Named {
-            job: code - (1 + NOT_TO_RUN),
-            skipped: true,
-        })
-    } else {
-        Err(Lost)
-    }
-}
-
 impl<G: Gate> Spool<'_, G> {
-    /// Allocates the initiator's element, and begins its first round.
-    pub(crate) fn initiate<R: Wait>(
+    /// Begins an initiator that was given no job, and returns what it waits for.
+    pub(crate) fn begin_initiator<R: Wait>(
         &self,
         rt: &R,
         task: &mut Task,
         me: &Initiator,
-    ) -> Result<Next<InitiatorStage>, Lost>
-        requires number { task.old.number ≡ plan_initiator me.now.index }
-        requires between { IsBetween self.now me.now 0 }
-        requires none { me.now.noted.jobs ≡ [] }
-        requires rests { IsResting self.now.board (1 + rounds_due self.now me.now 0) task.old }
-        ensures { InitiatorComes self.now me.now (initiating_noted self.now.board.config self.now.jobs me.now.index) task.old result task.new }
+        stage: &mut Option<InitiatorStage>,
+    ) -> Option<Need>
+        requires fresh { IsFresh self.now.board task.old.number task.old }
+        requires new { IsNewInitiator self.now.jobs self.now.initiators task.old.number me.now }
+        ensures { HasComeAs self.now (role.Initiator me.now stage.new) task.old result task.new }
     {
-        let next = allocate(self.station, rt, task)?;
-        self.begin_round(rt, task, me, Round { number: 0, next })
+        // Reading a field makes the facts of the spool known here.
+        let _ = &self.initiators;
+        let next = self.initiate(rt, task, me);
+        keep_stage(stage, next)
     }
 
-    /// Goes on from where it waited, by what it was told.
-    pub(crate) fn resume_initiator<R: Wait>(
+    /// Resumes an initiator with the answer to its last wait, and returns what it waits for next.
+    pub(crate) fn go_on_initiator<R: Wait>(
+        &self,
+        rt: &R,
+        task: &mut Task,
+        me: &mut Initiator,
+        stage: &mut Option<InitiatorStage>,
+        got: Got,
+    ) -> Option<Need>
+        requires told { (t : CallerFace) × ToldAs self.now (role.Initiator me.old stage.old) t got task.old }
+        ensures { (t : CallerFace) → ToldAs self.now (role.Initiator me.old stage.old) t got task.old
+            → HasComeAs self.now (role.Initiator me.new stage.new) t result task.new }
+    {
+        let Some(at) = *stage else { unreachable!() };
+        let next = self.resume_initiator(rt, task, me, at, got);
+        keep_stage(stage, next)
+    }
+
+    // Goes on from the stage at which it waited, by what it was told.
+    fn resume_initiator<R: Wait>(
         &self,
         rt: &R,
         task: &mut Task,
@@ -171,6 +122,23 @@ impl<G: Gate> Spool<'_, G> {
             }
             _ => unreachable!(),
         }
+    }
+
+    // Allocates the initiator's element, and begins its first round.
+    fn initiate<R: Wait>(
+        &self,
+        rt: &R,
+        task: &mut Task,
+        me: &Initiator,
+    ) -> Result<Next<InitiatorStage>, Lost>
+        requires number { task.old.number ≡ plan_initiator me.now.index }
+        requires between { IsBetween self.now me.now 0 }
+        requires none { me.now.noted.jobs ≡ [] }
+        requires rests { IsResting self.now.board (1 + rounds_due self.now me.now 0) task.old }
+        ensures { InitiatorComes self.now me.now (initiating_noted self.now.board.config self.now.jobs me.now.index) task.old result task.new }
+    {
+        let next = allocate(self.station, rt, task)?;
+        self.begin_round(rt, task, me, Round { number: 0, next })
     }
 
     // Tells the scheduler that the initiator is idle and with which generation it pauses, and waits for what it is given.
@@ -277,5 +245,95 @@ impl<G: Gate> Spool<'_, G> {
         end_of_job(self.station, rt, task, running.requestor(), done, end);
         me.noted.end(running.job, end);
         self.begin_round(rt, task, me, running.round.after())
+    }
+}
+
+// The job of so many that a code names, if it names one.
+fn job_named(jobs: u32, code: u32) -> Result<Named, Lost>
+    requires { jobs ≤ jobs_limit }
+    ensures { MatchResult result (λ named. Some (named_of named) ≡ named_by jobs code) (λ _. None ≡ named_by jobs code) }
+{
+    if 1 <= code && code <= jobs {
+        Ok(Named {
+            job: code - 1,
+            skipped: false,
+        })
+    } else if 1 + NOT_TO_RUN <= code && code <= jobs + NOT_TO_RUN {
+        Ok(Named {
+            job: code - (1 + NOT_TO_RUN),
+            skipped: true,
+        })
+    } else {
+        Err(Lost)
+    }
+}
+
+// The marks that are made of a step.
+fn marks_of_step(step: &Step) -> usize
+    ensures marks { result ≡ step_marks step.now }
+    ensures few { result ≤ 1 }
+{
+    match step {
+        Step::Print(_) => 1,
+        Step::Scan(_) => 1,
+        Step::Use(..) => 0,
+        Step::Free(_) => 0,
+        Step::Count(..) => 0,
+        Step::Abend(_) => 0,
+        Step::Return(_) => 0,
+    }
+}
+
+// And of these steps.
+fn marks_of(steps: &[Step]) -> usize
+    ensures { result ≡ steps_marks steps.now }
+{
+    let mut marks = 0;
+    for k in 0..steps.len() {
+        marks += marks_of_step(&steps[k]);
+    }
+    marks
+}
+
+// And of these jobs with their ends. More than memory could have are refused.
+fn marks_of_jobs(jobs: &[Job]) -> Result<usize, NoMemory>
+    ensures { IfOk result (λ marks. marks ≡ sum_by job_marks (map job_data jobs.now)) }
+{
+    let mut marks = 0_usize;
+    for k in 0..jobs.len() {
+        let Some(more) = marks.checked_add(marks_of(&jobs[k].steps)) else {
+            return Err(NoMemory);
+        };
+        let Some(more) = more.checked_add(1) else {
+            return Err(NoMemory);
+        };
+        marks = more;
+    }
+    Ok(marks)
+}
+
+// Of none of so many jobs it is noted that it was given.
+fn none_given(alloc: Global, jobs: usize) -> Result<Vec<bool>, NoMemory>
+    ensures none { IfOk result (λ given. AllByRecursion (λ b. b ≡ false) given.items) }
+    ensures size { IfOk result (λ given. length given.items ≡ jobs) }
+{
+    Ok(vec![in alloc; false; jobs]?)
+}
+
+impl Initiator {
+    /// The initiator of this index, with room for the notes of each job of the deck.
+    pub(crate) fn with_room(alloc: Global, index: u32, deck: &Deck) -> Result<Initiator, NoMemory>
+        ensures index { IfOk result (λ me. me.index ≡ index) }
+        ensures given { IfOk result (λ me. AllByRecursion (λ b. b ≡ false) me.given.items) }
+        ensures size { IfOk result (λ me. length me.given.items ≡ length (deck_data deck.now)) }
+        ensures none { IfOk result (λ me. (me.noted.jobs ≡ []) × (me.noted.notes ≡ [])) }
+        ensures room { IfOk result (λ me. marks_left me.given.items (deck_data deck.now) ≤ me.noted.room) }
+    {
+        let room = marks_of_jobs(&deck.jobs)?;
+        Ok(Initiator {
+            index,
+            given: none_given(alloc, deck.jobs.len())?,
+            noted: InitiatorRecord::with_room(alloc, room)?,
+        })
     }
 }

@@ -2,7 +2,6 @@
 //! that they run.
 #![tactic(auto)]
 
-mod bringing;
 mod closing;
 mod deciding;
 mod finding;
@@ -14,6 +13,7 @@ mod next;
 mod reader;
 mod records;
 mod reporting;
+mod results;
 mod running;
 mod scheduler;
 mod spool;
@@ -21,12 +21,12 @@ mod stage;
 mod work;
 mod writer;
 
-pub use bringing::{Brought, brought_by};
-pub use closing::{Left, SpoolRun, spool_run};
+pub use closing::{SpoolRun, spool_run};
 pub use laws::{initiators_note_what_they_do, records_give_the_lines, runs_record_each_job};
 pub use lost::Lost;
 pub use need::{Blocks, Got, MOST_BLOCKS, Need, Slots, slots_in};
 pub use records::{InitiatorRecord, Noted};
 pub use reporting::lines_recorded;
+pub use results::{RunResults, results_of};
 pub use spool::Spool;
 pub use work::SpoolWork;

@@ -1,4 +1,8 @@
-//! What a task waits for, and what it is told. Clauses cite `specs/Needs.antt`.
+//! What a task waits for, and the answer that it is resumed with. Clauses cite `specs/Needs.antt`.
+//!
+//! ```text
+//!   Blocks ──> Slots      Block ──> Code      Pause ──> Given      Latch ──> Granted
+//! ```
 
 ghost use Rattle.std.specs.Prelude.{◌≡◌, ◌≤◌, take, length};
 ghost use Rattle.mv_work.specs.Needs.{most_blocks};

@@ -1,9 +1,17 @@
-//! The reader. Clauses cite the plan's `SpoolTasks.antt`, and `specs/Ran.antt`.
+//! The reader: enters each job, in the order of the deck. Clauses cite the plan's `SpoolTasks.antt`, and `specs/Ran.antt`.
+//!
+//! ```text
+//!   begin ──> post entered(0) ──> post entered(1) ──> ... ──> done
+//! ```
 
-ghost use Rattle.std.specs.Prelude.{[], length};
+ghost use Rattle.std.specs.Prelude.{[], length, None};
+ghost use Rattle.mv_board.specs.Faces.{IsFresh};
+ghost use Rattle.mv_plan.specs.SpoolSetup.{reader};
 ghost use Rattle.mv_plan.specs.SpoolTasks.{reading};
 ghost use Rattle.mv_work.specs.Ran.{RanOut};
 ghost use Rattle.mv_work.specs.Waiting.{IsResting};
+ghost use Rattle.mv_work.specs.Works.{HasComeAs};
+ghost use Rattle.mv_work.specs.declared.work.Role.TheVariants as role;
 
 use crate::spool::Spool;
 use mv_task::{Gate, Point};
@@ -11,10 +19,10 @@ use mv_wait::Task;
 use std::sync::Wait;
 
 impl<G: Gate> Spool<'_, G> {
-    /// Enters each job, in order. It never waits.
+    /// Enters each job, in order. The reader never waits.
     pub(crate) fn read<R: Wait>(&self, rt: &R, task: &mut Task)
-        requires rests { IsResting self.now.board (length self.now.jobs) task.old }
-        ensures { RanOut (reading self.now.board.config (length self.now.jobs)) [] task.old task.new }
+        requires fresh { IsFresh self.now.board reader task.old }
+        ensures { HasComeAs self.now role.Reader task.old None task.new }
     {
         for job in 0..self.jobs() {
             self.pass(rt, task, Point::Entered(job));

@@ -1,14 +1,20 @@
-//! Jobs that are run. Clauses cite `specs/Steps.antt` and `specs/Initiating.antt`.
+//! The steps of a job that an initiator runs. Clauses cite `specs/Steps.antt` and `specs/Initiating.antt`.
+//!
+//! ```text
+//!   a step ─┬─ PRINT, SCAN, COUNT or FREE ──> the next step, after the last the job's end with code 0
+//!           ├─ ABEND or RETURN ──> the job's end with its code
+//!           └─ USE ──> Latch(running) ── granted ──> the next step
+//! ```
 
-ghost use Rattle.std.specs.Prelude.{◌≡◌, ◌<◌, ◌≤◌, ◌+◌, IfOk};
+ghost use Rattle.std.specs.Prelude.{◌≡◌, ◌<◌, ◌≤◌, ◌+◌, length, IfOk};
 ghost use Rattle.mv_board.specs.Faces.{IsOf, IsSame};
 ghost use Rattle.mv_calls.specs.Rest.{IsAtRest};
 ghost use Rattle.mv_deck.specs.Operand.{highest_latch};
-ghost use Rattle.mv_deck.specs.Sound.{HasGoodNumbers};
 ghost use Rattle.mv_deck.specs.Weight.{step_events};
+ghost use Rattle.mv_plan.specs.Jobs.{job_at};
 ghost use Rattle.mv_work.specs.Initiating.{InitiatorComes, IsRunning, initiator_due, initiator_left, step_marks, steps_from};
 ghost use Rattle.mv_work.specs.Needs.{Holds};
-ghost use Rattle.mv_work.specs.Steps.{AreKept, BearsSteps, DoesStep, IsGoodDid, requests_of};
+ghost use Rattle.mv_work.specs.Steps.{AreKept, DoesStep, IsGoodDid, requests_of, step_at};
 ghost use Rattle.mv_work.specs.Waiting.{IsResting};
 ghost use Rattle.mv_work.specs.declared.stage.InitiatorStage.TheVariants as stage;
 
@@ -23,7 +29,7 @@ use mv_deck::Step;
 use mv_latch::Mode;
 use mv_latchset::{LatchToken, release_latch};
 use mv_task::Gate;
-use mv_wait::{Station, Task};
+use mv_wait::Task;
 use std::sync::Wait;
 
 /// The end of a job that did all its steps.
@@ -64,19 +70,8 @@ impl<G: Gate> Spool<'_, G> {
             (steps_from self.now me.old running running.step (requests_of running.requests)) task.old result task.new }
         ensures same { me.new.index ≡ me.old.index }
     {
-        let job = running.job;
-        let steps = self.steps_of(job);
-        for place in running.step..steps.len() {
-            match do_step(
-                rt,
-                self.station,
-                task,
-                job,
-                place,
-                &steps[place],
-                &running.requests,
-                &mut me.noted,
-            )? {
+        for place in running.step..self.step_count(running.job) {
+            match self.do_step(rt, task, &mut me.noted, &running, place)? {
                 Did::Went => {}
                 Did::Ended(end) => return self.end_job(rt, task, me, running, end),
                 Did::Asks(latch, mode) => {
@@ -90,6 +85,67 @@ impl<G: Gate> Spool<'_, G> {
             }
         }
         self.end_job(rt, task, me, running, ENDED)
+    }
+
+    // Does the step of a job at this place, and notes it if it prints or scans. A USE makes no event: its latch is still to be obtained.
+    fn do_step<R: Wait>(
+        &self,
+        rt: &R,
+        task: &mut Task,
+        noted: &mut InitiatorRecord,
+        running: &Running,
+        place: usize,
+    ) -> Result<Did, Lost>
+        requires job { running.now.job < length self.now.jobs }
+        requires place { place < length (job_at self.now.jobs running.now.job).steps }
+        requires kept { AreKept running.now.requests }
+        requires room { step_marks (step_at self.now running.now.job place) ≤ noted.old.room }
+        requires rests { IsResting self.now.board (step_events (step_at self.now running.now.job place)) task.old }
+        ensures does { DoesStep self.now.board.config running.now.job running.now.requests place noted.old.notes
+            (step_at self.now running.now.job place) result noted.new.notes task.old task.new }
+        ensures jobs { noted.new.jobs ≡ noted.old.jobs }
+        ensures room { noted.old.room ≤ noted.new.room + step_marks (step_at self.now running.now.job place) }
+        ensures board { IsOf self.now.board task.new }
+        ensures rest { IsAtRest task.new.log }
+        ensures same { IsSame task.old task.new }
+        ensures few { task.old.left ≤ task.new.left + step_events (step_at self.now running.now.job place) }
+        ensures end { IfOk result IsGoodDid }
+    {
+        let step = self.step(running.job, place);
+        match step {
+            Step::Print(_) => {
+                noted.note(Noted::Printed(place));
+                Ok(Did::Went)
+            }
+            Step::Use(latch, mode) => Ok(Did::Asks(*latch, *mode)),
+            Step::Free(latch) => {
+                let Some(token) = running.requests[*latch as usize] else {
+                    return Err(Lost);
+                };
+                release_latch(self.station, rt, task, token, false)?;
+                Ok(Did::Went)
+            }
+            Step::Count(volume, amount) => {
+                let number = self.station.read_volume(task, *volume);
+                let Some(sum) = number.checked_add(*amount) else {
+                    return Err(Lost);
+                };
+                self.station.write_volume(rt, task, *volume, sum);
+                Ok(Did::Went)
+            }
+            Step::Scan(volume) => {
+                let first = self.station.read_volume(task, *volume);
+                let second = self.station.read_volume(task, *volume);
+                noted.note(Noted::Scanned {
+                    step: place,
+                    first,
+                    second,
+                });
+                Ok(Did::Went)
+            }
+            Step::Abend(code) => Ok(Did::Ended(*code)),
+            Step::Return(code) => Ok(Did::Ended(*code)),
+        }
     }
 
     /// The latch was granted: the steps behind the one that obtains it follow.
@@ -111,68 +167,5 @@ impl<G: Gate> Spool<'_, G> {
         let mut running = running;
         running.requests[running.latch as usize] = Some(token);
         self.run_on(rt, task, me, running)
-    }
-}
-
-// Does one step of a job, and notes it where it prints or scans. A USE makes no event: its latch is still to be obtained.
-fn do_step<R: Wait>(
-    rt: &R,
-    station: &Station,
-    task: &mut Task,
-    job: u32,
-    place: usize,
-    step: &Step,
-    requests: &[Option<LatchToken>],
-    noted: &mut InitiatorRecord,
-) -> Result<Did, Lost>
-    requires config { BearsSteps station.now.config }
-    requires task { IsOf station.now task.old }
-    requires rest { IsAtRest task.old.log }
-    requires left { step_events step.now ≤ task.old.left }
-    requires numbers { HasGoodNumbers step.now }
-    requires requests { AreKept requests.now }
-    requires room { step_marks step.now ≤ noted.old.room }
-    ensures does { DoesStep station.now.config job requests.now place noted.old.notes step.now result noted.new.notes task.old task.new }
-    ensures jobs { noted.new.jobs ≡ noted.old.jobs }
-    ensures room { noted.old.room ≤ noted.new.room + step_marks step.now }
-    ensures board { IsOf station.now task.new }
-    ensures rest { IsAtRest task.new.log }
-    ensures same { IsSame task.old task.new }
-    ensures few { task.old.left ≤ task.new.left + step_events step.now }
-    ensures end { IfOk result IsGoodDid }
-{
-    match step {
-        Step::Print(_) => {
-            noted.note(Noted::Printed(place));
-            Ok(Did::Went)
-        }
-        Step::Use(latch, mode) => Ok(Did::Asks(*latch, *mode)),
-        Step::Free(latch) => {
-            let Some(token) = requests[*latch as usize] else {
-                return Err(Lost);
-            };
-            release_latch(station, rt, task, token, false)?;
-            Ok(Did::Went)
-        }
-        Step::Count(volume, amount) => {
-            let number = station.read_volume(task, *volume);
-            let Some(sum) = number.checked_add(*amount) else {
-                return Err(Lost);
-            };
-            station.write_volume(rt, task, *volume, sum);
-            Ok(Did::Went)
-        }
-        Step::Scan(volume) => {
-            let first = station.read_volume(task, *volume);
-            let second = station.read_volume(task, *volume);
-            noted.note(Noted::Scanned {
-                step: place,
-                first,
-                second,
-            });
-            Ok(Did::Went)
-        }
-        Step::Abend(code) => Ok(Did::Ended(*code)),
-        Step::Return(code) => Ok(Did::Ended(*code)),
     }
 }

@@ -1,9 +1,24 @@
-//! The scheduler. Clauses cite the plan's `SpoolTasks.antt`, and `specs/Waiting.antt` and `specs/Scheduling.antt`.
+//! The scheduler: hands each job, in the order of the deck, to the lowest initiator that is idle, once the jobs that it waits for
+//! have ended; then dismisses the initiators. Clauses cite the plan's `SpoolTasks.antt`, and `specs/Waiting.antt` and
+//! `specs/Scheduling.antt`.
+//!
+//! ```text
+//!   begin ──> Entry(0)
+//!   Entry(job) ─┬─ AFTER names jobs ──> Ends(job) ──> Idle(job, skipped)
+//!               └─ AFTER names none ────────────────> Idle(job, false)
+//!   Idle(job, skipped) ── hands over the job's code ──> Entry(job + 1), after the last job Dismissal(0)
+//!   Dismissal(index) ── hands over NO_JOB ──> Dismissal(index + 1), after the last initiator done
+//! ```
+//!
+//! Before it waits for an idle initiator, it sets the exit of `done(job)`, which posts the job's end. If the deck has no job, `begin`
+//! leads to `Dismissal(0)`.
 
 ghost use Rattle.std.specs.Prelude.{◌≡◌, ◌<◌, ◌≤◌, ◌+◌, ◌*◌, ◌-◌, [], ◌∷◌, length, MatchResult, Some};
 ghost use Rattle.mv_element.specs.Table.{release_limit};
 ghost use Rattle.mv_calls.specs.Program.{Done, Wrong};
+ghost use Rattle.mv_board.specs.Faces.{CallerFace, IsFresh};
 ghost use Rattle.mv_plan.specs.Jobs.{job_at};
+ghost use Rattle.mv_plan.specs.SpoolSetup.{scheduler};
 ghost use Rattle.mv_plan.specs.SpoolTasks.{ends_awaited, hand_over as handed};
 ghost use Rattle.mv_wait.specs.Answers.{slots_of};
 ghost use Rattle.mv_work.specs.Needs.{Slots, answer_of};
@@ -11,14 +26,16 @@ ghost use Rattle.mv_work.specs.Ran.{Ran};
 ghost use Rattle.mv_work.specs.Scheduling.{IsSchedulerAnswer, SchedulerAsks, SchedulerComes, scheduler_due, scheduler_left};
 ghost use Rattle.mv_work.specs.Scheduling.{dismissals_from, exit_set, jobs_due, jobs_from, then_jobs};
 ghost use Rattle.mv_work.specs.Waiting.{IsResting};
+ghost use Rattle.mv_work.specs.Works.{HasComeAs, ToldAs};
 ghost use Rattle.mv_work.specs.declared.stage.SchedulerStage.TheVariants as stage;
+ghost use Rattle.mv_work.specs.declared.work.Role.TheVariants as role;
 
 use crate::deciding::{end_blocks, idle_blocks, job_code, some_above};
 use crate::finding::first_in;
 use crate::initiator::NO_JOB;
 use crate::lost::Lost;
 use crate::need::{Blocks, Got, Need};
-use crate::next::Next;
+use crate::next::{Next, keep_stage};
 use crate::spool::Spool;
 use crate::stage::SchedulerStage;
 use mv_element::Token;
@@ -29,18 +46,35 @@ use mv_wait::{Task, WaitSlot};
 use std::sync::Wait;
 
 impl<G: Gate> Spool<'_, G> {
-    /// Hands out the jobs, in order, from this one on: waits for its entry. Behind the last, dismisses the initiators.
-    pub(crate) fn schedule(&self, job: u32) -> Next<SchedulerStage>
-        ensures { SchedulerAsks self.now (jobs_from self.now job) (jobs_due self.now job) result }
+    /// Begins the scheduler, and returns what it waits for.
+    pub(crate) fn begin_scheduler(&self, stage: &mut Option<SchedulerStage>) -> Option<Need>
+        ensures { (t : CallerFace) → IsFresh self.now.board scheduler t → HasComeAs self.now (role.Scheduler stage.new) t result t }
     {
-        if job >= self.jobs() {
-            return self.dismiss(0);
-        }
-        Next::Wait(SchedulerStage::Entry(job), Need::Block(self.entered(job)))
+        // Reading a field makes the facts of the spool known here.
+        let _ = &self.initiators;
+        let next = self.schedule(0);
+        keep_stage(stage, Ok(next))
     }
 
-    /// Goes on from where it waited, by what it was told.
-    pub(crate) fn resume_scheduler<R: Wait>(
+    /// Resumes the scheduler with the answer to its last wait, and returns what it waits for next.
+    pub(crate) fn go_on_scheduler<R: Wait>(
+        &self,
+        rt: &R,
+        task: &mut Task,
+        stage: &mut Option<SchedulerStage>,
+        got: Got,
+    ) -> Option<Need>
+        requires told { (t : CallerFace) × ToldAs self.now (role.Scheduler stage.old) t got task.old }
+        ensures { (t : CallerFace) → ToldAs self.now (role.Scheduler stage.old) t got task.old
+            → HasComeAs self.now (role.Scheduler stage.new) t result task.new }
+    {
+        let Some(at) = *stage else { unreachable!() };
+        let next = self.resume_scheduler(rt, task, at, got);
+        keep_stage(stage, next)
+    }
+
+    // Goes on from the stage at which it waited, by what it was told.
+    fn resume_scheduler<R: Wait>(
         &self,
         rt: &R,
         task: &mut Task,
@@ -64,6 +98,16 @@ impl<G: Gate> Spool<'_, G> {
             }
             _ => unreachable!(),
         }
+    }
+
+    // Hands out the jobs, in order, from this one on: waits for its entry. After the last, dismisses the initiators.
+    fn schedule(&self, job: u32) -> Next<SchedulerStage>
+        ensures { SchedulerAsks self.now (jobs_from self.now job) (jobs_due self.now job) result }
+    {
+        if job >= self.jobs() {
+            return self.dismiss(0);
+        }
+        Next::Wait(SchedulerStage::Entry(job), Need::Block(self.entered(job)))
     }
 
     // The job was entered: it waits for the ends of the jobs that its AFTER names, if there are any.

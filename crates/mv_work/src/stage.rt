@@ -1,4 +1,5 @@
-//! Where each kind of task waits. Jobs and initiators are counted from 0. The reader never waits.
+//! Where the scheduler and an initiator wait. Jobs and initiators are counted from 0. The writer waits for the end of a job, and the
+//! reader never waits.
 
 ghost use Rattle.std.specs.Prelude.{◌≡◌, ◌+◌, ◌<◌, replicate, None};
 ghost use Rattle.mv_deck.specs.Operand.{volume_count};
@@ -86,12 +87,4 @@ impl Running {
     {
         self.job as u64 + 1
     }
-}
-
-/// Where a task waits. The writer waits for the end of a job.
-#[derive(Clone, Copy)]
-pub(crate) enum Stage {
-    Scheduler(SchedulerStage),
-    Initiator(InitiatorStage),
-    Writer(u32),
 }

@@ -1,35 +1,73 @@
-//! The work of a task, wait by wait. Clauses cite `specs/Works.antt` and `specs/Waiting.antt`.
+//! The work of a task of the spool, from one wait to the next: each task plays one role. Clauses cite `specs/Works.antt`.
+//!
+//! ```text
+//!   new ── begin ──> a wait ── go_on, with its answer ──> a wait ── go_on ──> ... ──> no wait: done, or lost
+//! ```
+//!
+//! Whoever runs the task meets the waits. At which stages a role waits is in the file of that role.
 
-ghost use Rattle.std.specs.Prelude.{◌<◌, ◌≤◌, ◌+◌, Some, IfOk};
+ghost use Rattle.std.specs.Prelude.{◌<◌, ◌≤◌, ◌+◌, IfOk};
 ghost use Rattle.mv_board.specs.Faces.{CallerFace, IsFresh};
+ghost use Rattle.mv_deck.specs.Deck.{deck_data};
 ghost use Rattle.mv_deck.specs.Weight.{most_initiators};
-ghost use Rattle.mv_work.specs.Parts.{jobs_of};
-ghost use Rattle.mv_work.specs.Waiting.{IsSpool};
-ghost use Rattle.mv_work.specs.Works.{HasCome, IsNew, ToldAt, WasTold};
-ghost use Rattle.mv_work.specs.declared.stage.Stage.TheVariants as at;
+ghost use Rattle.mv_work.specs.Works.{HasCome, IsNew, IsNewRole, WasTold};
 
 use crate::initiator::Initiator;
 use crate::need::{Got, Need};
-use crate::next::Next;
 use crate::spool::Spool;
-use crate::stage::{InitiatorStage, SchedulerStage, Stage};
-use mv_deck::Job;
+use crate::stage::{InitiatorStage, SchedulerStage};
+use mv_deck::Deck;
 use mv_io::NoMemory;
 use mv_plan::{FIRST_INITIATOR, READER, SCHEDULER, writer};
 use mv_task::Gate;
-use mv_wait::{Station, Task};
+use mv_wait::Task;
 use std::alloc::Global;
 use std::sync::Wait;
 
-/// Where a task of the spool stands in its work, with the room that the work needs.
+/// What a task is in the spool, with all that it has of its own: where it waits, once it has begun, and what it brings back.
+#[derive(Drop)]
+pub(crate) enum Role {
+    /// Enters the jobs. It never waits.
+    Reader,
+    /// Hands out the jobs.
+    Scheduler(Option<SchedulerStage>),
+    /// Runs the jobs that it is given, and notes what they do.
+    Initiator {
+        me: Initiator,
+        stage: Option<InitiatorStage>,
+    },
+    /// Keeps the end of each job. It waits for the end of a job.
+    Writer {
+        ends: Vec<u32>,
+        job: Option<u32>,
+    },
+}
+
+/// The work of one task of the spool, with the room that it needs.
 #[derive(Drop)]
 pub struct SpoolWork {
-    /// Where it waits, once it has begun.
-    pub(crate) stage: Option<Stage>,
-    /// The initiator, where the task is one.
-    pub(crate) initiator: Initiator,
-    /// The ends that the writer found.
-    pub(crate) ends: Vec<u32>,
+    pub(crate) role: Role,
+}
+
+impl Role {
+    // The role of the task of this number. The tasks are the reader, the scheduler, the initiators and the writer.
+    fn new(alloc: Global, deck: &Deck, initiators: u32, number: u32) -> Result<Role, NoMemory>
+        requires few { initiators ≤ most_initiators }
+        ensures { IfOk result (λ role. IsNewRole (deck_data deck.now) initiators number role) }
+    {
+        if number == READER {
+            return Ok(Role::Reader);
+        }
+        if number == SCHEDULER {
+            return Ok(Role::Scheduler(None));
+        }
+        if number < writer(initiators) {
+            let me = Initiator::with_room(alloc, number - FIRST_INITIATOR, deck)?;
+            return Ok(Role::Initiator { me, stage: None });
+        }
+        let ends = Vec::with_capacity(alloc, deck.jobs.len())?;
+        Ok(Role::Writer { ends, job: None })
+    }
 }
 
 impl SpoolWork {
@@ -37,181 +75,60 @@ impl SpoolWork {
     ///
     /// # Errors
     ///
-    /// `NoMemory` where there is not enough.
+    /// `NoMemory` if there is not enough.
     pub fn new(
         alloc: Global,
-        deck: &[Job],
+        deck: &Deck,
         initiators: u32,
         number: u32,
     ) -> Result<SpoolWork, NoMemory>
         requires few { initiators ≤ most_initiators }
-        ensures { IfOk result (λ work. IsNew (jobs_of deck.now) initiators number work) }
+        ensures { IfOk result (λ work. IsNew (deck_data deck.now) initiators number work) }
     {
-        let initiates = FIRST_INITIATOR <= number && number < writer(initiators);
-        let index = if initiates {
-            number - FIRST_INITIATOR
-        } else {
-            0
-        };
-        let given = if initiates { deck } else { &[] };
-        Ok(SpoolWork {
-            stage: None,
-            initiator: Initiator::with_room(alloc, index, given)?,
-            ends: Vec::with_capacity(
-                alloc,
-                if number == writer(initiators) {
-                    deck.len()
-                } else {
-                    0
-                },
-            )?,
-        })
+        let role = Role::new(alloc, deck, initiators, number)?;
+        Ok(SpoolWork { role })
     }
 
-    /// Begins the work of the task, and answers what it waits for.
+    /// Begins the work of the task, and returns what it waits for. `None` says that the task makes no more events.
     pub fn begin<R: Wait, G: Gate>(
         &mut self,
         rt: &R,
-        station: &Station,
+        spool: &Spool<'_, G>,
         task: &mut Task,
-        deck: &[Job],
-        initiators: u32,
-        gate: &G,
     ) -> Option<Need>
-        requires spool { IsSpool station.now deck.now initiators }
-        requires number { task.old.number < initiators + 3 }
-        requires fresh { IsFresh station.now task.old.number task.old }
-        requires new { IsNew (jobs_of deck.now) initiators task.old.number self.old }
-        ensures { HasCome station.now (jobs_of deck.now) initiators self.new task.old result task.new }
+        requires number { task.old.number < spool.now.initiators + 3 }
+        requires fresh { IsFresh spool.now.board task.old.number task.old }
+        requires new { IsNew spool.now.jobs spool.now.initiators task.old.number self.old }
+        ensures { HasCome spool.now self.new task.old result task.new }
     {
-        let spool = Spool::new(station, deck, initiators, gate);
-        let number = task.number();
-        if number == READER {
-            spool.read(rt, task);
-            return None;
-        }
-        if number == SCHEDULER {
-            return match spool.schedule(0) {
-                Next::Wait(stage, need) => {
-                    self.stage = Some(Stage::Scheduler(stage));
-                    Some(need)
-                }
-                Next::Done => None,
-            };
-        }
-        if number == writer(initiators) {
-            return match spool.write(0) {
-                Next::Wait(job, need) => {
-                    self.stage = Some(Stage::Writer(job));
-                    Some(need)
-                }
-                Next::Done => None,
-            };
-        }
-        match spool.initiate(rt, task, &self.initiator) {
-            Ok(Next::Wait(stage, need)) => {
-                self.stage = Some(Stage::Initiator(stage));
-                Some(need)
+        match &mut self.role {
+            Role::Reader => {
+                spool.read(rt, task);
+                None
             }
-            Ok(Next::Done) => None,
-            Err(_) => None,
+            Role::Scheduler(stage) => spool.begin_scheduler(stage),
+            Role::Initiator { me, stage } => spool.begin_initiator(rt, task, me, stage),
+            Role::Writer { job, .. } => spool.begin_writer(job),
         }
     }
 
-    /// Goes on with the work of the task behind what it was told, and answers what it waits for next.
+    /// Resumes the task with the answer to its last wait, and returns what it waits for next. `None` says that the task makes no
+    /// more events: its program is done, or it met a reply that nothing foresees (`Lost`), which happens in no run.
     pub fn go_on<R: Wait, G: Gate>(
         &mut self,
         rt: &R,
-        station: &Station,
-        task: &mut Task,
-        deck: &[Job],
-        initiators: u32,
-        gate: &G,
-        got: Got,
-    ) -> Option<Need>
-        requires spool { IsSpool station.now deck.now initiators }
-        requires told { (t : CallerFace) × WasTold station.now (jobs_of deck.now) initiators self.old t got task.old }
-        ensures { (t : CallerFace) → WasTold station.now (jobs_of deck.now) initiators self.old t got task.old
-            → HasCome station.now (jobs_of deck.now) initiators self.new t result task.new }
-    {
-        let spool = Spool::new(station, deck, initiators, gate);
-        let Some(waits) = self.stage else {
-            unreachable!()
-        };
-        match waits {
-            Stage::Scheduler(stage) => self.go_on_scheduler(rt, &spool, task, stage, got),
-            Stage::Initiator(stage) => self.go_on_initiator(rt, &spool, task, stage, got),
-            Stage::Writer(job) => self.go_on_writer(rt, &spool, task, job, got),
-        }
-    }
-
-    // The same of the scheduler, which waits at this stage.
-    fn go_on_scheduler<R: Wait, G: Gate>(
-        &mut self,
-        rt: &R,
         spool: &Spool<'_, G>,
         task: &mut Task,
-        stage: SchedulerStage,
         got: Got,
     ) -> Option<Need>
-        requires told { (t : CallerFace) × ToldAt spool.now.board spool.now.jobs spool.now.initiators self.old (Some (at.Scheduler stage)) t got task.old }
-        ensures { (t : CallerFace) → ToldAt spool.now.board spool.now.jobs spool.now.initiators self.old (Some (at.Scheduler stage)) t got task.old
-            → HasCome spool.now.board spool.now.jobs spool.now.initiators self.new t result task.new }
+        requires told { (t : CallerFace) × WasTold spool.now self.old t got task.old }
+        ensures { (t : CallerFace) → WasTold spool.now self.old t got task.old → HasCome spool.now self.new t result task.new }
     {
-        match spool.resume_scheduler(rt, task, stage, got) {
-            Ok(Next::Wait(stage, need)) => {
-                self.stage = Some(Stage::Scheduler(stage));
-                Some(need)
-            }
-            Ok(Next::Done) => None,
-            Err(_) => None,
-        }
-    }
-
-    // And of an initiator.
-    fn go_on_initiator<R: Wait, G: Gate>(
-        &mut self,
-        rt: &R,
-        spool: &Spool<'_, G>,
-        task: &mut Task,
-        stage: InitiatorStage,
-        got: Got,
-    ) -> Option<Need>
-        requires told { (t : CallerFace) × ToldAt spool.now.board spool.now.jobs spool.now.initiators self.old (Some (at.Initiator stage)) t got task.old }
-        ensures { (t : CallerFace) → ToldAt spool.now.board spool.now.jobs spool.now.initiators self.old (Some (at.Initiator stage)) t got task.old
-            → HasCome spool.now.board spool.now.jobs spool.now.initiators self.new t result task.new }
-    {
-        match spool.resume_initiator(rt, task, &mut self.initiator, stage, got) {
-            Ok(Next::Wait(stage, need)) => {
-                self.stage = Some(Stage::Initiator(stage));
-                Some(need)
-            }
-            Ok(Next::Done) => None,
-            Err(_) => None,
-        }
-    }
-
-    // And of the writer, which waits for the end of this job.
-    fn go_on_writer<R: Wait, G: Gate>(
-        &mut self,
-        rt: &R,
-        spool: &Spool<'_, G>,
-        task: &mut Task,
-        job: u32,
-        got: Got,
-    ) -> Option<Need>
-        requires told { (t : CallerFace) × ToldAt spool.now.board spool.now.jobs spool.now.initiators self.old (Some (at.Writer job)) t got task.old }
-        ensures { (t : CallerFace) → ToldAt spool.now.board spool.now.jobs spool.now.initiators self.old (Some (at.Writer job)) t got task.old
-            → HasCome spool.now.board spool.now.jobs spool.now.initiators self.new t result task.new }
-    {
-        let Got::Code(end) = got else { unreachable!() };
-        match spool.on_end(rt, task, &mut self.ends, job, end) {
-            Ok(Next::Wait(job, need)) => {
-                self.stage = Some(Stage::Writer(job));
-                Some(need)
-            }
-            Ok(Next::Done) => None,
-            Err(_) => None,
+        match &mut self.role {
+            Role::Reader => unreachable!(),
+            Role::Scheduler(stage) => spool.go_on_scheduler(rt, task, stage, got),
+            Role::Initiator { me, stage } => spool.go_on_initiator(rt, task, me, stage, got),
+            Role::Writer { ends, job } => spool.go_on_writer(rt, task, ends, job, got),
         }
     }
 }

@@ -1,21 +1,60 @@
-//! The writer. Clauses cite `specs/Waiting.antt` and `specs/Writing.antt`.
+//! The writer: waits for the end of each job, in the order of the deck, and keeps it. Clauses cite `specs/Waiting.antt` and
+//! `specs/Writing.antt`.
+//!
+//! ```text
+//!   begin ──> the end of job 0 ── keep it ──> the end of job 1 ── keep it ──> ... ──> done
+//! ```
 
-ghost use Rattle.std.specs.Prelude.{◌<◌, ◌≤◌, ◌-◌, ◌*◌, [], ◌∷◌, length, Some};
+ghost use Rattle.std.specs.Prelude.{◌≡◌, ◌<◌, ◌≤◌, ◌-◌, ◌*◌, [], ◌∷◌, length, vec_capacity, Some};
+ghost use Rattle.mv_board.specs.Faces.{CallerFace, IsFresh};
+ghost use Rattle.mv_plan.specs.SpoolSetup.{writer};
 ghost use Rattle.mv_work.specs.Needs.{Slots};
 ghost use Rattle.mv_work.specs.Waiting.{IsResting};
+ghost use Rattle.mv_work.specs.Works.{HasComeAs, ToldAs};
 ghost use Rattle.mv_work.specs.Writing.{WriterAsks, WriterComes, ends_from, room_in, writer_due, writer_left};
+ghost use Rattle.mv_work.specs.declared.work.Role.TheVariants as role;
 
 use crate::lost::Lost;
-use crate::need::Need;
-use crate::next::Next;
+use crate::need::{Got, Need};
+use crate::next::{Next, keep_stage};
 use crate::spool::Spool;
 use mv_task::{Gate, Point};
 use mv_wait::Task;
 use std::sync::Wait;
 
 impl<G: Gate> Spool<'_, G> {
-    /// Waits for the end of each job, in order, from this one on.
-    pub(crate) fn write(&self, job: u32) -> Next<u32>
+    /// Begins the writer, which has no end yet and room for all, and returns what it waits for.
+    pub(crate) fn begin_writer(&self, job: &mut Option<u32>) -> Option<Need>
+        ensures { (t : CallerFace) (ends : _) → IsFresh self.now.board (writer self.now.initiators) t → ends.items ≡ []
+            → length self.now.jobs ≤ vec_capacity ends → HasComeAs self.now (role.Writer ends job.new) t result t }
+    {
+        // Reading a field makes the facts of the spool known here.
+        let _ = &self.initiators;
+        let next = self.write(0);
+        keep_stage(job, Ok(next))
+    }
+
+    /// Resumes the writer with the end that it waited for, and returns what it waits for next.
+    pub(crate) fn go_on_writer<R: Wait>(
+        &self,
+        rt: &R,
+        task: &mut Task,
+        ends: &mut Vec<u32>,
+        job: &mut Option<u32>,
+        got: Got,
+    ) -> Option<Need>
+        requires told { (t : CallerFace) × ToldAs self.now (role.Writer ends.old job.old) t got task.old }
+        ensures { (t : CallerFace) → ToldAs self.now (role.Writer ends.old job.old) t got task.old
+            → HasComeAs self.now (role.Writer ends.new job.new) t result task.new }
+    {
+        let Some(at) = *job else { unreachable!() };
+        let Got::Code(end) = got else { unreachable!() };
+        let next = self.on_end(rt, task, ends, at, end);
+        keep_stage(job, next)
+    }
+
+    // Waits for the end of each job, in order, from this one on.
+    fn write(&self, job: u32) -> Next<u32>
         ensures { (ends : _) → length self.now.jobs - job ≤ room_in ends
             → WriterAsks self.now ends (ends_from self.now ends.items job) (2 * (length self.now.jobs - job)) result }
     {
@@ -25,8 +64,8 @@ impl<G: Gate> Spool<'_, G> {
         Next::Wait(job, Need::Block(self.end_for_writer(job)))
     }
 
-    /// The end of this job was told: it is kept, and the next job follows.
-    pub(crate) fn on_end<R: Wait>(
+    // The end of this job was told: it is kept, and the next job follows.
+    fn on_end<R: Wait>(
         &self,
         rt: &R,
         task: &mut Task,

@@ -2,7 +2,7 @@ use Rattle.std.proofs.Common.{◌≡◌, [], ◌∷◌, length, append_assoc, re
 use Rattle.std.specs.Vec.Iter.{into_iter_items}
 use Rattle.std.proofs.lemmas.List.{length-append, map-append}
 use Rattle.mv_machine.proofs.Lists.{all_append}
-use Rattle.mv_work.specs.Parts.{jobs_of}
+use Rattle.mv_deck.specs.Deck.{deck_data}
 use Rattle.mv_polled.specs.Polled.{IsUnpolled}
 use Rattle.mv_polled.proofs.Running.{task_count, task_of}
 use Rattle.mv_polled.proofs.spool.all_polled.Goals as goal
@@ -25,7 +25,7 @@ loop-task-preserved c =
     let polled = c.in_ok-new.field-0 in record {
       yielded = rw append_assoc (rw steps.0 at since.yielded);
       count = (let left = ap length steps.0 in let all = since.count in omega arith);
-      new = rw more.items (all_append (IsUnpolled (jobs_of c.args.deck.now) c.args.initiators) c.loop-task.polled.items (polled ∷ [])
+      new = rw more.items (all_append (IsUnpolled (deck_data c.args.deck.now) c.args.initiators) c.loop-task.polled.items (polled ∷ [])
           since.new (c.in_ok-new.ensures.new, tt));
       tasks = rw (more.items, map-append task_of c.loop-task.polled.items (polled ∷ []), since.tasks, c.in_ok-new.ensures.task) refl;
       room = (let room = since.room in let capacity = more.capacity in omega arith);

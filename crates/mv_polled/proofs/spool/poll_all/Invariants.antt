@@ -1,10 +1,9 @@
 use Rattle.std.proofs.Common.{◌≡◌, ◌+◌, length}
 use Rattle.mv_polled.specs.Polled.{ArePolled}
-use Rattle.mv_work.specs.Parts.{jobs_of}
 use Rattle.mv_polled.proofs.spool.poll_all.Given as goal
 
 abbrev pub invariant-loop : goal.invariant-loop
 invariant-loop g l = record {
-  count : length l.tasks.items ≡ l.initiators + 3;
-  polled : ArePolled l.station (jobs_of l.deck) l.initiators l.tasks.items;
+  count : length l.tasks.items ≡ l.spool.initiators + 3;
+  polled : ArePolled l.spool l.tasks.items;
 }

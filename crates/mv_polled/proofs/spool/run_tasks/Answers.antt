@@ -1,6 +1,7 @@
 use Rattle.std.proofs.Common.{ap, ◌∙◌}
+use Rattle.mv_deck.specs.Deck.{deck_data}
 use Rattle.mv_machine.specs.Setup.{Setup}
-use Rattle.mv_work.specs.Parts.{jobs_of}
+use Rattle.mv_work.specs.Spool.{spool_of}
 use Rattle.mv_polled.proofs.Running.{are_polled, task_count}
 use Rattle.mv_polled.proofs.spool.run_tasks.Goals as goal
 
@@ -19,8 +20,8 @@ run_all-requires-clause-count g c =
 
 pub run_all-requires-clause-polled : goal.run_all-requires-clause-polled
 run_all-requires-clause-polled g c =
-    are_polled c.in_ok-station.station (jobs_of c.args.deck.now) c.args.initiators c.in_ok-station.tasks.items c.in_ok-polled.polled.items
-    c.in_ok-station.ensures.tasks c.in_ok-polled.ensures.new c.in_ok-polled.ensures.tasks
+    are_polled (spool_of c.in_ok-station.station (deck_data c.args.deck.now) c.args.initiators) c.in_ok-station.tasks.items
+    c.in_ok-polled.polled.items c.in_ok-station.ensures.tasks c.in_ok-polled.ensures.new c.in_ok-polled.ensures.tasks
 
 pub returns : goal.returns
-returns g c = record { left = c.run_all.ensures }
+returns g c = record { results = c.run_all.ensures }

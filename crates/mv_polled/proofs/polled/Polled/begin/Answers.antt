@@ -1,51 +1,49 @@
 use Rattle.std.proofs.Common.{sym, subst}
 use Rattle.mv_board.specs.Faces.{CallerFace, IsFresh}
 use Rattle.mv_polled.proofs.Polling.{fits, new_stands, stands_next}
-use Rattle.mv_work.specs.Parts.{jobs_of}
 use Rattle.mv_work.specs.Works.{HasCome}
 use Rattle.mv_polled.proofs.polled.Polled.begin.Goals as goal
 
 pub begin-need-requires-clause-number : goal.begin-need-requires-clause-number
 begin-need-requires-clause-number g c =
     let p = c.requires.polled in
-    let s = new_stands c.args.station.now (jobs_of c.args.deck.now) c.args.initiators c.requires.spool.config p.0 c.args.self.now p.2
-    c.requires.new in rw (s.0, p.2.fresh.number) p.1
+    let was = new_stands c.args.spool.now c.requires.spool.config p.0 c.args.self.now p.2 c.requires.new in
+    rw (was.0, p.2.fresh.number) p.1
 
 pub begin-need-requires-clause-fresh : goal.begin-need-requires-clause-fresh
 begin-need-requires-clause-fresh g c =
     let p = c.requires.polled in
-    let b = c.args.station.now in
-    let s = new_stands b (jobs_of c.args.deck.now) c.args.initiators c.requires.spool.config p.0 c.args.self.now p.2 c.requires.new in
-    subst (λ (t : CallerFace). IsFresh b t.number t) (sym s.0)
+    let b = c.args.spool.now.board in
+    let was = new_stands c.args.spool.now c.requires.spool.config p.0 c.args.self.now p.2 c.requires.new in
+    subst (λ (t : CallerFace). IsFresh b t.number t) (sym was.0)
     (subst (λ m. IsFresh b m p.2.new) (sym p.2.fresh.number) p.2.fresh)
 
 pub begin-need-requires-clause-new : goal.begin-need-requires-clause-new
 begin-need-requires-clause-new g c =
     let p = c.requires.polled in
-    let s = new_stands c.args.station.now (jobs_of c.args.deck.now) c.args.initiators c.requires.spool.config p.0 c.args.self.now p.2
-    c.requires.new in rw (s.0, p.2.fresh.number) s.1
+    let was = new_stands c.args.spool.now c.requires.spool.config p.0 c.args.self.now p.2 c.requires.new in
+    rw (was.0, p.2.fresh.number) was.1
 
 pub take_up-requires-clause-room : goal.take_up-requires-clause-room
 take_up-requires-clause-room g c = c.requires.polled.2.room
 
 pub take_up-requires-clause-need : goal.take_up-requires-clause-need
 take_up-requires-clause-need g c =
-    fits c.args.station.now (jobs_of c.args.deck.now) c.args.initiators c.requires.spool.config c.begin-need.new.self c.begin-need.result
-    c.args.self.now.task c.begin-need.new.task c.begin-need.ensures
+    fits c.args.spool.now c.requires.spool.config c.begin-need.new.self c.begin-need.result c.args.self.now.task
+    c.begin-need.new.task c.begin-need.ensures
 
 pub returns : goal.returns
 returns g c = record {
   polled = λ k lt old.
-      let b = c.args.station.now in
-      let deck = jobs_of c.args.deck.now in
-      let i = c.args.initiators in
-      let was = new_stands b deck i c.requires.spool.config k c.args.self.now old c.requires.new in
+      let s = c.args.spool.now in
+      let config = c.requires.spool.config in
+      let was = new_stands s config k c.args.self.now old c.requires.new in
       record {
         new = old.new;
         fresh = old.fresh;
         room = c.take_up.ensures.room;
-        stands = stands_next b deck i c.requires.spool.config k old.new c.take_up.new.self c.begin-need.result c.take_up.ensures.same
-            (subst (λ (t : CallerFace). HasCome b deck i c.begin-need.new.self t c.begin-need.result c.begin-need.new.task) was.0
+        stands = stands_next s config k old.new c.take_up.new.self c.begin-need.result c.take_up.ensures.same
+            (subst (λ (t : CallerFace). HasCome s c.begin-need.new.self t c.begin-need.result c.begin-need.new.task) was.0
             c.begin-need.ensures) c.take_up.ensures.taken;
       };
 }

@@ -20,7 +20,8 @@ returns g c =
         same = served.same;
         rests = rests_then served c.requires.rests (omega arith);
         fits = (c.requires.between, c.requires.token);
-        leads = subst (λ call. Leads (rounds_noted s.board.config s.jobs me.index (suc (length s.jobs - round.number)) me.noted.jobs round.next)
+        leads = subst (λ call.
+            Leads (rounds_noted s.board.config s.jobs me.index (suc (length s.jobs - round.number)) me.noted.jobs round.next)
             call c.args.task.now c.post.new.task)
             (pause_asked s.board.config round.next (given_then s me (length s.jobs - round.number)))
             (leads_on _ (leads_all _ c.args.task.now) (served_ran (rw c.idle-idle.ensures.block at served)));

@@ -8,5 +8,6 @@ pub returns-clause-own : goal.returns-clause-own
 returns-clause-own g c =
     let s = c.args.self.now in
     let job = c.args.job in
-    rw (c.end_for_writer.ensures, c.jobs.ensures.jobs) (block_own c.jobs.ensures.spool (writer s.initiators) (end_for_writer (length s.jobs) job) (omega arith)
+    rw (c.end_for_writer.ensures, c.jobs.ensures.jobs)
+    (block_own c.jobs.ensures.spool (writer s.initiators) (end_for_writer (length s.jobs) job) (omega arith)
     (writer_part (length s.jobs) s.initiators job (omega arith)) (λ j lt q. omega arith))

@@ -20,4 +20,5 @@ returns g c =
     let first : length s.jobs + 1 ≡ suc (length s.jobs - 0) = omega arith in
     rw c.requires.none (comes_on (subst (λ k. Leads (initiating_noted s.board.config s.jobs c.args.me.now.index)
     (rounds_noted s.board.config s.jobs c.args.me.now.index k [] c.in_ok-next.next) c.args.task.now c.allocate.new.task) first
-    (leads_on _ (leads_all _ c.args.task.now) (served_as (rw on at c.in_ok-next.ensures.served)))) (rw c.requires.none at c.begin_round.ensures))
+    (leads_on _ (leads_all _ c.args.task.now) (served_as (rw on at c.in_ok-next.ensures.served))))
+    (rw c.requires.none at c.begin_round.ensures))

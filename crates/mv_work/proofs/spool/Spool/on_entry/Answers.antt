@@ -20,7 +20,8 @@ use Rattle.mv_work.proofs.spool.Spool.on_entry.Goals as goal
 pub returns-then-is_empty : goal.returns-then-is_empty
 returns-then-is_empty g c =
     let s = c.args.self.now in
-    comes_as (ap (λ (parts : List After). then_jobs s c.args.job (ends_awaited s.board.config (length s.jobs) parts (exit_set s c.args.job)))
+    comes_as (ap (λ (parts : List After).
+    then_jobs s c.args.job (ends_awaited s.board.config (length s.jobs) parts (exit_set s c.args.job)))
     (sym c.after_of-after.ensures.parts ∙ is_none c.after_of-after.result.now c.if-is_empty.ensures)) c.set_exit.ensures
 
 pub end_blocks-requires-clause-earlier : goal.end_blocks-requires-clause-earlier

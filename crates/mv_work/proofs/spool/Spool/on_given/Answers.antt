@@ -110,4 +110,5 @@ start_job-requires-clause-rests g c =
     rests_less c.requires.rests (omega arith)
 
 pub returns-clause-comes : goal.returns-clause-comes
-returns-clause-comes g c = comes_as (left_is g (goal.at.returns-clause-comes g c).After-index false c.if-index.false) c.start_job.ensures.comes
+returns-clause-comes g c =
+    comes_as (left_is g (goal.at.returns-clause-comes g c).After-index false c.if-index.false) c.start_job.ensures.comes

@@ -1,10 +1,14 @@
-use Rattle.std.proofs.Common.{[], ap, length, arith}
+use Rattle.std.proofs.Common.{◌≡◌, ◌-◌, [], ap, length, subst, arith}
+use Rattle.std.specs.List.{range_with_len}
 use Rattle.mv_calls.specs.Posts.{post}
-use Rattle.mv_calls.specs.Program.{finished}
-use Rattle.mv_plan.specs.SpoolSetup.{entered}
+use Rattle.mv_calls.specs.Program.{finished, for_each}
+use Rattle.mv_plan.specs.SpoolSetup.{entered, reader}
+use Rattle.mv_plan.specs.SpoolTasks.{reading}
+use Rattle.mv_work.specs.Ran.{Leads, RanOut}
 use Rattle.mv_work.specs.Spool.{SpoolFace}
 use Rattle.mv_work.proofs.Ranges.{next_done, last_left}
-use Rattle.mv_work.proofs.Runs.{leads_done, out_done, served_few, served_ran, still_of}
+use Rattle.mv_work.proofs.Runs.{leads_all, leads_done, out_done, served_few, served_ran, still_of}
+use Rattle.mv_work.proofs.Spools.{fresh_rests}
 use Rattle.mv_work.proofs.spool.Spool.read.Goals as goal
 
 pub loop-job-preserved : goal.loop-job-preserved
@@ -24,9 +28,22 @@ loop-job-preserved g c =
           (served_ran (rw c.entered-entered.ensures.block at served));
     }
 
+pub loop-job-init : goal.loop-job-init
+loop-job-init g c =
+    let s = c.args.self.now in
+    let rests = fresh_rests c.jobs-job-end.ensures.spool reader (length s.jobs) c.args.task.now c.requires.fresh (omega arith) in
+    let n = length s.jobs in
+    let t = c.args.task.now in
+    let leads : Leads (reading s.board.config n)
+    (for_each (range_with_len 0 (n - 0)) (λ j. post s.board.config (entered j) 0) (finished [])) t t =
+    subst (λ m. Leads (reading s.board.config n) (for_each (range_with_len 0 m) (λ j. post s.board.config (entered j) 0) (finished [])) t t)
+    (let e : n ≡ n - 0 = omega arith in e) (leads_all _ t) in
+    record { board = rests.board; quiet = rests.quiet; left = (let left = rests.left in omega arith); leads = leads }
+
 pub returns : goal.returns
 returns g c =
     let s = c.args.self.now in
     let since = c.loop-job.invariant in
+    let out : RanOut (reading s.board.config (length s.jobs)) [] c.args.task.now c.loop-job.task =
     out_done (leads_done (last_left (λ j. post s.board.config (entered j) 0) (finished []) c.loop-job.job (length s.jobs)
-    since.leads (omega arith)) since.quiet)
+    since.leads (omega arith)) since.quiet) in (out.ran.went.same, (c.requires.fresh.number, out))
