@@ -20,6 +20,7 @@ mod forged_journals;
 mod held_tasks;
 mod journal_rows;
 mod polled_runs;
+mod refused_lists;
 mod scheduled_scripts;
 mod script_rows;
 
