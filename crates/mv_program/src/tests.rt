@@ -65,6 +65,38 @@ VOLUMES 0 0 0 0 0 0 0 0
 CALLERS 11
 ==
 spool 1
+//PAYROLL JOB
+// PRINT PAY RUN 7
+// PRINT DONE
+//BACKUP JOB
+// PRINT COPYING
+// ABEND U0012
+//
+--
+0
+JOB PAYROLL ENDED
+| PAY RUN 7
+| DONE
+JOB BACKUP ABENDED U0012
+| COPYING
+JOBS 2 ENDED 1 ABENDED 1 NOT RUN 0
+VOLUMES 0 0 0 0 0 0 0 0
+--
+ E3 1 POST 16777228 = WOKE 2
+==
+spool 1
+//A JOB
+// USE 0 S
+//
+--
+0
+JOB A ENDED
+JOBS 1 ENDED 1 ABENDED 0 NOT RUN 0
+VOLUMES 0 0 0 0 0 0 0 0
+--
+ L 0 OBTAIN 0 1 S W = GRANTED 0
+==
+spool 1
 //ADD JOB
 // USE 0 X
 // COUNT 0 5
@@ -260,9 +292,15 @@ fn source<X: Abort + AllocGlobal>(rt: &X, text: &[u8], step: usize, call: u64) -
     source
 }
 
-// A sink with so much room, that takes so many bytes a call, and fails at the call of this number.
+// A sink with this much room, that takes at most `step` bytes a call, and fails at the call of this number.
 fn sink<X: Abort + AllocGlobal>(rt: &X, [room, step, call]: [usize; 3]) -> MemSink {
-    let Ok(sink) = MemSink::stepped(rt.alloc(), room, step.max(1), &[call as u64]) else {
+    let fail = [call as u64];
+    let made = if step < room {
+        MemSink::stepped(rt.alloc(), room, step.max(1), &fail)
+    } else {
+        MemSink::new(rt.alloc(), room, &fail)
+    };
+    let Ok(sink) = made else {
         panic!(rt; "no memory for a sink")
     };
     sink
@@ -594,13 +632,13 @@ fn texts_that_are_no_utf_8(rt: HostRuntime) {
     assert_no_utf_8(&rt, "replay", journal, 11, "JOURNAL LINE 2 KIND 1\n");
 }
 
-// Comments and the null statement, 1,048,576 bytes in all, and then one more.
+// Comments and the null statement, 1,048,576 bytes in all, and then a space more.
 #[test]
 fn a_deck_at_the_limit_and_one_byte_more(rt: HostRuntime) {
     let comments = made(&rt, "//*\n".repeat(rt.alloc(), 262_142));
     let deck = made(&rt, format!(in rt.alloc(); "{comments}//**\n//\n"));
     assert_count(&rt, deck.len() as u64, 1_048_576, "the limit");
     assert_run(&rt, "spool 1", &deck, 0, NO_JOB_REPORT, "EVENTS");
-    let deck = made(&rt, format!(in rt.alloc(); "{deck}\n"));
+    let deck = made(&rt, format!(in rt.alloc(); "{deck} "));
     assert_run(&rt, "spool 1", &deck, 4, "INPUT TOO LONG\n", "");
 }

@@ -333,26 +333,39 @@ const STEPS: &str = "\
 // USE 0 X
 ";
 
-// So many jobs, the last with these steps and one more, and a statement behind the null statement.
+// This many jobs, the last with these steps and one more.
 fn heavy_deck(alloc: Global, jobs: u32, step: &str) -> Result<String, AllocError> {
     let mut text = String::new(alloc);
     for job in 0..jobs {
         text.push_str(&format!(in alloc; "//J{job:05} JOB\n")?)?;
     }
-    format!(in alloc; "{text}{STEPS}{step}//\n// PRINT X\n")
+    format!(in alloc; "{text}{STEPS}{step}//\n")
 }
 
-// A deck of 30,839 jobs, the last with such a step, has this first fault.
-fn assert_heavy<X: Abort + AllocGlobal + Threads + Wait + Sync>(rt: &X, step: &str, note: &str) {
-    let text = made(rt, heavy_deck(rt.alloc(), 30_839, step));
-    let mut on = streams_over(rt, text.as_bytes());
-    assert_ends(rt, "polled 1 0", &mut on, 3, "", note);
+// A deck of 30,839 jobs runs to its end.
+fn assert_runs<X: Abort + AllocGlobal + Threads + Wait + Sync>(rt: &X, deck: &str) {
+    let mut on = streams_over(rt, deck.as_bytes());
+    on.report = sink(rt, WIDE);
+    let status = run(rt, "spool 1", &mut on);
+    assert_exit(rt, status, 0, "spool 1");
+    let report = on.report.bytes();
+    assert!(rt; report.starts_with(b"JOB J00000 ENDED\nJOB J00001 ENDED\n"));
+    assert!(rt; report.ends_with(HEAVY_END.as_bytes()));
+    assert_legal(rt, on.journal.bytes());
 }
 
-// 30,839 jobs weigh 524,272 for one initiator; USE and FREE weigh 3, USE and COUNT 4. At 524,287 the fault is that of the line
-// behind the null statement, and above it that of the last step.
+const HEAVY_END: &str = "\
+JOB J30838 ENDED
+JOBS 30839 ENDED 30839 ABENDED 0 NOT RUN 0
+VOLUMES 0 0 0 0 0 0 0 0
+";
+
+// 30,839 jobs weigh 524,272 for one initiator; USE and FREE weigh 3, USE and COUNT 4. At 524,287 the deck is run, and above that the
+// last step is its fault.
 #[test]
 fn the_heaviest_deck(rt: HostRuntime) {
-    assert_heavy(&rt, "// FREE 0\n", "DECK LINE 30851 KIND 11\n");
-    assert_heavy(&rt, "// COUNT 0 1\n", "DECK LINE 30849 KIND 14\n");
+    let deck = made(&rt, heavy_deck(rt.alloc(), 30_839, "// FREE 0\n"));
+    assert_runs(&rt, &deck);
+    let deck = made(&rt, heavy_deck(rt.alloc(), 30_839, "// COUNT 0 1\n"));
+    assert_run(&rt, "spool 1", &deck, 3, "DECK LINE 30849 KIND 14\n", "");
 }

@@ -28,7 +28,7 @@ END 9
 ";
 
 // A task waits for a block that another posts, and releases a pause of that one.
-const PAUSE: &str = "\
+pub(crate) const PAUSE: &str = "\
 JOURNAL 2
 CALLERS 4
 ELEMENTS 1
@@ -80,6 +80,9 @@ const FORGED_PAUSE: &str = "\
 10 ILLEGAL AT LINE 14|2.0 P2 0|2.1 P2 0
 10 ILLEGAL AT LINE 20|GIVEN 0 1|GIVEN 5 1
 ";
+
+// The same of the pause alone, which has this line in version 1 too.
+const FORGED_GIFT: &str = "10 ILLEGAL AT LINE 20|GIVEN 0 1|GIVEN 5 1\n";
 
 // What is said otherwise of each event of the first: that its place is one higher, or that its reply is another; and at the end a number
 // with a leading zero. Beside each stands the line on which it is refused.
@@ -156,11 +159,13 @@ pub(crate) fn assert_forged<X: Abort + AllocGlobal + Threads + Wait + Sync>(
 
 #[test]
 fn journals_that_are_forged(rt: HostRuntime) {
-    let old = unnumbered(&rt, WAIT);
+    let old_wait = unnumbered(&rt, WAIT);
+    let old_pause = unnumbered(&rt, PAUSE);
     for (journal, forgeries) in [
-        (old.as_str(), FORGERIES),
+        (old_wait.as_str(), FORGERIES),
         (WAIT, FORGERIES),
         (WAIT, MISNUMBERED),
+        (old_pause.as_str(), FORGED_GIFT),
         (PAUSE, FORGED_PAUSE),
         (POSTS, FORGED_POSTS),
     ] {

@@ -5,7 +5,7 @@ ghost use Rattle.std.specs.Prelude.{◌≤◌, IsTrue, All};
 ghost use Rattle.mv_machine.specs.Limits.{highest_place};
 ghost use Rattle.mv_entrytext.specs.Fault.{HasJournal};
 
-use super::forged_journals::{assert_forged, unnumbered};
+use super::forged_journals::{PAUSE, assert_forged, unnumbered};
 use super::*;
 use mv_calls::{number_calls, replay_calls};
 use mv_entrytext::{Journal, read_journal, write_journal, write_old_journal};
@@ -190,6 +190,19 @@ EVENTS
 END 0
 ";
 
+// No block, and no event.
+const NO_EVENT: &str = "\
+JOURNAL 1
+CALLERS 1
+ELEMENTS 1
+VOLUMES 8
+LATCHES 8
+QUOTA 8 0
+BUDGET 0
+EVENTS
+END 0
+";
+
 // Each operation and each reply, with numbers at the ends of their ranges. The machine has no answer to the first: it has no such caller.
 const RANGES: &str = "\
 JOURNAL 1
@@ -265,8 +278,8 @@ fn written_again(alloc: Global, journal: &Journal) -> Result<Vec<u8>, NoMemory>
     write_old_journal(alloc, &journal.config, &journal.entries)
 }
 
-// A text of version 1 is read, and written again.
-fn assert_read_back(rt: &impl Abort, alloc: Global, text: &[u8]) {
+// A text is read, and written in version 1: that is this one.
+fn assert_written_again(rt: &impl Abort, alloc: Global, text: &[u8], old: &[u8]) {
     assert!(rt; text.len() < 10_000);
     let Ok(journal) = read_journal(alloc, text) else {
         panic!(rt; "no journal")
@@ -274,7 +287,7 @@ fn assert_read_back(rt: &impl Abort, alloc: Global, text: &[u8]) {
     let Ok(written) = written_again(alloc, &journal) else {
         panic!(rt; "no memory for a journal")
     };
-    assert_bytes(rt, &written, text, "in version 1");
+    assert_bytes(rt, &written, old, "in version 1");
 }
 
 // The numbers that were read are those of the calls, as mv_calls has them for those who have no text.
@@ -310,11 +323,20 @@ fn entries_of_one_call_have_one_number(rt: HostRuntime) {
 fn exits_and_no_event(rt: HostRuntime) {
     let old = unnumbered(&rt, EXITS);
     assert_run(&rt, "convert", &old, 0, EXITS, "");
-    assert_run(&rt, "replay", &old, 0, "LEGAL 0 EVENTS\n", "");
+    for journal in [&old, NO_EVENT] {
+        assert_run(&rt, "replay", journal, 0, "LEGAL 0 EVENTS\n", "");
+    }
 }
 
 #[test]
 fn entries_at_the_ends_of_their_ranges(rt: HostRuntime) {
     assert_run(&rt, "replay", RANGES, 10, "ILLEGAL AT LINE 9\n", "");
-    assert_read_back(&rt, rt.alloc(), RANGES.as_bytes());
+    let text = RANGES.as_bytes();
+    assert_written_again(&rt, rt.alloc(), text, text);
+}
+
+#[test]
+fn a_journal_of_version_2_is_written_in_version_1(rt: HostRuntime) {
+    let old = unnumbered(&rt, PAUSE);
+    assert_written_again(&rt, rt.alloc(), PAUSE.as_bytes(), old.as_bytes());
 }

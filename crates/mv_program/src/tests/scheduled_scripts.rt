@@ -62,7 +62,34 @@ END
 #[test]
 fn a_task_waits_for_another(rt: HostRuntime) {
     let answers = answers_of(&rt, ONE_WAITS, " E0 2 SETTLE = COMPLETE 3\n");
-    assert!(rt; answers.starts_with("0 1 WAITED C3\n1 1 "));
+    let expected = if answers.ends_with("WOKE\n") {
+        "0 1 WAITED C3\n1 1 WOKE\n"
+    } else {
+        "0 1 WAITED C3\n1 1 POSTED\n"
+    };
+    assert_text(&rt, answers.as_bytes(), expected, ONE_WAITS);
+}
+
+// A task pauses, and another releases its element once that is in use.
+const ONE_PAUSES: &str = "\
+SCRIPT 2
+ECB 1
+TASK
+ALLOC
+POST 0 1
+PAUSE 0.0
+TASK
+WAIT 1 0
+RELEASE 0.0 9
+END
+";
+
+#[test]
+fn a_pause_is_given_the_code_of_its_release(rt: HostRuntime) {
+    let answers = answers_of(&rt, ONE_PAUSES, " = GIVEN 9 1\n");
+    assert!(rt; answers.starts_with("0 1 TOKEN 0.0\n0 2 "));
+    assert!(rt; answers.contains("\n0 3 GIVEN 9 0.1\n1 1 WAITED C1\n1 2 "));
+    assert!(rt; answers.ends_with(" EARLY\n") || answers.ends_with(" WOKE\n"));
 }
 
 // Of sixteen posts of one block by two tasks one is taken, and each other is told its code.
