@@ -69,6 +69,7 @@ fn configuration(alloc: Global, pairs: u32, reads: u32) -> Result<ValidConfig, N
     };
     match config.check(alloc) {
         Ok(config) => Ok(config),
+        // out of memory: the check was.
         Err(CheckRefusal::NoMemory) => Err(NoMemory),
         Err(_) => unreachable!(),
     }

@@ -31,12 +31,13 @@ fn tell_read(rt: &impl Print, read: &[Vec<Pair>]) -> io::Result<()> {
 }
 
 fn main(rt: HostRuntime) -> io::Result<()> {
-    // Nothing but memory can be wanting.
     let Ok(Shared { read, history }) = share(&rt, rt.alloc(), &PAIRS, READS) else {
+        // out of memory: `share` fails for nothing else.
         return Err(io::Error::from(ErrorKind::OutOfMemory));
     };
     tell_read(&rt, &read)?;
     let Ok(listed) = history.listed(rt.alloc()) else {
+        // out of memory: `listed` fails for nothing else.
         return Err(io::Error::from(ErrorKind::OutOfMemory));
     };
     let legal = replay(rt.alloc(), &listed.config, &listed.journal).is_ok();

@@ -7,8 +7,8 @@ pub use completion::{Completed, complete};
 use std::io::{self, ErrorKind};
 
 fn main(rt: HostRuntime) -> io::Result<()> {
-    // Nothing but memory can be wanting.
     let Ok(completed) = complete(&rt, rt.alloc(), 12) else {
+        // out of memory: `complete` fails for nothing else.
         return Err(io::Error::from(ErrorKind::OutOfMemory));
     };
     println!(rt; "{}", completed.told)?;

@@ -19,12 +19,13 @@ fn tell_taken(rt: &impl Print, taken: &[u32]) -> io::Result<()> {
 }
 
 fn main(rt: HostRuntime) -> io::Result<()> {
-    // The configuration is one that nothing refuses, so only memory can be wanting.
     let Ok(HandedOver { taken, history }) = hand_over(&rt, rt.alloc(), &ITEMS) else {
+        // out of memory: `hand_over` fails for nothing else.
         return Err(io::Error::from(ErrorKind::OutOfMemory));
     };
     tell_taken(&rt, &taken)?;
     let Ok(listed) = history.listed(rt.alloc()) else {
+        // out of memory: `listed` fails for nothing else.
         return Err(io::Error::from(ErrorKind::OutOfMemory));
     };
     let legal = replay(rt.alloc(), &listed.config, &listed.journal).is_ok();

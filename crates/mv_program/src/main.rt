@@ -41,6 +41,7 @@ fn main(rt: HostRuntime) -> ExitCode {
         Ok(words) => words,
         Err(error) if error.kind() == ErrorKind::OutOfMemory => {
             tell(&mut notes, Some(Note::NoMemory));
+            // out of memory: there was no room for the words.
             return ExitCode::from(Status::NoMemory.exit());
         }
         // Arguments that are not text are no command.

@@ -116,6 +116,7 @@ pub(crate) fn status_of(replay: ReplayStatus) -> Status
         ReplayStatus::TooLong => Status::TooLong,
         ReplayStatus::ReadFailed => Status::ReadFailed,
         ReplayStatus::ReportFailed => Status::ReportFailed,
+        // out of memory: the replay was.
         ReplayStatus::NoMemory => Status::NoMemory,
         ReplayStatus::Illegal(line) => Status::Illegal(line),
         ReplayStatus::Text(fault) => Status::Text(fault),

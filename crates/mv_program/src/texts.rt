@@ -120,6 +120,7 @@ pub(crate) fn texts_of<X: Threads + Wait + Sync, G: Gate + Sync>(
     let deck = match read_deck(alloc, input, initiators) {
         Ok(deck) => deck,
         Err(TextRefusal::Fault(fault)) => return Err(Status::Deck(fault)),
+        // out of memory: `read_deck` was.
         Err(TextRefusal::NoMemory) => return Err(Status::NoMemory),
     };
     let texts = texts_of_deck(rt, alloc, &deck, initiators, way, gate)?;
@@ -135,6 +136,7 @@ fn deck_of_load(alloc: Global, jobs: u32, initiators: u32) -> Result<Deck, NoMem
     let text = load_deck(alloc, jobs)?;
     match read_deck(alloc, &text, initiators) {
         Ok(deck) => Ok(deck),
+        // out of memory: `read_deck` was.
         Err(TextRefusal::NoMemory) => Err(NoMemory),
         // A load has no fault.
         Err(TextRefusal::Fault(_)) => unreachable!(),
@@ -190,6 +192,7 @@ pub(crate) fn texts_of_script<X: Threads + Wait + Sync>(
     let script = match read_script(alloc, input) {
         Ok(script) => script,
         Err(TextRefusal::Fault(fault)) => return Err(Status::Script(fault)),
+        // out of memory: `read_script` was.
         Err(TextRefusal::NoMemory) => return Err(Status::NoMemory),
     };
     let texts = texts_of_run(rt, alloc, &script)?;

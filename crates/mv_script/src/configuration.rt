@@ -43,6 +43,7 @@ fn checked(alloc: Global, config: Config) -> Result<ValidConfig, NoMemory>
     match config.check(alloc) {
         Ok(config) => Ok(config),
         Err(refusal) => match refusal {
+            // out of memory: the check was.
             CheckRefusal::NoMemory => Err(NoMemory),
             _ => unreachable!(),
         },

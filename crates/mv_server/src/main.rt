@@ -27,6 +27,7 @@ fn tell_answers(rt: &impl Print, answers: &[u32]) -> io::Result<()> {
 
 fn tell_rounds<R: Print + Threads + Wait + Sync>(rt: &R, alloc: Global) -> io::Result<()> {
     let Ok(answers) = serve_in_rounds(rt, alloc, &REQUESTS, ROUND) else {
+        // out of memory: `serve_in_rounds` fails for nothing else.
         return Err(io::Error::from(ErrorKind::OutOfMemory));
     };
     println!(rt; "IN ROUNDS OF {ROUND} {answers:?}")?;
@@ -34,12 +35,13 @@ fn tell_rounds<R: Print + Threads + Wait + Sync>(rt: &R, alloc: Global) -> io::R
 }
 
 fn main(rt: HostRuntime) -> io::Result<()> {
-    // Nothing but memory can be wanting.
     let Ok(Served { answers, history }) = serve_all(&rt, rt.alloc(), &REQUESTS) else {
+        // out of memory: `serve_all` fails for nothing else.
         return Err(io::Error::from(ErrorKind::OutOfMemory));
     };
     tell_answers(&rt, &answers)?;
     let Ok(listed) = history.listed(rt.alloc()) else {
+        // out of memory: `listed` fails for nothing else.
         return Err(io::Error::from(ErrorKind::OutOfMemory));
     };
     let legal = replay(rt.alloc(), &listed.config, &listed.journal).is_ok();

@@ -69,6 +69,7 @@ fn judge(alloc: Global, history: History) -> Result<(), NoMemory>
     let listed = history.listed(alloc)?;
     match replay(alloc, &listed.config, &listed.journal) {
         Ok(_) => Ok(()),
+        // out of memory: `replay` was.
         Err(ReplayRefusal::NoMemory) => Err(NoMemory),
         Err(_) => unreachable!(),
     }
