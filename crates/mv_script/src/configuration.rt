@@ -2,12 +2,12 @@
 
 ghost use Rattle.std.specs.Prelude.{◌≡◌, map, replicate, IfOk};
 ghost use Rattle.mv_machine.specs.Check.{IsValid};
-ghost use Rattle.mv_machine.specs.Config.{exit_of, setup_of};
+ghost use Rattle.mv_machine.specs.Config.{exit_of};
 ghost use Rattle.mv_script.specs.Costs.{script_setup};
 
 use crate::limits::{ELEMENTS_PER_TASK, LATCHES, POSTED_QUOTA, QUOTA, VOLUMES};
 use mv_io::NoMemory;
-use mv_machine::{CheckRefusal, Config, Exit, ValidConfig};
+use mv_machine::{Config, Exit, ValidConfig};
 use std::alloc::{AllocError, Global};
 
 /// The configuration of a script with so many tasks, and with these blocks, exits and budgets.
@@ -32,22 +32,7 @@ pub(crate) fn with_budgets(
         owners,
         exits,
     };
-    checked(alloc, config)
-}
-
-// A configuration that no rule refuses.
-fn checked(alloc: Global, config: Config) -> Result<ValidConfig, NoMemory>
-    requires { IsValid (setup_of config) }
-    ensures { IfOk result (λ c. c ≡ setup_of config) }
-{
-    match config.check(alloc) {
-        Ok(config) => Ok(config),
-        Err(refusal) => match refusal {
-            // out of memory: the check was.
-            CheckRefusal::NoMemory => Err(NoMemory),
-            _ => unreachable!(),
-        },
-    }
+    ValidConfig::of(alloc, config)
 }
 
 /// The same with budgets of nothing, by which the calls of its tasks cost.
@@ -101,5 +86,5 @@ pub fn copy_config(alloc: Global, config: &ValidConfig) -> Result<ValidConfig, N
         owners: Vec::from_slice(alloc, &given.owners)?,
         exits: copied(alloc, &given.exits)?,
     };
-    checked(alloc, copy)
+    ValidConfig::of(alloc, copy)
 }
