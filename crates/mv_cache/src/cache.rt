@@ -12,7 +12,7 @@ use mv_attach::{Work, run_tasks};
 use mv_io::NoMemory;
 use mv_latch::{LatchForm, Mode};
 use mv_latchset::{Obtained, obtain, release_latch};
-use mv_machine::{CheckRefusal, Config, History, ValidConfig};
+use mv_machine::{Config, History, ValidConfig};
 use mv_wait::{Station, Task};
 use std::alloc::Global;
 use std::sync::Wait;
@@ -67,12 +67,7 @@ fn configuration(alloc: Global, pairs: u32, reads: u32) -> Result<ValidConfig, N
         owners: Vec::new(alloc),
         exits: Vec::new(alloc),
     };
-    match config.check(alloc) {
-        Ok(config) => Ok(config),
-        // out of memory: the check was.
-        Err(CheckRefusal::NoMemory) => Err(NoMemory),
-        Err(_) => unreachable!(),
-    }
+    ValidConfig::of(alloc, config)
 }
 
 // Writes the pair of this number, under the latch alone.

@@ -6,7 +6,7 @@ mod cache;
 
 pub use cache::{Pair, Shared, share};
 use mv_machine::replay;
-use std::io::{self, ErrorKind, Print};
+use std::io::{self, Print};
 
 // What is written, one after the other.
 const PAIRS: [Pair; 4] = [
@@ -31,15 +31,9 @@ fn tell_read(rt: &impl Print, read: &[Vec<Pair>]) -> io::Result<()> {
 }
 
 fn main(rt: HostRuntime) -> io::Result<()> {
-    let Ok(Shared { read, history }) = share(&rt, rt.alloc(), &PAIRS, READS) else {
-        // out of memory: `share` fails for nothing else.
-        return Err(io::Error::from(ErrorKind::OutOfMemory));
-    };
+    let Shared { read, history } = share(&rt, rt.alloc(), &PAIRS, READS)?;
     tell_read(&rt, &read)?;
-    let Ok(listed) = history.listed(rt.alloc()) else {
-        // out of memory: `listed` fails for nothing else.
-        return Err(io::Error::from(ErrorKind::OutOfMemory));
-    };
+    let listed = history.listed(rt.alloc())?;
     let legal = replay(rt.alloc(), &listed.config, &listed.journal).is_ok();
     println!(rt; "LEGAL {legal}")?;
     Ok(())

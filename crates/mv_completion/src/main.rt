@@ -4,13 +4,10 @@
 mod completion;
 
 pub use completion::{Completed, complete};
-use std::io::{self, ErrorKind};
+use std::io;
 
 fn main(rt: HostRuntime) -> io::Result<()> {
-    let Ok(completed) = complete(&rt, rt.alloc(), 12) else {
-        // out of memory: `complete` fails for nothing else.
-        return Err(io::Error::from(ErrorKind::OutOfMemory));
-    };
+    let completed = complete(&rt, rt.alloc(), 12)?;
     println!(rt; "{}", completed.told)?;
     Ok(())
 }

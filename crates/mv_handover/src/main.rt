@@ -6,7 +6,7 @@ mod handover;
 
 pub use handover::{HandedOver, hand_over};
 use mv_machine::replay;
-use std::io::{self, ErrorKind, Print};
+use std::io::{self, Print};
 
 // What is handed over.
 const ITEMS: [u32; 10] = [3, 1, 4, 1, 5, 9, 2, 6, 5, 3];
@@ -19,15 +19,9 @@ fn tell_taken(rt: &impl Print, taken: &[u32]) -> io::Result<()> {
 }
 
 fn main(rt: HostRuntime) -> io::Result<()> {
-    let Ok(HandedOver { taken, history }) = hand_over(&rt, rt.alloc(), &ITEMS) else {
-        // out of memory: `hand_over` fails for nothing else.
-        return Err(io::Error::from(ErrorKind::OutOfMemory));
-    };
+    let HandedOver { taken, history } = hand_over(&rt, rt.alloc(), &ITEMS)?;
     tell_taken(&rt, &taken)?;
-    let Ok(listed) = history.listed(rt.alloc()) else {
-        // out of memory: `listed` fails for nothing else.
-        return Err(io::Error::from(ErrorKind::OutOfMemory));
-    };
+    let listed = history.listed(rt.alloc())?;
     let legal = replay(rt.alloc(), &listed.config, &listed.journal).is_ok();
     println!(rt; "{} EVENTS, LEGAL {legal}", listed.journal.len())?;
     Ok(())

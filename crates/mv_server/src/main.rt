@@ -8,7 +8,7 @@ use mv_machine::replay;
 pub use rounds::serve_in_rounds;
 pub use server::{Served, answer_to, serve_all};
 use std::alloc::Global;
-use std::io::{self, ErrorKind, Print};
+use std::io::{self, Print};
 use std::sync::Wait;
 use std::thread::Threads;
 
@@ -26,24 +26,15 @@ fn tell_answers(rt: &impl Print, answers: &[u32]) -> io::Result<()> {
 }
 
 fn tell_rounds<R: Print + Threads + Wait + Sync>(rt: &R, alloc: Global) -> io::Result<()> {
-    let Ok(answers) = serve_in_rounds(rt, alloc, &REQUESTS, ROUND) else {
-        // out of memory: `serve_in_rounds` fails for nothing else.
-        return Err(io::Error::from(ErrorKind::OutOfMemory));
-    };
+    let answers = serve_in_rounds(rt, alloc, &REQUESTS, ROUND)?;
     println!(rt; "IN ROUNDS OF {ROUND} {answers:?}")?;
     Ok(())
 }
 
 fn main(rt: HostRuntime) -> io::Result<()> {
-    let Ok(Served { answers, history }) = serve_all(&rt, rt.alloc(), &REQUESTS) else {
-        // out of memory: `serve_all` fails for nothing else.
-        return Err(io::Error::from(ErrorKind::OutOfMemory));
-    };
+    let Served { answers, history } = serve_all(&rt, rt.alloc(), &REQUESTS)?;
     tell_answers(&rt, &answers)?;
-    let Ok(listed) = history.listed(rt.alloc()) else {
-        // out of memory: `listed` fails for nothing else.
-        return Err(io::Error::from(ErrorKind::OutOfMemory));
-    };
+    let listed = history.listed(rt.alloc())?;
     let legal = replay(rt.alloc(), &listed.config, &listed.journal).is_ok();
     println!(rt; "LEGAL {legal}")?;
     tell_rounds(&rt, rt.alloc())

@@ -71,6 +71,6 @@ fn judge(alloc: Global, history: History) -> Result<(), NoMemory>
         Ok(_) => Ok(()),
         // out of memory: `replay` was.
         Err(ReplayRefusal::NoMemory) => Err(NoMemory),
-        Err(_) => unreachable!(),
+        Err(ReplayRefusal::Illegal(_)) => unreachable!(),
     }
 }
