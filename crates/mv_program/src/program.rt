@@ -14,7 +14,7 @@ ghost use Rattle.mv_replay.specs.Status.{note_of as replay_note};
 
 use crate::command::{Command, command_of};
 use crate::running::run;
-use crate::status::{Status, note_of, status_of};
+use crate::status::{Status, note_of};
 use mv_ending::tell;
 use mv_io::{Sink, Source};
 use mv_replay::{JournalCommand, judge_journal};
@@ -45,7 +45,7 @@ fn judge<D: Source, R: Sink, N: Sink>(
     ensures counts { (D.faults input.old ≤ D.faults input.new) × (R.faults report.old ≤ R.faults report.new)
         × (N.faults notes.old ≤ N.faults notes.new) }
 {
-    status_of(judge_journal(alloc, command, input, report, notes))
+    Status::from(judge_journal(alloc, command, input, report, notes))
 }
 
 /// Runs a command: reads the input, and writes the report, and after it the journal where the command has one. All

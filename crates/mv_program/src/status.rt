@@ -79,6 +79,23 @@ impl From<NoMemory> for Status {
     }
 }
 
+/// The status of a run that was a replay.
+impl From<ReplayStatus> for Status {
+    ghost from_gives = { λ replay status. replay_of status ≡ Some replay };
+
+    fn from(replay: ReplayStatus) -> Self {
+        match replay {
+            ReplayStatus::Done => Status::Done,
+            ReplayStatus::TooLong => Status::TooLong,
+            ReplayStatus::ReadFailed => Status::ReadFailed,
+            ReplayStatus::ReportFailed => Status::ReportFailed,
+            ReplayStatus::NoMemory => Status::NoMemory,
+            ReplayStatus::Illegal(line) => Status::Illegal(line),
+            ReplayStatus::Text(fault) => Status::Text(fault),
+        }
+    }
+}
+
 /// What is told of a status on the notes.
 pub(crate) fn note_of(status: Status) -> Option<Note>
     ensures { result ≡ note_by_status status }
@@ -104,21 +121,5 @@ pub(crate) fn note_of(status: Status) -> Option<Note>
             line: fault.line,
             kind: fault.kind,
         }),
-    }
-}
-
-/// The status of a run that was a replay.
-pub(crate) fn status_of(replay: ReplayStatus) -> Status
-    ensures { replay_of result ≡ Some replay }
-{
-    match replay {
-        ReplayStatus::Done => Status::Done,
-        ReplayStatus::TooLong => Status::TooLong,
-        ReplayStatus::ReadFailed => Status::ReadFailed,
-        ReplayStatus::ReportFailed => Status::ReportFailed,
-        // out of memory: the replay was.
-        ReplayStatus::NoMemory => Status::NoMemory,
-        ReplayStatus::Illegal(line) => Status::Illegal(line),
-        ReplayStatus::Text(fault) => Status::Text(fault),
     }
 }

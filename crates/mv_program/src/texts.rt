@@ -23,7 +23,6 @@ use crate::status::Status;
 use mv_deck::{Deck, load_deck, read_deck};
 use mv_entrytext::HistoryText;
 use mv_io::NoMemory;
-use mv_line::TextRefusal;
 use mv_polled::{RoundOrder, run_polled};
 use mv_report::{write_report, write_summary};
 use mv_runscript::{run_script, write_answers};
@@ -119,9 +118,7 @@ pub(crate) fn texts_of<X: Threads + Wait + Sync, G: Gate + Sync>(
 {
     let deck = match read_deck(alloc, input, initiators) {
         Ok(deck) => deck,
-        Err(TextRefusal::Fault(fault)) => return Err(Status::Deck(fault)),
-        // out of memory: `read_deck` was.
-        Err(TextRefusal::NoMemory) => return Err(Status::NoMemory),
+        Err(refusal) => return Err(Status::Deck(refusal.fault()?)),
     };
     let texts = texts_of_deck(rt, alloc, &deck, initiators, way, gate)?;
     Ok(texts)
@@ -136,10 +133,11 @@ fn deck_of_load(alloc: Global, jobs: u32, initiators: u32) -> Result<Deck, NoMem
     let text = load_deck(alloc, jobs)?;
     match read_deck(alloc, &text, initiators) {
         Ok(deck) => Ok(deck),
-        // out of memory: `read_deck` was.
-        Err(TextRefusal::NoMemory) => Err(NoMemory),
-        // A load has no fault.
-        Err(TextRefusal::Fault(_)) => unreachable!(),
+        Err(refusal) => match refusal.fault() {
+            // A load has no fault.
+            Ok(_) => unreachable!(),
+            Err(no_memory) => Err(no_memory),
+        },
     }
 }
 
@@ -191,9 +189,7 @@ pub(crate) fn texts_of_script<X: Threads + Wait + Sync>(
 {
     let script = match read_script(alloc, input) {
         Ok(script) => script,
-        Err(TextRefusal::Fault(fault)) => return Err(Status::Script(fault)),
-        // out of memory: `read_script` was.
-        Err(TextRefusal::NoMemory) => return Err(Status::NoMemory),
+        Err(refusal) => return Err(Status::Script(refusal.fault()?)),
     };
     let texts = texts_of_run(rt, alloc, &script)?;
     Ok(texts)

@@ -23,7 +23,7 @@ pub unreachable-requires : goal.unreachable-requires
 unreachable-requires c =
     let n = c.args.initiators in
     let same : c.deref.result.now ≡ load_text c.args.jobs = c.deref.ensures.value ∙ c.in_ok-text.ensures.text in
-    none_is_told (load_text c.args.jobs) n c.in-Err-Fault.field-0-0
+    none_is_told (load_text c.args.jobs) n c.in-Ok-fault.field-0
     (no_fault c.args.jobs n c.requires.jobs.0 c.requires.jobs.1 c.requires.initiators.1)
-    (subst (λ (r : TextRefusal). TellsFirst r (first_fault (load_text c.args.jobs) n)) c.in-Err-Fault.field-0-is
-    (subst (λ (bytes : List ℕ). TellsFirst c.in-Err-Fault.field-0 (first_fault bytes n)) same c.in-Err-Fault.ensures.fault))
+    (subst (λ (r : TextRefusal). TellsFirst r (first_fault (load_text c.args.jobs) n)) c.in-Ok-fault.ensures
+    (subst (λ (bytes : List ℕ). TellsFirst c.in-Err.refusal (first_fault bytes n)) same c.in-Err.ensures.fault))
