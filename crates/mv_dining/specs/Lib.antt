@@ -1,0 +1,4 @@
+-- the configuration
+pub mod Setup
+-- what a philosopher keeps to
+pub mod Dining
