@@ -1,11 +1,12 @@
 //! No history of the spool's plan deadlocks, and each can be continued to a run: which histories these are, and how long they get.
 //! The clauses cite `specs/Progress.antt`.
-ghost use Rattle.std.specs.Prelude.{◌≤◌, ◌++◌, ◌∷◌, [], ℕ, List, ◌⊎◌, ◌↔◌};
+ghost use Rattle.std.specs.Prelude.{◌≡◌, ◌≤◌, ◌++◌, ◌∷◌, [], ℕ, List, ◌⊎◌, ◌↔◌};
 ghost use Rattle.mv_machine.specs.declared.entry.Entry.{Entry};
 ghost use Rattle.mv_deck.specs.Deck.{JobData};
 ghost use Rattle.mv_deck.specs.Sound.{IsSound};
 ghost use Rattle.mv_plan.specs.SpoolRun.{Follows, IsRun};
-ghost use Rattle.mv_progress.specs.Progress.{HasNoDoomedTask, HasNextEvent, ExtendsToARun, IsNoEarlySettle, HasNoEarlySettle};
+ghost use Rattle.mv_progress.specs.Progress.{HasNoDoomedTask, HasNextEvent, CannotDeadlock, ExtendsToARun};
+ghost use Rattle.mv_progress.specs.Progress.{IsNoEarlySettle, HasNoEarlySettle};
 
 /// Deadlock freedom: as long as no task is doomed, all tasks are done or one can make its next event. Whichever event a scheduler
 /// takes next, it dooms no task unless it is an early settle.
@@ -29,6 +30,14 @@ pub fn histories_extend_to_runs()
 pub fn prefixes_of_runs_have_no_doomed_task()
     ensures { (deck : List JobData) (initiators : ℕ) (es rest : List Entry)
         → 1 ≤ initiators → IsSound deck initiators → IsRun deck initiators (es ++ rest) → HasNoDoomedTask deck initiators es }
+{}
+
+/// No run deadlocks, whatever the schedule: at each moment all tasks are done or one of them can make its next event, and no task is
+/// doomed. `run_deck` of mv_spool and `run_polled` of mv_polled return the history of a run (their clauses `run`), and the journal of a
+/// deck's run tells one. That a thread runs, that a wake arrives and that a call returns is not said.
+pub fn runs_do_not_deadlock()
+    ensures { (deck : List JobData) (initiators : ℕ) (es before later : List Entry) → 1 ≤ initiators → IsSound deck initiators
+        → IsRun deck initiators es → es ≡ before ++ later → CannotDeadlock deck initiators before }
 {}
 
 /// A history that follows the plan has a doomed task exactly if it has an early settle, which a journal shows.
