@@ -1,11 +1,17 @@
-//! What the commands have to do with each other. Its clauses cite specs/Texts.
+//! What the commands have to do with each other, and that no run of a deck deadlocks. Clauses cite specs/Texts, specs/Program and
+//! mv_progress.
 
-ghost use Rattle.std.specs.Prelude.{◌≤◌, ℕ, List, length};
-ghost use Rattle.mv_deck.specs.Deck.{JobData};
+ghost use Rattle.std.specs.Prelude.{◌≡◌, ◌≤◌, ◌++◌, ℕ, List, length, None};
+ghost use Rattle.mv_deck.specs.Deck.{JobData, deck_of};
+ghost use Rattle.mv_deck.specs.Fault.{first_fault};
+ghost use Rattle.mv_deck.specs.Load.{most_jobs, load_text};
+ghost use Rattle.mv_deck.specs.Weight.{most_initiators};
 ghost use Rattle.mv_machine.specs.declared.entry.Entry.{Entry};
 ghost use Rattle.mv_machine.specs.Setup.{Setup};
+ghost use Rattle.mv_progress.specs.Progress.{CannotDeadlock};
 ghost use Rattle.mv_replay.specs.Judgement.{journal_limit, IsLegalJournal};
 ghost use Rattle.mv_script.specs.Script.{ScriptData};
+ghost use Rattle.mv_program.specs.Program.{TellsRun, TellsLoad};
 ghost use Rattle.mv_program.specs.Texts.{TellsHistory, IsJournalOfRun, IsRunOfScript};
 
 /// What a run writes to its journal, of a deck or of a script, is legal, as a replay judges it: each event counts. It is
@@ -17,4 +23,16 @@ pub fn runs_are_legal()
         → IsLegalJournal text (length run.events) }
     ensures within { (text : List ℕ) (setup : Setup) (events : List Entry) → TellsHistory text setup events
         → length text ≤ journal_limit }
+{}
+
+/// The run that the journal of a deck tells does not deadlock, whatever the schedule: at each moment of its history all tasks are done or
+/// one of them can make its next event, and no task is doomed. That a thread runs, that a wake arrives and that a call returns is not
+/// said.
+pub fn decks_do_not_deadlock()
+    // For `spool` and `polled`.
+    ensures deck { (n : ℕ) (input report journal : List ℕ) (before later : List Entry) → 1 ≤ n → first_fault input n ≡ None
+        → (told : TellsRun n input report journal) → told.run.events ≡ before ++ later → CannotDeadlock (deck_of input) n before }
+    ensures load { (jobs n : ℕ) (report journal : List ℕ) (before later : List Entry) → 1 ≤ jobs → jobs ≤ most_jobs → 1 ≤ n
+        → n ≤ most_initiators → (told : TellsLoad jobs n report journal) → told.run.events ≡ before ++ later
+        → CannotDeadlock (deck_of (load_text jobs)) n before }
 {}

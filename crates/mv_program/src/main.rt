@@ -8,7 +8,7 @@ mod running;
 mod status;
 mod texts;
 
-pub use laws::runs_are_legal;
+pub use laws::{decks_do_not_deadlock, runs_are_legal};
 pub use mv_task::{Gate, OpenGate, Point};
 pub use program::run_program;
 pub use status::Status;
