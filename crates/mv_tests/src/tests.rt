@@ -3,4 +3,5 @@
 mod event_tables;
 mod orders;
 mod polls;
+mod random_decks;
 mod rings;

@@ -13,7 +13,7 @@ use std::process::Abort;
 use std::sync::Wait;
 
 // The deck that a text states.
-fn deck_of(rt: &impl Abort, alloc: Global, text: &[u8], initiators: u32) -> Deck
+pub(super) fn deck_of(rt: &impl Abort, alloc: Global, text: &[u8], initiators: u32) -> Deck
     requires short { length text.now < 2 ^ 32 - 1 }
     requires initiators { (1 ≤ initiators) × (initiators ≤ most_initiators) }
     ensures { IsSound (deck_data result) initiators }
