@@ -12,7 +12,7 @@ use mv_attach::{Work, run_tasks};
 use mv_io::NoMemory;
 use mv_latch::{LatchForm, Mode};
 use mv_latchset::{LatchToken, Obtained, obtain, release_latch};
-use mv_machine::{CheckRefusal, Config, History, ValidConfig};
+use mv_machine::{Config, History, ValidConfig};
 use mv_wait::{Station, Task};
 use std::alloc::Global;
 use std::sync::Wait;
@@ -37,11 +37,7 @@ fn configuration(alloc: Global, meals: u32) -> Result<ValidConfig, NoMemory>
         owners: Vec::new(alloc),
         exits: Vec::new(alloc),
     };
-    match config.check(alloc) {
-        Ok(config) => Ok(config),
-        Err(CheckRefusal::NoMemory) => Err(NoMemory),
-        Err(_) => unreachable!(),
-    }
+    ValidConfig::of(alloc, config)
 }
 
 // Takes a fork that is above each fork that the philosopher has.

@@ -7,7 +7,7 @@ mod dining;
 pub use dining::dine;
 use mv_latch::LatchOp;
 use mv_machine::{Entry, Op, replay};
-use std::io::{self, ErrorKind, Print};
+use std::io::{self, Print};
 
 // How often each is to eat.
 const MEALS: u32 = 5;
@@ -21,13 +21,8 @@ fn meals_of(journal: &[Entry], philosopher: u32) -> usize {
 }
 
 fn main(rt: HostRuntime) -> io::Result<()> {
-    // The configuration is valid, so only memory can run out.
-    let Ok(history) = dine(&rt, rt.alloc(), MEALS) else {
-        return Err(io::Error::from(ErrorKind::OutOfMemory));
-    };
-    let Ok(listed) = history.listed(rt.alloc()) else {
-        return Err(io::Error::from(ErrorKind::OutOfMemory));
-    };
+    let history = dine(&rt, rt.alloc(), MEALS)?;
+    let listed = history.listed(rt.alloc())?;
     for philosopher in 0..4 {
         println!(rt; "{} MEALS", meals_of(&listed.journal, philosopher))?;
     }
