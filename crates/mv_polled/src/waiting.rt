@@ -1,6 +1,7 @@
 //! Waits that are polled. Clauses cite `specs/Waiting.antt`.
 
-ghost use Rattle.std.specs.Prelude.{◌≡◌, ℕ, false, ◌<◌, ◌≤◌, [], ◌∷◌, ◌++◌, if◌then◌else◌, map, length, vec_capacity, vec_len, IfOk, IsSome, ◌⊎◌, ⊤};
+ghost use Rattle.std.specs.Prelude.{◌≡◌, ℕ, false, ◌<◌, ◌≤◌, [], ◌∷◌, ◌++◌, if◌then◌else◌, map, length, vec_capacity, vec_len};
+ghost use Rattle.std.specs.Prelude.{IfOk, IsSome, ◌⊎◌, ⊤};
 ghost use Rattle.futures.specs.Task.{Hears, IsArmed, Keeps};
 ghost use Rattle.mv_board.specs.Faces.{CallerFace, IsOf, IsSame};
 ghost use Rattle.mv_board.specs.declared.watch.Watch.TheVariants as watch;

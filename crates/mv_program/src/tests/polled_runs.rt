@@ -3,8 +3,8 @@
 use super::*;
 use mv_deck::load_deck;
 
-// One initiator and no job, from seed 0. The picks are the reader, the initiator, the writer, the initiator, the scheduler, the initiator: the
-// initiator says that it is idle before the scheduler waits for that. The reader and the writer have no event.
+// One initiator and no job, from seed 0. The picks are the reader, the initiator, the writer, the initiator, the scheduler, the
+// initiator: the initiator says that it is idle before the scheduler waits for that. The reader and the writer have no event.
 const NO_JOB_JOURNAL: &str = "\
 JOURNAL 2
 CALLERS 4
@@ -30,8 +30,8 @@ EVENTS
 END 9
 ";
 
-// The same from seed 1. The picks are the scheduler, the initiator, the writer, the scheduler, the initiator, the reader: the scheduler waits
-// before the initiator says that it is idle, so the post answers WOKE, and the arm answers ARMED.
+// The same from seed 1. The picks are the scheduler, the initiator, the writer, the scheduler, the initiator, the reader: the
+// scheduler waits before the initiator says that it is idle, so the arm answers ARMED, and the post answers WOKE.
 const NO_JOB_JOURNAL_OF_SEED_1: &str = "\
 JOURNAL 2
 CALLERS 4
