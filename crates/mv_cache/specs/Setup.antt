@@ -2,10 +2,11 @@
 use Rattle.std.specs.Prelude.{ℕ, ◌*◌, [], ◌∷◌}
 use Rattle.mv_machine.specs.Setup.{Setup}
 
--- how many pairs are written at most, and how often a reader reads
+-- how many pairs are written at most
 abbrev pub pairs_limit : ℕ
 pairs_limit = 20000
 
+-- how often a reader reads at most
 abbrev pub reads_limit : ℕ
 reads_limit = 20000
 

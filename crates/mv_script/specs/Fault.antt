@@ -49,7 +49,7 @@ has_no_form (Some (Ok s)) = false
 has_no_form (Some (Err misread.NoForm)) = true
 has_no_form (Some (Err misread.BadNumber)) = false
 
--- a number with a zero in front, out of its range, or of no task, block, element or volume
+-- a number with a zero in front, out of its range, or of no task, block, element, volume, event or position
 abbrev pub has_bad_number : Option (Read Statement) → Bool
 has_bad_number None = false
 has_bad_number (Some (Ok s)) = false
