@@ -1,4 +1,4 @@
--- An obtain by its parts.
+-- An obtain by its halves, before its wait and after it.
 use Rattle.std.specs.Prelude.{◌≡◌, ℕ, ◌≤◌, [], Result, None, IfOk, MatchResult}
 use Rattle.mv_latch.specs.declared.operation.LatchOp.TheVariants.{Obtain}
 use Rattle.mv_latch.specs.declared.operation.LatchReply.TheVariants.{Queued}

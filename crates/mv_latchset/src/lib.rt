@@ -11,7 +11,7 @@ mod token;
 mod waking;
 
 pub use checking::check_latch;
-pub use mv_latch::LatchForm;
+pub use mv_latch::{LatchForm, LatchForm as Form};
 pub use obtaining::{Asking, ObtainRefusal, Obtained, begin_obtain, end_obtain, obtain};
 pub use purging::{Purged, purge};
 pub use releasing::{ReleaseLatchRefusal, release_latch};

@@ -22,7 +22,7 @@ use Rattle.mv_pause.specs.declared.releasing.ReleaseRefusal.TheVariants as relea
 use Rattle.mv_pause.specs.declared.transferring.TransferRefusal.{TransferRefusal}
 use Rattle.mv_pause.specs.declared.transferring.TransferRefusal.TheVariants as refused
 
--- and how many of them are its pause's
+-- how many events the pause of a transfer makes at most: two if there is a current token, otherwise none
 abbrev pub pause_cost : Option Token → ℕ
 pause_cost None = 0
 pause_cost (Some t) = 2

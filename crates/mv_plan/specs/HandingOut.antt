@@ -36,7 +36,7 @@ abbrev pub naming : ℕ → Option ℕ → Option ℕ
 naming j None = None
 naming j (Some code) = if (code == code_of j false) || (code == code_of j true) then Some code else None
 
--- the codes that name job j, of the Releases and of the gifts
+-- the codes that name job j, of the Releases
 abbrev pub released_codes : ℕ → List Entry → List ℕ
 released_codes j es = filter_map (λ e. naming j (released_code e.op)) es
 
