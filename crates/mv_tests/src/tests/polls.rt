@@ -74,7 +74,7 @@ fn open_first(rt: &impl Abort, alloc: Global) -> (Station, Task, Task)
 {
     let (station, mut tasks) = open(rt, alloc, Vec::new(alloc));
     let last = station.take_last(&mut tasks);
-    for _i in 0..6 {
+    for _i in 0..6_u32 {
         let _other = station.take_last(&mut tasks);
     }
     let first = station.take_last(&mut tasks);
