@@ -311,6 +311,9 @@ const SHORT: [usize; 3] = [4096, 4096, 4096];
 
 const WIDE: [usize; 3] = [1 << 24, 1 << 24, 1 << 24];
 
+// For the longest journal that a run may write.
+const WIDEST: [usize; 3] = [1 << 26, 1 << 26, 1 << 26];
+
 // Streams over this input, of which no call fails.
 fn streams_over<X: Abort + AllocGlobal>(rt: &X, input: &[u8]) -> Streams {
     Streams {

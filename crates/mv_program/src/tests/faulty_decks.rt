@@ -346,6 +346,7 @@ fn heavy_deck(alloc: Global, jobs: u32, step: &str) -> Result<String, AllocError
 fn assert_runs<X: Abort + AllocGlobal + Threads + Wait + Sync>(rt: &X, deck: &str) {
     let mut on = streams_over(rt, deck.as_bytes());
     on.report = sink(rt, WIDE);
+    on.journal = sink(rt, WIDEST);
     let status = run(rt, "spool 1", &mut on);
     assert_exit(rt, status, 0, "spool 1");
     let report = on.report.bytes();
