@@ -22,7 +22,8 @@ IsOver a Wrong = Unit {0}
 IsOver a (Do object op next) = ⊥
 IsOver a Early = ⊥
 
--- the task has made all events that the call says
+-- The call was run to its end: it is done with this answer, or it stopped at a reply that its program does not foresee. No run of the
+-- plan meets such a reply.
 pub record RanOut {A : Type 0} (call : Call A) (a : A) (t u : CallerFace) : Type 0 where
   pub last : Program A
   pub over : IsOver a last
