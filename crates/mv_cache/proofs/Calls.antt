@@ -33,56 +33,86 @@ use Rattle.mv_wait.proofs.Compose.{still_served}
 use Rattle.mv_latchset.specs.declared.obtaining.Obtained.TheVariants as got
 use Rattle.mv_latchset.specs.declared.token.LatchToken.{LatchToken}
 use Rattle.mv_latchset.specs.Obtaining.{IsObtainedBy}
-use Rattle.mv_attach.proofs.Always.{Grown, served_grown}
+use Rattle.mv_attach.proofs.Always.{Always, always_says, Grown, served_grown}
 use Rattle.mv_attach.proofs.Once.{Once, served_once, once_grown}
-use Rattle.mv_attach.proofs.Says.{always_obtain, always_read}
+use Rattle.mv_attach.proofs.Says.{always_obtain, always_read, always_write}
+use Rattle.mv_ordered.specs.LatchOrder.{HasLockDiscipline}
+use Rattle.mv_ordered.proofs.Calls.{IsPlain, call_keeps_discipline, release_keeps_discipline, one_request_keeps_discipline}
 use Rattle.mv_cache.specs.declared.cache.Pair.{Pair}
-use Rattle.mv_cache.specs.Setup.{cache_setup}
 use Rattle.mv_cache.specs.Whole.{HoldsLatch, value_from, pair_of, IsAllowed, AreAllowed, IsCareful, StaysWhole, IsWriting, IsReading}
 use Rattle.mv_cache.specs.Whole.{IsLonger, Reads, WasRead, first_pair}
 use Rattle.mv_cache.proofs.Logs.{IsCalm, allowed_more, whole_more, value-append, calm_pair, calm_are_allowed, calm_stays_whole}
 use Rattle.mv_cache.proofs.Logs.{still_holds, holds_at_once, holds_confirmed, asked_entry}
 
--- ---- calls that are calm
+-- ---- calls that write nothing and purge no requestor, and keep the lock discipline
 
-pub obtain_grown : (c : Setup) (requestor most : ℕ) (mode : Mode) (Is : Result Requested Refusal → Type 0) (t u : CallerFace)
-    → IsServed most (obtain c 0 requestor mode Waiting) Is t u → Grown IsCalm t u
-obtain_grown c requestor most mode Is t u s = served_grown IsCalm most (obtain c 0 requestor mode Waiting) Is t u s
-    (always_obtain IsCalm c 0 requestor mode (kept_of t.number t.log) tt (λ id. tt))
+pub record IsQuiet (t u : CallerFace) : Type 0 where
+  pub grown : Grown IsCalm t u
+  pub keeps : HasLockDiscipline t.log → HasLockDiscipline u.log
 
-pub release_grown : (c : Setup) (most latch id : ℕ) (Is : Result ℕ Refusal → Type 0) (t u : CallerFace)
-    → IsServed most (release_latch c latch id false) Is t u → most ≤ 1 → Grown IsCalm t u
-release_grown c most latch id Is t u s one =
+-- a call that neither obtains nor waits keeps it
+plain_keeps : {A : Type 0} (most : ℕ) (call : Call A) (Is : A → Type 0) (t u : CallerFace) → IsServed most call Is t u
+    → Always (λ o op. IsPlain op) (call (kept_of t.number t.log)) → HasLockDiscipline t.log → HasLockDiscipline u.log
+plain_keeps most call Is t u s a =
+    call_keeps_discipline most t.number call t.log u.log t.told u.told s.answer s.made
+    (always_says (λ o op. IsPlain op) (call (kept_of t.number t.log)) s.made.events a s.made.done.says)
+
+-- each task may have one request, so its obtain is at the only latch that it has
+pub obtain_quiet : (b : BoardFace) (requestor most : ℕ) (mode : Mode) (Is : Result Requested Refusal → Type 0) (t u : CallerFace)
+    → IsServed most (obtain b.config 0 requestor mode Waiting) Is t u → IsCareful b t → IsQuiet t u
+obtain_quiet b requestor most mode Is t u s r = record {
+  grown = served_grown IsCalm most (obtain b.config 0 requestor mode Waiting) Is t u s
+      (always_obtain IsCalm b.config 0 requestor mode (kept_of t.number t.log) tt (λ id. tt));
+  keeps = one_request_keeps_discipline b.config 0 requestor most t.number mode Waiting t.log u.log t.told u.told s.answer s.made
+      (subst (λ (c : Setup). c.quota ≤ 1) (sym r.config.2) (le_refl 1));
+}
+
+pub release_quiet : (b : BoardFace) (latch id : ℕ) (Is : Result ℕ Refusal → Type 0) (t u : CallerFace)
+    → IsServed (release_cost b.config) (release_latch b.config latch id false) Is t u → IsCareful b t → IsQuiet t u
+release_quiet b latch id Is t u s r =
+    let one : release_cost b.config ≤ 1 = subst (λ (c : Setup). release_cost c ≤ 1) (sym r.config.2) (le_refl 1) in
     let next : Heard → Program (Result ℕ Refusal) =
-    λ h. on_latch h.entry.reply (let_go c false h.wakes (kept_of t.number t.log)) in
-    once_grown IsCalm Latches (op_on.Latch (Release latch id false)) next s.answer t u
-    (served_once most (release_latch c latch id false) Is Latches (op_on.Latch (Release latch id false)) next t u s one refl) tt
+    λ h. on_latch h.entry.reply (let_go b.config false h.wakes (kept_of t.number t.log)) in record {
+      grown = once_grown IsCalm Latches (op_on.Latch (Release latch id false)) next s.answer t u
+          (served_once (release_cost b.config) (release_latch b.config latch id false) Is Latches (op_on.Latch (Release latch id false)) next
+          t u s one refl) tt;
+      keeps = release_keeps_discipline b.config latch id (release_cost b.config) t.number false t.log u.log t.told u.told s.answer s.made
+          one;
+    }
 
--- ---- the tasks behind them
+pub read_quiet : (n x : ℕ) (t u : CallerFace) → IsServed 1 (read_volume n) (λ a. a ≡ x) t u → IsQuiet t u
+read_quiet n x t u s = record {
+  grown = served_grown IsCalm 1 (read_volume n) (λ a. a ≡ x) t u s (always_read IsCalm n (kept_of t.number t.log) tt);
+  keeps = plain_keeps 1 (read_volume n) (λ a. a ≡ x) t u s (always_read (λ o op. IsPlain op) n (kept_of t.number t.log) tt);
+}
+
+-- ---- the tasks after them
 
 pub still_careful : {A : Type 0} (b : BoardFace) (most : ℕ) (call : Call A) (Is : A → Type 0) (t u : CallerFace)
-    → IsServed most call Is t u → Grown IsCalm t u → IsCareful b t → IsCareful b u
-still_careful b most call Is t u s g r = record {
+    → IsServed most call Is t u → IsQuiet t u → IsCareful b t → IsCareful b u
+still_careful b most call Is t u s q r = record {
   config = r.config;
   task = still_served b most call Is t u s r.task;
   rest = s.made.rest;
   allowed = subst (λ k. AreAllowed k [] u.log) (sym s.same.number)
-      (subst (AreAllowed t.number []) (sym g.logged) (calm_are_allowed t.number t.log g.more r.allowed g.each));
+      (subst (AreAllowed t.number []) (sym q.grown.logged) (calm_are_allowed t.number t.log q.grown.more r.allowed q.grown.each));
+  discipline = q.keeps r.discipline;
 }
 
 pub still_writing : {A : Type 0} (b : BoardFace) (pairs : List Pair) (most : ℕ) (call : Call A) (Is : A → Type 0) (t u : CallerFace)
-    → IsServed most call Is t u → Grown IsCalm t u → IsWriting b pairs t → IsWriting b pairs u
-still_writing b pairs most call Is t u s g r = record {
-  careful = still_careful b most call Is t u s g r.careful;
-  number = s.same.number ∙ r.number;
-  whole = subst (StaysWhole pairs []) (sym g.logged) (calm_stays_whole pairs t.log g.more r.whole r.written g.each);
-  written = subst (Contains (first_pair ∷ pairs)) (sym (ap pair_of g.logged ∙ calm_pair t.log g.more g.each)) r.written;
-}
+    → IsServed most call Is t u → IsQuiet t u → IsWriting b pairs t → IsWriting b pairs u
+still_writing b pairs most call Is t u s q r =
+    let g = q.grown in record {
+      careful = still_careful b most call Is t u s q r.careful;
+      number = s.same.number ∙ r.number;
+      whole = subst (StaysWhole pairs []) (sym g.logged) (calm_stays_whole pairs t.log g.more r.whole r.written g.each);
+      written = subst (Contains (first_pair ∷ pairs)) (sym (ap pair_of g.logged ∙ calm_pair t.log g.more g.each)) r.written;
+    }
 
 pub still_reading : {A : Type 0} (b : BoardFace) (most : ℕ) (call : Call A) (Is : A → Type 0) (t u : CallerFace)
-    → IsServed most call Is t u → Grown IsCalm t u → IsReading b t → IsReading b u
-still_reading b most call Is t u s g r = record {
-  careful = still_careful b most call Is t u s g r.careful;
+    → IsServed most call Is t u → IsQuiet t u → IsReading b t → IsReading b u
+still_reading b most call Is t u s q r = record {
+  careful = still_careful b most call Is t u s q r.careful;
   other = λ zero_is. r.other (sym s.same.number ∙ zero_is);
 }
 
@@ -148,6 +178,8 @@ writes b pairs n x Is t u s r =
             (allowed_more t.number [] t.log e r.careful.allowed
             (may_write t.number n x t.log e.object e.op one.object one.makes
             (r.number, subst (λ k. HoldsLatch Exclusive k t.log) (sym r.number) r.holds))));
+        discipline = plain_keeps 1 (write_volume n x) Is t u s (always_write (λ o op. IsPlain op) n x (kept_of t.number t.log) tt)
+            r.careful.discipline;
       };
       number = s.same.number ∙ r.number;
       whole = subst (StaysWhole pairs []) (sym one.logged) (whole_more pairs [] t.log e r.whole (inl holds));
@@ -173,9 +205,9 @@ both_written left right Is Are t u v s w =
 -- its release
 pub leaves : {A : Type 0} (b : BoardFace) (pairs : List Pair) (pair : Pair) (most : ℕ) (call : Call A) (Is : A → Type 0)
     (t u : CallerFace)
-    → IsServed most call Is t u → Grown IsCalm t u → IsInside b pairs t → pair_of t.log ≡ pair → Contains pairs pair → IsWriting b pairs u
-leaves b pairs pair most call Is t u s g r is member =
-    still_writing b pairs most call Is t u s g (record {
+    → IsServed most call Is t u → IsQuiet t u → IsInside b pairs t → pair_of t.log ≡ pair → Contains pairs pair → IsWriting b pairs u
+leaves b pairs pair most call Is t u s q r is member =
+    still_writing b pairs most call Is t u s q (record {
       careful = r.careful;
       number = r.number;
       whole = r.whole;
@@ -203,11 +235,17 @@ read_one n x t u s =
       reads = record { object = one.object; op = one.makes; reply = value_of one.heard.entry.reply x (one.done ∙ ap Done s.is) };
     }
 
-pub read_grown : (n x : ℕ) (t u : CallerFace) → IsServed 1 (read_volume n) (λ a. a ≡ x) t u → Grown IsCalm t u
-read_grown n x t u s =
-    served_grown IsCalm 1 (read_volume n) (λ a. a ≡ x) t u s (always_read IsCalm n (kept_of t.number t.log) tt)
+-- a reader that has obtained the latch and read both numbers
+pub before_release : (b : BoardFace) (t u v w : CallerFace) (requestor most left right : ℕ) (Is : Result Requested Refusal → Type 0)
+    → IsServed most (obtain b.config 0 requestor Shared Waiting) Is t u → IsServed 1 (read_volume 0) (λ a. a ≡ left) u v
+    → IsServed 1 (read_volume 1) (λ a. a ≡ right) v w → IsReading b t → IsReading b w
+before_release b t u v w requestor most left right Is asked first second r =
+    still_reading b 1 (read_volume 1) (λ a. a ≡ right) v w second (read_quiet 1 right v w second)
+    (still_reading b 1 (read_volume 0) (λ a. a ≡ left) u v first (read_quiet 0 left u v first)
+    (still_reading b most (obtain b.config 0 requestor Shared Waiting) Is t u asked
+    (obtain_quiet b requestor most Shared Is t u asked r.careful) r))
 
--- what was read is still read behind more entries
+-- what was read is still read after more entries
 read_later : (t u : CallerFace) (pair : Pair) → IsLonger t u → WasRead t.number t.log pair → WasRead u.number u.log pair
 read_later t u pair l r = record {
   before = r.before;
@@ -224,9 +262,3 @@ pub all_read_later : (t u : CallerFace) (pairs : List Pair) → IsLonger t u →
     → AllByRecursion (WasRead u.number u.log) pairs
 all_read_later t u [] l all = tt
 all_read_later t u (pair ∷ pairs) l all = (read_later t u pair l all.0, all_read_later t u pairs l all.1)
-
--- ---- for both
-
--- a release is one event
-pub cheap : (c : Setup) → (pairs reads : ℕ) × (c ≡ cache_setup pairs reads) → release_cost c ≤ 1
-cheap c has = subst (λ (s : Setup). release_cost s ≤ 1) (sym has.2) (le_refl 1)

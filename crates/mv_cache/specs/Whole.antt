@@ -16,6 +16,7 @@ use Rattle.mv_machine.specs.Kept.{StandingRequest}
 use Rattle.mv_board.specs.Faces.{BoardFace, CallerFace, IsOf}
 use Rattle.mv_calls.specs.Rest.{IsAtRest}
 use Rattle.mv_calls.specs.Sections.{HasGrant}
+use Rattle.mv_ordered.specs.LatchOrder.{HasLockDiscipline}
 use Rattle.mv_cache.specs.declared.cache.Pair.{Pair}
 use Rattle.mv_cache.specs.Setup.{pairs_limit, reads_limit, cache_setup}
 
@@ -60,12 +61,13 @@ abbrev pub AreAllowed : ℕ → List Entry → List Entry → Type 0
 AreAllowed k before [] = Unit {0}
 AreAllowed k before (e ∷ es) = IsAllowed k before e.object e.op × AreAllowed k (before ++ e ∷ []) es
 
--- a task of the board that is at rest, and has kept to that
+-- a task of the board that is at rest, and has kept to that and to the lock discipline
 pub record IsCareful (b : BoardFace) (t : CallerFace) : Type 0 where
   pub config : (pairs reads : ℕ) × (b.config ≡ cache_setup pairs reads)
   pub task : IsOf b t
   pub rest : IsAtRest t.log
   pub allowed : AreAllowed t.number [] t.log
+  pub discipline : HasLockDiscipline t.log
 
 -- ---- the writer
 
@@ -126,5 +128,6 @@ pub record IsSharing (b : BoardFace) (pairs : List Pair) (reads : ℕ) : Type 0 
 -- the task of this number is back: it was careful, the writer wrote whole pairs, and what was read was read under the latch
 pub record HasDone (pairs : List Pair) (k : ℕ) (t : CallerFace) (got : List Pair) : Type 0 where
   pub allowed : AreAllowed k [] t.log
+  pub discipline : HasLockDiscipline t.log
   pub whole : k ≡ 0 → StaysWhole pairs [] t.log
   pub read : AllByRecursion (WasRead k t.log) got

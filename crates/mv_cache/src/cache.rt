@@ -1,9 +1,10 @@
-//! The writer and the readers. Clauses cite `specs/Setup.antt` and `specs/Whole.antt`.
+//! The writer and the readers. Clauses cite `specs/Setup.antt`, `specs/Whole.antt`, and `WaitChain.antt` of mv_ordered.
 
 ghost use Rattle.std.specs.Prelude.{◌≡◌, ◌<◌, ◌≤◌, ◌+◌, ◌*◌, ◌∷◌, [], length, vec_capacity, IfOk, IfSome, All};
 ghost use Rattle.std.specs.List.{AllByRecursion, Contains};
 ghost use Rattle.mv_machine.specs.Legal.{Legal};
 ghost use Rattle.mv_machine.specs.Limits.{highest_place};
+ghost use Rattle.mv_ordered.specs.WaitChain.{HasNoLatchDeadlock};
 ghost use Rattle.mv_attach.specs.Rooms.{HasRoom};
 ghost use Rattle.mv_cache.specs.Setup.{pairs_limit, reads_limit, cache_setup};
 ghost use Rattle.mv_cache.specs.Whole.{IsSharing, IsWriting, IsReading, HasDone, WasRead, IsLonger, first_pair};
@@ -158,6 +159,7 @@ impl Work for Sharing<'_> {
 
     ghost has_done = { λ s b k old t new. HasDone s.pairs.now k t new.items };
 
+    #[tactic(auto, using(mv_ordered::proofs::Calls::new_keeps_discipline))]
     fn work<R: Wait>(&self, rt: &R, station: &Station, task: &mut Task, room: &mut Vec<Pair>) {
         if task.number() == WRITER {
             write_all(rt, station, task, self.pairs);
@@ -195,6 +197,8 @@ pub fn share<R: Threads + Wait + Sync>(
     // No read is torn: what was read was written as a pair, or is the first one.
     ensures whole { IfOk result (λ shared. All (λ read. All (λ pair. Contains (first_pair ∷ pairs.now) pair)
         read.items) shared.read.items) }
+    // At each moment a task that waits for the latch leads to one that can continue.
+    ensures no_deadlock { IfOk result (λ shared. HasNoLatchDeadlock shared.history.config shared.history.coming) }
     ensures config { IfOk result (λ shared. shared.history.config ≡ cache_setup (length pairs.now) reads) }
     ensures legal { IfOk result (λ shared. Legal shared.history.config shared.history.coming) }
     ensures places { IfOk result (λ shared. All (λ e. e.place ≤ highest_place) shared.history.coming) }

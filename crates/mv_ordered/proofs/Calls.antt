@@ -1,15 +1,15 @@
 -- For programs: which calls keep a task's lock discipline, and what each call changes in the list of the latches that the task has
 -- (specs/Held). The laws cite nothing of this module.
-use Rattle.std.proofs.Common.{◌≡◌, ℕ, ◌<◌, ◌≤◌, Bool, true, false, not, cond, List, [], ◌∷◌, ◌++◌, map, ◌⊎◌, inl, inr, length, Option, Some}
-use Rattle.std.proofs.Common.{None, Result, Ok, Err, refl, sym, ap, ◌∙◌, subst, append_assoc, arith}
+use Rattle.std.proofs.Common.{◌≡◌, ℕ, ◌<◌, ◌≤◌, Bool, true, false, not, ◌&&◌, ◌==◌, cond, List, [], ◌∷◌, ◌++◌, map, filter, ◌⊎◌, inl}
+use Rattle.std.proofs.Common.{inr, length, Option, Some, None, Result, Ok, Err, refl, sym, ap, ◌∙◌, subst, append_assoc, arith}
 use Rattle.std.specs.List.{AllByRecursion}
 use Rattle.std.proofs.lemmas.Option.{some_pair_parts}
-use Rattle.std.proofs.lemmas.Bool.{false≢true, eq-eqb, ne_eqb}
-use Rattle.std.proofs.lemmas.List.{append-nil, map-append}
+use Rattle.std.proofs.lemmas.Bool.{false≢true, eq-eqb, ne_eqb, ltb-true, and_parts}
+use Rattle.std.proofs.lemmas.List.{append-nil, map-append, length-map, nil_from_length}
 use Rattle.mv_ecb.specs.declared.operation.EcbOp.TheVariants.{Arm}
 use Rattle.mv_element.specs.declared.operation.ElementOp.TheVariants.{Pause}
-use Rattle.mv_latch.specs.declared.operation.LatchOp.TheVariants.{Obtain, Confirm, Release}
-use Rattle.mv_latch.specs.declared.operation.LatchReply.TheVariants.{Granted, Queued, NotNow, Waiting, Gone, Released}
+use Rattle.mv_latch.specs.declared.operation.LatchOp.TheVariants.{Obtain, Confirm, Release, Purge}
+use Rattle.mv_latch.specs.declared.operation.LatchReply.TheVariants.{Granted, Queued, NotNow, Waiting, Gone, Released, Purged}
 use Rattle.mv_latch.specs.declared.operation.Wake.{Wake}
 use Rattle.mv_latch.specs.declared.request.LatchForm.{LatchForm}
 use Rattle.mv_latch.specs.declared.request.LatchForm.TheVariants as form_of
@@ -21,20 +21,35 @@ use Rattle.mv_machine.specs.declared.entry.Op.{Op}
 use Rattle.mv_machine.specs.declared.entry.Op.TheVariants as op_on
 use Rattle.mv_machine.specs.declared.entry.Reply.{Reply}
 use Rattle.mv_machine.specs.declared.entry.Reply.TheVariants as reply_of
-use Rattle.mv_machine.specs.Kept.{StandingRequest, is_named, less, stands_with, standing}
+use Rattle.mv_machine.specs.Kept.{StandingRequest, is_named, is_for, less, stands_with, standing_from, standing, keeps_quotas}
 use Rattle.mv_machine.specs.Legal.{Legal, of}
 use Rattle.mv_machine.specs.Setup.{Setup}
-use Rattle.mv_calls.specs.Keeping.{Kept, kept_of}
+use Rattle.mv_calls.specs.Keeping.{Kept, nothing_kept, kept_after, kept_from, kept_of}
 use Rattle.mv_calls.specs.LatchCalls.{Requested, GrantedAs, obtain, obtain_refusal, obtained, confirmed, release_latch, let_go}
 use Rattle.mv_calls.specs.Made.{IsMade}
 use Rattle.mv_calls.specs.Program.{Program, Do, Done, Early, Wrong, Call, Heard, Says, left, entries, on_latch, unless_refused}
 use Rattle.mv_calls.specs.Refusal.{Refusal}
 use Rattle.mv_calls.specs.Refusal as refusal
+use Rattle.mv_calls.specs.Waits.{refused_if}
 use Rattle.mv_calls.proofs.Purged.{standing_from-append}
+use Rattle.mv_calls.proofs.TableFacts.{both_none}
 use Rattle.mv_ordered.specs.LatchOrder.{AreBelow, KeepsOrder, MayObtain, begins_wait, HasLockDiscipline}
 use Rattle.mv_ordered.specs.WaitChain.{KeepsLockDiscipline}
 use Rattle.mv_ordered.specs.Held.{named, held, without, HasObtained}
 use Rattle.mv_ordered.proofs.Logs.{order_empty, order_push, apart_empty, apart_push}
+
+-- ---- lists of requests
+
+-- what is mapped of the requests that are left, where a test says the same of what they are mapped to
+module _ {B : Type 0} (f : StandingRequest → B) (test : StandingRequest → Bool) (of_mapped : B → Bool)
+    (same : (t : StandingRequest) → of_mapped (f t) ≡ not (test t)) where
+  mapped_less : (ts : List StandingRequest) → map f (less test ts) ≡ filter of_mapped (map f ts)
+  mapped_less [] = refl
+  mapped_less (t ∷ ts) = rw (same t) (go (not (test t)) (mapped_less ts)) where
+    go : (b : Bool) → map f (less test ts) ≡ filter of_mapped (map f ts)
+        → map f (cond b (t ∷ less test ts) (less test ts)) ≡ cond b (f t ∷ filter of_mapped (map f ts)) (filter of_mapped (map f ts))
+    go true is = ap (λ z. f t ∷ z) is
+    go false is = is
 
 -- ---- operations that neither obtain a latch nor begin a wait
 
@@ -53,8 +68,9 @@ plain_begins (op_on.Ecb Arm) plain = absurd plain
 plain_begins (op_on.Element (Pause generation)) plain = absurd plain
 plain_begins op plain = refl
 
-pub discipline_empty : HasLockDiscipline []
-discipline_empty = record { order = order_empty; apart = apart_empty }
+-- a new task keeps it
+pub new_keeps_discipline : (log : List Entry) → log ≡ [] → HasLockDiscipline log
+new_keeps_discipline log new = subst HasLockDiscipline (sym new) (record { order = order_empty; apart = apart_empty })
 
 -- entries of plain operations keep the discipline
 pub plain_append : (log es : List Entry) → HasLockDiscipline log → AllByRecursion (λ e. IsPlain e.op) es → HasLockDiscipline (log ++ es)
@@ -117,19 +133,18 @@ abbrev begun : Setup → ℕ → ℕ → Mode → LatchForm → Program (Result 
 begun c latch requestor mode form =
     Do Latches (op_on.Latch (Obtain latch requestor mode form)) (λ h. on_latch h.entry.reply (obtained latch form))
 
-module _ (c : Setup) (latch requestor : ℕ) (mode : Mode) (form : LatchForm) (old : List Entry) (d : HasLockDiscipline old)
-    (may : MayObtain old latch form) where
-  obtain_says : (why : Option Refusal) (hs : List Heard) → Says (unless_refused why (begun c latch requestor mode form)) hs
-      → HasLockDiscipline (old ++ entries hs)
-  obtain_says why [] s = subst HasLockDiscipline (sym (append-nil old)) d
-  obtain_says None (h ∷ hs) s =
+module _ (c : Setup) (latch requestor : ℕ) (mode : Mode) (form : LatchForm) (old : List Entry) (d : HasLockDiscipline old) where
+  obtain_says : (why : Option Refusal) → (why ≡ None → MayObtain old latch form) → (hs : List Heard)
+      → Says (unless_refused why (begun c latch requestor mode form)) hs → HasLockDiscipline (old ++ entries hs)
+  obtain_says why may [] s = subst HasLockDiscipline (sym (append-nil old)) d
+  obtain_says None may (h ∷ hs) s =
       let is = (some_pair_parts Latches h.entry.object (op_on.Latch (Obtain latch requestor mode form)) h.entry.op s.0).1 in
       subst HasLockDiscipline (append_assoc old (h.entry ∷ []) (entries hs))
       (plain_append (old ++ h.entry ∷ []) (entries hs) (record {
-        order = order_push old h.entry d.order (subst (KeepsOrder old) is may);
+        order = order_push old h.entry d.order (subst (KeepsOrder old) is (may refl));
         apart = apart_push old h.entry d.apart (λ begins. absurd (false≢true (ap begins_wait is ∙ begins)));
       }) (obtained_says latch form h.entry.reply hs s.1))
-  obtain_says (Some why) (h ∷ hs) s = absurd (cc s.0)
+  obtain_says (Some why) may (h ∷ hs) s = absurd (cc s.0)
 
 -- an obtain keeps the discipline if its latch is above those at which the caller has requests
 pub obtain_keeps_discipline : (c : Setup) (latch requestor most k : ℕ) (mode : Mode) (form : LatchForm) (old new : List Entry)
@@ -138,8 +153,64 @@ pub obtain_keeps_discipline : (c : Setup) (latch requestor most k : ℕ) (mode :
     → (form ≡ form_of.Waiting → AreBelow latch (standing old)) → HasLockDiscipline old → HasLockDiscipline new
 obtain_keeps_discipline c latch requestor most k mode form old new before since answer m above d =
     subst HasLockDiscipline (sym m.longer.logged)
-    (obtain_says c latch requestor mode form old d (record { rest = m.began; above = above })
-    (obtain_refusal c latch requestor mode form (kept_of k old)) m.events m.done.says)
+    (obtain_says c latch requestor mode form old d (obtain_refusal c latch requestor mode form (kept_of k old))
+    (λ unrefused. record { rest = m.began; above = above }) m.events m.done.says)
+
+-- ---- an obtain of a caller that may have one request at a time
+
+-- a request, whichever caller it names: the requests that a caller keeps and those that stand by its log differ at most in that
+abbrev unnamed : StandingRequest → StandingRequest
+unnamed t = record { latch = t.latch; request = record t.request { caller = 0 } }
+
+unnamed_stands : (k : ℕ) (ts : List StandingRequest) (o : Object) (op : Op) (r : Reply)
+    → map unnamed (stands_with k ts o op r) ≡ stands_with 0 (map unnamed ts) o op r
+unnamed_stands k ts Latches (op_on.Latch (Obtain latch requestor mode form)) (reply_of.Latch (Granted id)) = map-append unnamed ts _
+unnamed_stands k ts Latches (op_on.Latch (Obtain latch requestor mode form)) (reply_of.Latch (Queued id)) = map-append unnamed ts _
+unnamed_stands k ts Latches (op_on.Latch (Confirm latch id)) (reply_of.Latch Gone) = mapped_less unnamed (is_named latch id) (λ t. not (is_named latch id t)) (λ t. refl) ts
+unnamed_stands k ts Latches (op_on.Latch (Release latch id conditional)) (reply_of.Latch Gone) =
+    mapped_less unnamed (is_named latch id) (λ t. not (is_named latch id t)) (λ t. refl) ts
+unnamed_stands k ts Latches (op_on.Latch (Release latch id conditional)) (reply_of.Latch (Released n)) =
+    mapped_less unnamed (is_named latch id) (λ t. not (is_named latch id t)) (λ t. refl) ts
+unnamed_stands k ts Latches (op_on.Latch (Purge requestor)) (reply_of.Latch (Purged removed n)) = mapped_less unnamed (is_for requestor) (λ t. not (is_for requestor t)) (λ t. refl) ts
+unnamed_stands k ts Latches (op_on.Latch op) (reply_of.Latch r) = refl
+unnamed_stands k ts o op r = refl
+
+unnamed_kept : (kept : Kept) (ts : List StandingRequest) (log : List Entry) → map unnamed kept.requests ≡ map unnamed ts
+    → map unnamed (kept_from kept log).requests ≡ map unnamed (standing_from ts log)
+unnamed_kept kept ts [] same = same
+unnamed_kept kept ts (e ∷ es) same =
+    unnamed_kept (kept_after kept e.object e.op e.reply) (stands_with e.caller ts e.object e.op e.reply) es
+    (unnamed_stands kept.caller kept.requests e.object e.op e.reply ∙ ap (λ us. stands_with 0 us e.object e.op e.reply) same
+    ∙ sym (unnamed_stands e.caller ts e.object e.op e.reply))
+
+kept_if : (b : Bool) (why : Refusal) → refused_if (not b) why ≡ None → b ≡ true
+kept_if true why none = refl
+kept_if false why none = absurd (cc none)
+
+-- an obtain that is not refused finds no request
+none_stands : (c : Setup) (latch requestor k : ℕ) (mode : Mode) (form : LatchForm) (log : List Entry) → c.quota ≤ 1
+    → obtain_refusal c latch requestor mode form (kept_of k log) ≡ None → standing log ≡ []
+none_stands c latch requestor k mode form log one none =
+    let kept : List StandingRequest = (kept_of k log).requests in
+    let within : keeps_quotas c kept form ≡ true =
+    kept_if (keeps_quotas c kept form) refusal.Quota (both_none _ _ (both_none _ _ none).1).1 in
+    let few : length kept < c.quota = ltb-true (length kept) c.quota (and_parts _ _ within).0 in
+    let same = ap length (unnamed_kept (nothing_kept k) [] log refl) in
+    let here = length-map kept unnamed in
+    let there = length-map (standing log) unnamed in nil_from_length (standing log) (omega arith)
+
+-- so each obtain of such a caller keeps the discipline: while a request of it stands, an obtain is refused without an event
+pub one_request_keeps_discipline : (c : Setup) (latch requestor most k : ℕ) (mode : Mode) (form : LatchForm) (old new : List Entry)
+    (before since : List (List Wake)) (answer : Result Requested Refusal)
+    → IsMade most (obtain c latch requestor mode form) k old new before since answer → c.quota ≤ 1 → HasLockDiscipline old
+    → HasLockDiscipline new
+one_request_keeps_discipline c latch requestor most k mode form old new before since answer m one d =
+    subst HasLockDiscipline (sym m.longer.logged)
+    (obtain_says c latch requestor mode form old d (obtain_refusal c latch requestor mode form (kept_of k old))
+    (λ unrefused. record {
+      rest = m.began;
+      above = λ waits. subst (AreBelow latch) (sym (none_stands c latch requestor k mode form old one unrefused)) tt;
+    }) m.events m.done.says)
 
 -- ---- a release that posts nothing, as if no request may be of the Posted form
 
@@ -222,13 +293,7 @@ held-push : (log : List Entry) (e : Entry)
 held-push log e = ap (map named) (standing_from-append [] log (e ∷ []))
 
 named_less : (latch id : ℕ) (ts : List StandingRequest) → map named (less (is_named latch id) ts) ≡ without latch id (map named ts)
-named_less latch id [] = refl
-named_less latch id (t ∷ ts) = go (is_named latch id t) (named_less latch id ts) where
-  go : (b : Bool) → map named (less (is_named latch id) ts) ≡ without latch id (map named ts)
-      → map named (cond (not b) (t ∷ less (is_named latch id) ts) (less (is_named latch id) ts))
-      ≡ cond (not b) (named t ∷ without latch id (map named ts)) (without latch id (map named ts))
-  go true is = is
-  go false is = ap (λ z. named t ∷ z) is
+named_less latch id = mapped_less named (is_named latch id) (λ n. not ((n.0 == latch) && (n.1 == id))) (λ t. refl)
 
 -- the one that was added last is the one that is taken out
 without_below : (latch id : ℕ) (ts : List StandingRequest) → AreBelow latch ts

@@ -5,7 +5,7 @@ use Rattle.mv_latch.specs.declared.operation.LatchOp.TheVariants.{Obtain}
 use Rattle.mv_latch.specs.declared.request.LatchForm.TheVariants.{Waiting}
 use Rattle.mv_latchset.specs.Obtaining.{IsObtainedBy}
 use Rattle.mv_cache.specs.Whole.{IsWriting}
-use Rattle.mv_cache.proofs.Calls.{obtain_grown, release_grown, still_writing, enters, writes, both_written, leaves, cheap}
+use Rattle.mv_cache.proofs.Calls.{obtain_quiet, release_quiet, still_writing, enters, writes, both_written, leaves}
 use Rattle.mv_cache.proofs.cache.write_pair.Goals as goal
 
 pub returns-in_default-clause-ready : goal.returns-in_default-clause-ready
@@ -14,7 +14,7 @@ returns-in_default-clause-ready g c =
     let t = c.args.task.now in
     let u = c.obtain.new.task in
     let served = c.obtain.ensures.served in
-    still_writing b c.args.pairs.now _ _ _ t u served (obtain_grown b.config _ _ Exclusive _ t u served) c.requires.ready
+    still_writing b c.args.pairs.now _ _ _ t u served (obtain_quiet b _ _ Exclusive _ t u served c.requires.ready.careful) c.requires.ready
 
 pub returns-clause-ready : goal.returns-clause-ready
 returns-clause-ready g c =
@@ -32,8 +32,7 @@ returns-clause-ready g c =
     let released = c.release_latch.ensures.served in
     let by = subst (λ o. IsObtainedBy (Obtain 0 _ Exclusive Waiting) 0 Waiting t o u) c.in-Granted.is c.in-Ok.ensures.causes.1 in
     let after : IsWriting b pairs u =
-    still_writing b pairs _ _ _ t u asked (obtain_grown b.config _ _ Exclusive _ t u asked) c.requires.ready in
+    still_writing b pairs _ _ _ t u asked (obtain_quiet b _ _ Exclusive _ t u asked c.requires.ready.careful) c.requires.ready in
     let inside = writes b pairs _ _ _ v w second (writes b pairs _ _ _ u v first (enters b pairs _ t u token c.requires.ready after by)) in
-    leaves b pairs _ _ _ _ w x released
-    (release_grown b.config _ _ _ _ w x released (cheap b.config c.requires.ready.careful.config)) inside
+    leaves b pairs _ _ _ _ w x released (release_quiet b _ _ _ w x released inside.careful) inside
     (both_written _ _ _ _ u v w first second) (Contains-get_or pairs c.args.number _ c.requires.number)

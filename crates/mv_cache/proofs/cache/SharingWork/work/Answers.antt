@@ -9,6 +9,7 @@ returns-else-number-eq-WRITER-clause-done g c =
     let ready = c.read_all.ensures.ready in
     let number = c.read_all.ensures.number in record {
       allowed = subst (λ k. AreAllowed k [] u.log) number ready.careful.allowed;
+      discipline = ready.careful.discipline;
       whole = λ zero_is. absurd (ready.other (number ∙ zero_is));
       read = subst (λ k. AllByRecursion (WasRead k u.log) c.read_all.new.room.items) number c.read_all.ensures.read;
     }

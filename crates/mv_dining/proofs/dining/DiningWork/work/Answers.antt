@@ -1,6 +1,5 @@
 use Rattle.std.proofs.Common.{rules, sym, subst}
-use Rattle.mv_ordered.specs.LatchOrder.{HasLockDiscipline}
-use Rattle.mv_ordered.proofs.Calls.{discipline_empty}
+use Rattle.mv_ordered.proofs.Calls.{new_keeps_discipline}
 use Rattle.mv_dining.specs.Dining.{AreAlone}
 use Rattle.mv_dining.proofs.dining.DiningWork.work.Goals as goal
 
@@ -10,7 +9,7 @@ eat_all-requires-clause-ready g c = record {
   task = search rules;
   rest = search rules;
   number = search rules;
-  discipline = subst HasLockDiscipline (sym c.requires.fresh.log) discipline_empty;
+  discipline = new_keeps_discipline c.args.task.now.log c.requires.fresh.log;
   alone = subst AreAlone (sym c.requires.fresh.log) tt;
 }
 
