@@ -27,6 +27,7 @@ use mv_latch::{LatchForm, LatchOp, Mode};
 use mv_machine::{Object, Op};
 use mv_wait::{Station, Task};
 use std::sync::Wait;
+use std::time::Clock;
 use thiserror::Error;
 
 /// What an obtain came to.
@@ -74,7 +75,7 @@ pub enum ObtainRefusal {
 /// ```
 /// let Ok(Obtained::Granted(token)) = obtain(station, rt, task, 0, 17, Mode::Exclusive, LatchForm::Waiting) else { return };
 /// ```
-pub fn obtain<R: Wait>(
+pub fn obtain<R: Wait + Clock>(
     station: &Station,
     rt: &R,
     task: &mut Task,

@@ -23,6 +23,7 @@ use mv_element::{ElementOp, Token};
 use mv_machine::{Object, Op};
 use mv_wait::{Station, Task};
 use std::sync::Wait;
+use std::time::Clock;
 use thiserror::Error;
 
 /// What a pause gives: the code that it was released with, and the token of the next pause.
@@ -59,7 +60,7 @@ pub enum PauseRefusal {
 /// let Ok(given) = pause(station, rt, task, token) else { return };
 /// token = given.next;
 /// ```
-pub fn pause<R: Wait>(
+pub fn pause<R: Wait + Clock>(
     station: &Station,
     rt: &R,
     task: &mut Task,
@@ -123,7 +124,7 @@ pub fn end_pause<R: Wait>(station: &Station, rt: &R, task: &mut Task, token: Tok
 }
 
 /// The same with a token of an own element. It is refused only where the token is over.
-pub(crate) fn pause_own<R: Wait>(
+pub(crate) fn pause_own<R: Wait + Clock>(
     station: &Station,
     rt: &R,
     task: &mut Task,

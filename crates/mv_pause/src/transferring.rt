@@ -20,6 +20,7 @@ use crate::releasing::{ReleaseAnswer, ReleaseRefusal, release};
 use mv_element::Token;
 use mv_wait::{Station, Task};
 use std::sync::Wait;
+use std::time::Clock;
 use thiserror::Error;
 
 /// Why a transfer was refused. Then nobody was released, and the task did not pause.
@@ -48,7 +49,7 @@ pub enum TransferRefusal {
 ///
 /// `NotOwner` and `Spent` where the current token is not one of an own element in use; then no event is made. `TargetSpent` and
 /// `TargetAlready` as a release.
-pub fn transfer<R: Wait>(
+pub fn transfer<R: Wait + Clock>(
     station: &Station,
     rt: &R,
     task: &mut Task,
@@ -117,7 +118,7 @@ fn refuses_target(answer: Result<ReleaseAnswer, ReleaseRefusal>) -> Option<Trans
 }
 
 // Pauses with the current token, if there is one. It is not refused.
-fn pause_current<R: Wait>(
+fn pause_current<R: Wait + Clock>(
     station: &Station,
     rt: &R,
     task: &mut Task,

@@ -4,4 +4,4 @@ use Rattle.mv_wait.specs.declared.station.Station.TheInside.{Inside}
 
 -- there is one to wake each task with
 pub record IsStation (s : Inside) : Type 0 where
-  pub wakers : vec_len s.unparkers ≡ s.board.config.callers
+  pub wakers : vec_len s.wakers ≡ s.board.config.callers

@@ -15,6 +15,7 @@ use crate::station::Station;
 use crate::task::Task;
 use crate::waiting::WaitSlot;
 use std::sync::Wait;
+use std::time::Clock;
 
 impl Station {
     /// Waits until this block is complete, and answers the code of 30 bits that it is complete with: `wait` for one block. The block
@@ -27,7 +28,7 @@ impl Station {
     /// ```
     /// let code = station.wait_one(rt, task, 3);
     /// ```
-    pub fn wait_one<R: Wait>(&self, rt: &R, task: &mut Task, ecb: u32) -> u32
+    pub fn wait_one<R: Wait + Clock>(&self, rt: &R, task: &mut Task, ecb: u32) -> u32
         requires task { IsOf self.now task.old }
         requires rest { IsAtRest task.old.log }
         requires block { ecb < length self.now.config.owners }

@@ -11,16 +11,16 @@ ghost use Rattle.mv_board.specs.Words.{HasWord, test_of};
 ghost use Rattle.mv_machine.specs.Replies.{NamesUpTo};
 ghost use Rattle.mv_wait.specs.Run.{Went};
 
+use crate::backoff::{Backoff, Waker};
 use crate::keep::Keep;
-use crate::pausing::Pauses;
 use crate::task::Task;
-use crossbeam_utils::sync::Unparker;
 use mv_board::{Board, Caller, Closed, Moved, Watch};
 use mv_io::NoMemory;
 use mv_machine::{Config, Object, Op, Reply, ValidConfig};
 use std::alloc::Global;
 use std::marker::Model;
 use std::sync::Wait;
+use std::time::Clock;
 
 /// The shared objects of a configuration, for tasks that wait. It is shared by threads by reference; each thread acts by a `Task`
 /// of its own. All calls that name it go with a task that it gave, and with objects of its configuration.
@@ -28,7 +28,7 @@ use std::sync::Wait;
 pub struct Station {
     pub(crate) board: Board,
     // What wakes each task, by its number.
-    pub(crate) unparkers: Vec<Unparker>,
+    pub(crate) wakers: Vec<Waker>,
 }
 
 impl Model for Station {
@@ -55,8 +55,8 @@ impl Station {
         ensures count { IfOk result (λ r. length r.1.items ≡ config.callers) }
     {
         let (board, callers) = Board::open(alloc, config)?;
-        let (tasks, unparkers) = tasks_of(alloc, &board, callers)?;
-        Ok((Station { board, unparkers }, tasks))
+        let (tasks, wakers) = tasks_of(alloc, &board, callers)?;
+        Ok((Station { board, wakers }, tasks))
     }
 
     /// Takes the last of the tasks that `open` gave, to be moved to its thread. No event, and it does not wait.
@@ -88,6 +88,7 @@ impl Station {
     /// It wakes nobody, whatever its reply: a task that parks for what the event completes stays parked until the caller of this
     /// wakes it by `wake`. Whom: at a post of a block or a release of an element that is answered Woke its owner, and on the latch
     /// set those whom `Task::wakes` then names.
+    #[inline(always)]
     pub fn event<R: Wait>(&self, rt: &R, task: &mut Task, object: Object, op: Op) -> Reply
         requires task { IsOf self.now task.old }
         requires left { 0 < task.old.left }
@@ -175,18 +176,38 @@ impl Station {
 
     /// Parks until what the task waits for is so, as `peek` tells. No event. It may never return: nothing promises that another
     /// task ends the wait.
-    pub fn park_for<R: Wait>(&self, rt: &R, task: &mut Task, watch: Watch)
+    pub fn park_for<R: Wait + Clock>(&self, rt: &R, task: &mut Task, watch: Watch)
         requires task { IsOf self.now task.old }
         requires own { MayWatch self.now.config task.old watch }
         ensures went { Went [] task.old task.new }
         ensures ready { Contains task.new.ready watch }
     {
-        let mut looks = 0;
+        if let Watch::Latch { .. } = watch {
+            return self.park_for_latch(rt, task, watch);
+        }
+        task.backoff.reset();
         for _ in rt.forever() {
             if self.peek(rt, task, watch) {
                 return;
             }
-            looks = task.pauses.pause(rt, looks);
+            task.backoff.snooze(rt);
+        }
+    }
+
+    // The same for a request. A look at the latch set takes its turn from the task that is to release the latch, so there is one
+    // look after each wake and not one after each step of the backoff.
+    fn park_for_latch<R: Wait + Clock>(&self, rt: &R, task: &mut Task, watch: Watch)
+        requires task { IsOf self.now task.old }
+        requires own { MayWatch self.now.config task.old watch }
+        ensures went { Went [] task.old task.new }
+        ensures ready { Contains task.new.ready watch }
+    {
+        for _ in rt.forever() {
+            task.backoff.listen();
+            if self.peek(rt, task, watch) {
+                return;
+            }
+            task.backoff.await_wake(rt);
         }
     }
 
@@ -195,7 +216,7 @@ impl Station {
     pub fn wake(&self, caller: u32)
         requires { caller < self.now.config.callers }
     {
-        self.unparkers[caller as usize].unpark();
+        self.wakers[caller as usize].wake();
     }
 }
 
@@ -234,30 +255,30 @@ fn tasks_of(
     alloc: Global,
     board: &Board,
     callers: Vec<Caller>,
-) -> Result<(Vec<Task>, Vec<Unparker>), NoMemory>
+) -> Result<(Vec<Task>, Vec<Waker>), NoMemory>
     requires { AreFresh board.now 0 callers.items }
     ensures tasks { IfOk result (λ r. r.0.items ≡ callers.items) }
     ensures wakers { IfOk result (λ r. vec_len r.1 ≡ length callers.items) }
 {
     let mut tasks = Vec::with_capacity(alloc, callers.len())?;
-    let mut unparkers = Vec::with_capacity(alloc, callers.len())?;
+    let mut wakers = Vec::with_capacity(alloc, callers.len())?;
     for caller in callers {
-        let (task, unparker) = opened(alloc, board.config(), caller)?;
-        unparkers.push_reserved(unparker);
+        let (task, waker) = opened(alloc, board.config(), caller)?;
+        wakers.push_reserved(waker);
         tasks.push_reserved(task);
     }
-    Ok((tasks, unparkers))
+    Ok((tasks, wakers))
 }
 
 // A task with this caller, and what it is woken with.
-fn opened(alloc: Global, config: &ValidConfig, caller: Caller) -> Result<(Task, Unparker), NoMemory>
+fn opened(alloc: Global, config: &ValidConfig, caller: Caller) -> Result<(Task, Waker), NoMemory>
     requires about { caller.about ≡ config.now ∷ [] }
     requires new { caller.log ≡ [] }
     ensures { IfOk result (λ r. r.0 ≡ caller) }
 {
-    let (pauses, unparker) = Pauses::open(alloc)?;
-    let task = task_of(alloc, config, caller, pauses)?;
-    Ok((task, unparker))
+    let (backoff, waker) = Backoff::open(alloc)?;
+    let task = task_of(alloc, config, caller, backoff)?;
+    Ok((task, waker))
 }
 
 // A task with this caller, whose tables are empty and have room for all its events.
@@ -265,7 +286,7 @@ fn task_of(
     alloc: Global,
     config: &ValidConfig,
     caller: Caller,
-    pauses: Pauses,
+    backoff: Backoff,
 ) -> Result<Task, NoMemory>
     requires about { caller.about ≡ config.now ∷ [] }
     requires new { caller.log ≡ [] }
@@ -277,7 +298,7 @@ fn task_of(
     Ok(Task {
         caller,
         keep,
-        pauses,
+        backoff,
         pending,
         places,
     })

@@ -7,8 +7,8 @@ ghost use Rattle.mv_machine.specs.Limits.{events_limit, highest_generation};
 ghost use Rattle.mv_machine.specs.Setup.{Setup};
 ghost use Rattle.mv_board.specs.Faces.{last_of};
 
+use crate::backoff::Backoff;
 use crate::keep::{Keep, OwnElement, key_of, posting_count};
-use crate::pausing::Pauses;
 use mv_board::Caller;
 use mv_latch::Wake;
 use mv_machine::OpenLog;
@@ -20,7 +20,7 @@ use std::marker::Model;
 pub struct Task {
     pub(crate) caller: Caller,
     pub(crate) keep: Keep,
-    pub(crate) pauses: Pauses,
+    pub(crate) backoff: Backoff,
     // The blocks that a call is still to post, the next one last.
     pub(crate) pending: Vec<u32>,
     // A place for each block, where a wait notes at which position of its list it stands.

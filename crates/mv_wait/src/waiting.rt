@@ -16,7 +16,7 @@ ghost use Rattle.mv_wait.specs.Run.{Went, IsServed};
 ghost use Rattle.mv_wait.specs.Waiting.{IsArmed, IsArmedFor, ArePlain, AreOwn, AreOwnUpTo, ArmsAll, SettlesEnough, IsBlockSettled};
 ghost use Rattle.mv_wait.specs.Waiting.{IsComplete, NamesSource, HasLowCode};
 
-use crate::pausing::Pauses;
+use crate::backoff::Backoff;
 use crate::replies::slot;
 use crate::station::Station;
 use crate::task::Task;
@@ -24,6 +24,7 @@ use mv_board::{Caller, Watch};
 use mv_ecb::EcbOp;
 use mv_machine::{Object, Op, ValidConfig};
 use std::sync::Wait;
+use std::time::Clock;
 use thiserror::Error;
 
 /// How a block of a wait was found.
@@ -71,7 +72,7 @@ impl Station {
     /// let mut found = [WaitSlot::Open, WaitSlot::Open];
     /// station.wait(rt, task, 1, &[3, 4], &mut found)?;
     /// ```
-    pub fn wait<R: Wait>(
+    pub fn wait<R: Wait + Clock>(
         &self,
         rt: &R,
         task: &mut Task,
@@ -101,7 +102,7 @@ impl Station {
             rt,
             &mut task.caller,
             &mut task.places,
-            &task.pauses,
+            &task.backoff,
             count,
             ecbs,
         );
@@ -212,12 +213,12 @@ impl Station {
 
     // Parks until `count` of the blocks are complete. Those that were not seen complete yet stand first in `places`. As long as it
     // finds one more of these open than may stay open, the wait is not over, whatever the others are.
-    fn await_complete<R: Wait>(
+    fn await_complete<R: Wait + Clock>(
         &self,
         rt: &R,
         caller: &mut Caller,
         places: &mut [u32],
-        pauses: &Pauses,
+        backoff: &Backoff,
         count: u32,
         ecbs: &[u32],
     )
@@ -233,13 +234,13 @@ impl Station {
         let spare = ecbs.len() - count as usize;
         let mut unseen = ecbs.len();
         put_first(places, ecbs);
-        let mut looks = 0;
+        backoff.reset();
         for _ in rt.forever() {
             unseen = self.look_at_unseen(rt, caller, places, unseen, spare, ecbs);
             if unseen <= spare {
                 return;
             }
-            looks = pauses.pause(rt, looks);
+            backoff.snooze(rt);
         }
     }
 

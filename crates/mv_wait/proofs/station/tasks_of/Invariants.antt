@@ -7,6 +7,6 @@ invariant-loop-caller l = record {
   yielded : l.yielded ++ into_iter_items l.caller-iterator ≡ l.fn.callers.items;
   count : into_iter_len l.caller-iterator ≡ length (into_iter_items l.caller-iterator);
   tasks : l.tasks.items ≡ l.yielded;
-  wakers : vec_len l.unparkers ≡ length l.yielded;
-  room : (length l.fn.callers.items ≤ vec_capacity l.tasks) × (length l.fn.callers.items ≤ vec_capacity l.unparkers);
+  wakers : vec_len l.wakers ≡ length l.yielded;
+  room : (length l.fn.callers.items ≤ vec_capacity l.tasks) × (length l.fn.callers.items ≤ vec_capacity l.wakers);
 }
