@@ -9,6 +9,7 @@ use mv_wait::{Station, Task};
 use std::alloc::Global;
 use std::sync::Wait;
 use std::thread::{self, Threads};
+use std::time::Clock;
 
 /// A task and its room.
 #[derive(Drop)]
@@ -59,7 +60,7 @@ pub(crate) fn parted<S: Drop>(
 }
 
 /// Has each task do its work, on a thread of its own.
-pub(crate) fn work_all<R: Threads + Wait + Sync, W: Work + Sync>(
+pub(crate) fn work_all<R: Threads + Wait + Clock + Sync, W: Work + Sync>(
     rt: &R,
     station: &Station,
     work: &W,

@@ -9,6 +9,7 @@ use mv_wait::{Station, Task};
 use std::alloc::Global;
 use std::sync::Wait;
 use std::thread::Threads;
+use std::time::Clock;
 
 /// What the tasks of a station do, each by its number.
 pub trait Work {
@@ -22,7 +23,13 @@ pub trait Work {
     ghost has_done: { Self → BoardFace → ℕ → Self.Room → CallerFace → Self.Room → Type 0 };
 
     /// Does what the task of this number is to do. The task is new.
-    fn work<R: Wait>(&self, rt: &R, station: &Station, task: &mut Task, room: &mut Self::Room)
+    fn work<R: Wait + Clock>(
+        &self,
+        rt: &R,
+        station: &Station,
+        task: &mut Task,
+        room: &mut Self::Room,
+    )
         requires fresh { IsFresh station.now task.old.number task.old }
         requires exists { task.old.number < station.now.config.callers }
         requires start { can_start self.now station.now task.old.number room.old }
@@ -37,7 +44,7 @@ pub trait Work {
 /// # Errors
 ///
 /// `NoMemory` where there is not enough, before the tasks start.
-pub fn run_tasks<R: Threads + Wait + Sync, W: Work + Sync>(
+pub fn run_tasks<R: Threads + Wait + Clock + Sync, W: Work + Sync>(
     rt: &R,
     alloc: Global,
     station: &Station,

@@ -12,6 +12,7 @@ use mv_wait::{Station, Task};
 use std::alloc::Global;
 use std::sync::Wait;
 use std::thread::Threads;
+use std::time::Clock;
 
 /// The task that waits. The other completes the event.
 const WAITER: u32 = 0;
@@ -39,7 +40,7 @@ impl Work for Completing {
 
     ghost has_done = { λ c b k old t new. HasDone c.0 k t.log new };
 
-    fn work<R: Wait>(&self, rt: &R, station: &Station, task: &mut Task, told: &mut u32) {
+    fn work<R: Wait + Clock>(&self, rt: &R, station: &Station, task: &mut Task, told: &mut u32) {
         if task.number() == WAITER {
             *told = station.wait_one(rt, task, EVENT);
         } else {
@@ -53,7 +54,7 @@ impl Work for Completing {
 /// # Errors
 ///
 /// `NoMemory` where there is not enough, before the tasks start.
-pub fn complete<R: Threads + Wait + Sync>(
+pub fn complete<R: Threads + Wait + Clock + Sync>(
     rt: &R,
     alloc: Global,
     code: u32,

@@ -17,6 +17,7 @@ use mv_wait::{Station, Task};
 use std::alloc::Global;
 use std::sync::Wait;
 use std::thread::Threads;
+use std::time::Clock;
 
 /// How many philosophers there are, and forks, which are latches: philosopher k has fork k at its left.
 const PHILOSOPHERS: u32 = 4;
@@ -41,7 +42,12 @@ fn configuration(alloc: Global, meals: u32) -> Result<ValidConfig, NoMemory>
 }
 
 // Takes a fork that is above each fork that the philosopher has.
-fn take_fork<R: Wait>(rt: &R, station: &Station, task: &mut Task, fork: u32) -> Option<LatchToken>
+fn take_fork<R: Wait + Clock>(
+    rt: &R,
+    station: &Station,
+    task: &mut Task,
+    fork: u32,
+) -> Option<LatchToken>
     requires fork { fork < 4 }
     requires above { AreLower fork (held task.old.log) }
     requires ready { IsDining station.now task.old }
@@ -80,7 +86,7 @@ fn put_fork<R: Wait>(rt: &R, station: &Station, task: &mut Task, token: LatchTok
 
 // Has a meal: takes both forks, the lower one first, and puts them back. An obtain is refused only if its request is purged, and no
 // philosopher purges any.
-fn eat<R: Wait>(rt: &R, station: &Station, task: &mut Task)
+fn eat<R: Wait + Clock>(rt: &R, station: &Station, task: &mut Task)
     requires ready { IsDining station.now task.old }
     requires left { 6 ≤ task.old.left }
     requires none { held task.old.log ≡ [] }
@@ -103,7 +109,7 @@ fn eat<R: Wait>(rt: &R, station: &Station, task: &mut Task)
 }
 
 // Has this many meals.
-fn eat_all<R: Wait>(rt: &R, station: &Station, task: &mut Task, meals: u32)
+fn eat_all<R: Wait + Clock>(rt: &R, station: &Station, task: &mut Task, meals: u32)
     requires ready { IsDining station.now task.old }
     requires left { 6 * meals ≤ task.old.left }
     requires none { held task.old.log ≡ [] }
@@ -126,7 +132,7 @@ impl Work for Dining {
 
     ghost has_done = { λ d b k old t new. HasDined t.log };
 
-    fn work<R: Wait>(&self, rt: &R, station: &Station, task: &mut Task, _room: &mut ()) {
+    fn work<R: Wait + Clock>(&self, rt: &R, station: &Station, task: &mut Task, _room: &mut ()) {
         eat_all(rt, station, task, self.0);
     }
 }
@@ -136,7 +142,7 @@ impl Work for Dining {
 /// # Errors
 ///
 /// `NoMemory` if memory runs out, before the tasks start.
-pub fn dine<R: Threads + Wait + Sync>(
+pub fn dine<R: Threads + Wait + Clock + Sync>(
     rt: &R,
     alloc: Global,
     meals: u32,

@@ -16,6 +16,7 @@ use mv_wait::{Station, Task};
 use std::alloc::Global;
 use std::sync::Wait;
 use std::thread::Threads;
+use std::time::Clock;
 
 /// How many items may lie between the two tasks.
 const SLOTS: usize = 4;
@@ -46,7 +47,7 @@ fn configuration(alloc: Global, items: u32) -> Result<ValidConfig, NoMemory>
 }
 
 // Waits for a block of the task's own, zeroes it for its next use, and answers the code that it was posted with.
-fn take<R: Wait>(rt: &R, station: &Station, task: &mut Task, ecb: u32) -> u32
+fn take<R: Wait + Clock>(rt: &R, station: &Station, task: &mut Task, ecb: u32) -> u32
     requires block { IsOwn station.now ecb task.old }
     requires ready { CanHandOver station.now task.old.number task.old }
     requires left { 3 ≤ task.old.left }
@@ -73,7 +74,7 @@ fn put<R: Wait>(rt: &R, station: &Station, task: &mut Task, ecb: u32, code: u32)
 }
 
 // Puts each item into the next slot, once that is free.
-fn produce<R: Wait>(rt: &R, station: &Station, task: &mut Task, items: &[u32])
+fn produce<R: Wait + Clock>(rt: &R, station: &Station, task: &mut Task, items: &[u32])
     requires new { IsNew station.now 0 task.old }
     requires codes { AllByRecursion (λ x. x < code_limit) items.now }
     requires left { 4 * length items.now ≤ task.old.left }
@@ -87,7 +88,13 @@ fn produce<R: Wait>(rt: &R, station: &Station, task: &mut Task, items: &[u32])
 }
 
 // Says that each slot is free; then takes so many items, each from the next slot, and frees that again.
-fn consume<R: Wait>(rt: &R, station: &Station, task: &mut Task, count: usize, taken: &mut Vec<u32>)
+fn consume<R: Wait + Clock>(
+    rt: &R,
+    station: &Station,
+    task: &mut Task,
+    count: usize,
+    taken: &mut Vec<u32>,
+)
     requires new { IsNew station.now 1 task.old }
     requires left { 4 * count + 4 ≤ task.old.left }
     requires room { (taken.old.items ≡ []) × (count ≤ vec_capacity taken.old) }
@@ -117,7 +124,13 @@ impl Work for Handing<'_> {
 
     ghost has_done = { λ h b k old t new. HasDone b h.items.now k t new.items };
 
-    fn work<R: Wait>(&self, rt: &R, station: &Station, task: &mut Task, taken: &mut Vec<u32>) {
+    fn work<R: Wait + Clock>(
+        &self,
+        rt: &R,
+        station: &Station,
+        task: &mut Task,
+        taken: &mut Vec<u32>,
+    ) {
         if task.number() == PRODUCER {
             produce(rt, station, task, self.items);
         } else {
@@ -141,7 +154,7 @@ fn rooms_for(alloc: Global, count: usize) -> Result<Vec<Vec<u32>>, NoMemory>
 /// # Errors
 ///
 /// `NoMemory` where there is not enough, before the tasks start.
-pub fn hand_over<R: Threads + Wait + Sync>(
+pub fn hand_over<R: Threads + Wait + Clock + Sync>(
     rt: &R,
     alloc: Global,
     items: &[u32],

@@ -22,6 +22,7 @@ use mv_task::Gate;
 use std::alloc::Global;
 use std::sync::Wait;
 use std::thread::Threads;
+use std::time::Clock;
 
 // Judges the journal of the input, and tells how it ended.
 fn judge<D: Source, R: Sink, N: Sink>(
@@ -70,7 +71,14 @@ fn judge<D: Source, R: Sink, N: Sink>(
 /// let status = run_program(rt, alloc, &words, &mut input, &mut report, &mut journal, &mut notes, &OpenGate);
 /// ExitCode::from(status.exit())
 /// ```
-pub fn run_program<X: Threads + Wait + Sync, D: Source, R: Sink, K: Sink, N: Sink, G: Gate + Sync>(
+pub fn run_program<
+    X: Threads + Wait + Clock + Sync,
+    D: Source,
+    R: Sink,
+    K: Sink,
+    N: Sink,
+    G: Gate + Sync,
+>(
     rt: &X,
     alloc: Global,
     words: &[String],

@@ -17,6 +17,7 @@ use mv_task::Gate;
 use std::alloc::Global;
 use std::sync::Wait;
 use std::thread::Threads;
+use std::time::Clock;
 
 /// The most bytes of a deck, and of a script.
 const DECK_LIMIT: usize = 1_048_576;
@@ -41,7 +42,7 @@ fn read_text<D: Source>(alloc: Global, command: Command, input: &mut D) -> Resul
 }
 
 // The texts that a command tells of the text that it read, or why it has none.
-fn texts_told<X: Threads + Wait + Sync, G: Gate + Sync>(
+fn texts_told<X: Threads + Wait + Clock + Sync, G: Gate + Sync>(
     rt: &X,
     alloc: Global,
     command: Command,
@@ -92,7 +93,7 @@ fn write_texts<R: Sink, K: Sink>(report: &mut R, journal: &mut K, texts: Texts) 
 }
 
 /// Runs what a command asks, and writes its report and its journal. The words of the command are not asked again.
-pub(crate) fn run<X: Threads + Wait + Sync, D: Source, R: Sink, K: Sink, G: Gate + Sync>(
+pub(crate) fn run<X: Threads + Wait + Clock + Sync, D: Source, R: Sink, K: Sink, G: Gate + Sync>(
     rt: &X,
     alloc: Global,
     command: Command,

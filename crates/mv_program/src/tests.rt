@@ -11,6 +11,7 @@ use std::alloc::{AllocError, Global};
 use std::process::Abort;
 use std::sync::Wait;
 use std::thread::Threads;
+use std::time::Clock;
 
 mod failing_streams;
 mod faulty_decks;
@@ -334,7 +335,7 @@ fn words_of(alloc: Global, text: &str) -> Result<Vec<String>, AllocError> {
 }
 
 // Runs the command whose words stand in a text.
-fn run_by<X: Abort + AllocGlobal + Threads + Wait + Sync, G: Gate + Sync>(
+fn run_by<X: Abort + AllocGlobal + Threads + Wait + Clock + Sync, G: Gate + Sync>(
     rt: &X,
     text: &str,
     on: &mut Streams,
@@ -356,7 +357,7 @@ fn run_by<X: Abort + AllocGlobal + Threads + Wait + Sync, G: Gate + Sync>(
 }
 
 // The same where no task is held.
-fn run<X: Abort + AllocGlobal + Threads + Wait + Sync>(
+fn run<X: Abort + AllocGlobal + Threads + Wait + Clock + Sync>(
     rt: &X,
     text: &str,
     on: &mut Streams,
@@ -382,7 +383,7 @@ fn assert_exit<X: Abort>(rt: &X, status: Status, exit: u8, row: &str) {
 }
 
 // Runs a command: it ends with this exit, and leaves this report and this note.
-fn assert_ends<X: Abort + AllocGlobal + Threads + Wait + Sync>(
+fn assert_ends<X: Abort + AllocGlobal + Threads + Wait + Clock + Sync>(
     rt: &X,
     words: &str,
     on: &mut Streams,
@@ -405,7 +406,7 @@ fn has(text: &[u8], piece: &str) -> bool {
 }
 
 // The journal is a legal history, as `replay` judges it.
-fn assert_legal<X: Abort + AllocGlobal + Threads + Wait + Sync>(rt: &X, journal: &[u8]) {
+fn assert_legal<X: Abort + AllocGlobal + Threads + Wait + Clock + Sync>(rt: &X, journal: &[u8]) {
     let mut on = streams_over(rt, journal);
     let status = run(rt, "replay", &mut on);
     assert_exit(rt, status, 0, "replay");
@@ -413,7 +414,7 @@ fn assert_legal<X: Abort + AllocGlobal + Threads + Wait + Sync>(rt: &X, journal:
 }
 
 // The journal has this piece, and is legal; without a piece there is none.
-fn assert_journal<X: Abort + AllocGlobal + Threads + Wait + Sync>(
+fn assert_journal<X: Abort + AllocGlobal + Threads + Wait + Clock + Sync>(
     rt: &X,
     journal: &[u8],
     piece: &str,
@@ -428,7 +429,7 @@ fn assert_journal<X: Abort + AllocGlobal + Threads + Wait + Sync>(
 
 // A run over this input ends with this exit, and leaves what is told, the report or the note, and a journal with this piece. It has read
 // its input to the end, or nothing of it where the command has none.
-fn assert_run<X: Abort + AllocGlobal + Threads + Wait + Sync>(
+fn assert_run<X: Abort + AllocGlobal + Threads + Wait + Clock + Sync>(
     rt: &X,
     words: &str,
     input: &str,
@@ -476,7 +477,7 @@ fn made<X: Abort>(rt: &X, text: Result<String, AllocError>) -> String {
 }
 
 // Each row of a table.
-fn assert_rows<X: Abort + AllocGlobal + Threads + Wait + Sync>(rt: &X, rows: &str) {
+fn assert_rows<X: Abort + AllocGlobal + Threads + Wait + Clock + Sync>(rt: &X, rows: &str) {
     for row in rows.split("==\n") {
         let (run, comes_to) = parted(rt, row, "--\n");
         let (words, input) = parted(rt, run, "\n");
@@ -513,7 +514,7 @@ const JOURNAL: Format = Format {
 
 // A text with its first fault, the line and the kind, and a space behind each; `0 0` where it has none. It stands between a front and
 // what is behind.
-fn assert_fault<X: Abort + AllocGlobal + Threads + Wait + Sync>(
+fn assert_fault<X: Abort + AllocGlobal + Threads + Wait + Clock + Sync>(
     rt: &X,
     format: &Format,
     front: &str,
@@ -536,7 +537,7 @@ fn assert_fault<X: Abort + AllocGlobal + Threads + Wait + Sync>(
 }
 
 // A text without fault, which this row made.
-fn assert_no_fault<X: Abort + AllocGlobal + Threads + Wait + Sync>(
+fn assert_no_fault<X: Abort + AllocGlobal + Threads + Wait + Clock + Sync>(
     rt: &X,
     format: &Format,
     text: &str,
@@ -548,7 +549,7 @@ fn assert_no_fault<X: Abort + AllocGlobal + Threads + Wait + Sync>(
 }
 
 // A text of which this is noted, and nothing else is told. This row made it.
-fn assert_told<X: Abort + AllocGlobal + Threads + Wait + Sync>(
+fn assert_told<X: Abort + AllocGlobal + Threads + Wait + Clock + Sync>(
     rt: &X,
     format: &Format,
     text: &str,
@@ -565,7 +566,7 @@ fn assert_told<X: Abort + AllocGlobal + Threads + Wait + Sync>(
 
 // Texts by such rows, parted by semicolons, so that a test is as short to prove with many as with one. A row that begins with `#` says
 // what those behind it have in common.
-fn assert_faults<X: Abort + AllocGlobal + Threads + Wait + Sync>(
+fn assert_faults<X: Abort + AllocGlobal + Threads + Wait + Clock + Sync>(
     rt: &X,
     format: &Format,
     front: &str,
@@ -615,7 +616,7 @@ fn words_that_are_no_command(rt: HostRuntime) {
 }
 
 // A text is refused for its bytes, with this exit and this note.
-fn assert_no_utf_8<X: Abort + AllocGlobal + Threads + Wait + Sync>(
+fn assert_no_utf_8<X: Abort + AllocGlobal + Threads + Wait + Clock + Sync>(
     rt: &X,
     words: &str,
     text: &[u8],

@@ -32,6 +32,7 @@ use mv_task::Gate;
 use std::alloc::Global;
 use std::sync::Wait;
 use std::thread::Threads;
+use std::time::Clock;
 
 /// What a run writes.
 #[derive(Drop)]
@@ -50,7 +51,7 @@ pub(crate) enum Way {
 }
 
 // Runs the deck. The gate is for tasks on threads alone.
-fn run_of<X: Threads + Wait + Sync, G: Gate + Sync>(
+fn run_of<X: Threads + Wait + Clock + Sync, G: Gate + Sync>(
     rt: &X,
     alloc: Global,
     deck: &Deck,
@@ -80,7 +81,7 @@ fn run_of<X: Threads + Wait + Sync, G: Gate + Sync>(
 }
 
 // The texts of a run of this deck.
-fn texts_of_deck<X: Threads + Wait + Sync, G: Gate + Sync>(
+fn texts_of_deck<X: Threads + Wait + Clock + Sync, G: Gate + Sync>(
     rt: &X,
     alloc: Global,
     deck: &Deck,
@@ -101,7 +102,7 @@ fn texts_of_deck<X: Threads + Wait + Sync, G: Gate + Sync>(
 }
 
 /// The texts of a run of the deck that the input states, by so many initiators.
-pub(crate) fn texts_of<X: Threads + Wait + Sync, G: Gate + Sync>(
+pub(crate) fn texts_of<X: Threads + Wait + Clock + Sync, G: Gate + Sync>(
     rt: &X,
     alloc: Global,
     input: &[u8],
@@ -142,7 +143,7 @@ fn deck_of_load(alloc: Global, jobs: u32, initiators: u32) -> Result<Deck, NoMem
 }
 
 /// The summary of a load of so many jobs, and the journal of its run by so many initiators.
-pub(crate) fn texts_of_load<X: Threads + Wait + Sync, G: Gate + Sync>(
+pub(crate) fn texts_of_load<X: Threads + Wait + Clock + Sync, G: Gate + Sync>(
     rt: &X,
     alloc: Global,
     jobs: u32,
@@ -162,7 +163,7 @@ pub(crate) fn texts_of_load<X: Threads + Wait + Sync, G: Gate + Sync>(
 }
 
 // The answers and the journal of a run of this script.
-fn texts_of_run<X: Threads + Wait + Sync>(
+fn texts_of_run<X: Threads + Wait + Clock + Sync>(
     rt: &X,
     alloc: Global,
     script: &Script,
@@ -177,7 +178,7 @@ fn texts_of_run<X: Threads + Wait + Sync>(
 }
 
 /// The answers and the journal of a run of the script that the input states.
-pub(crate) fn texts_of_script<X: Threads + Wait + Sync>(
+pub(crate) fn texts_of_script<X: Threads + Wait + Clock + Sync>(
     rt: &X,
     alloc: Global,
     input: &[u8],

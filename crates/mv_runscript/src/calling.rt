@@ -22,9 +22,10 @@ use mv_latchset::{LatchToken, ObtainRefusal, Obtained, obtain};
 use mv_script::{Answer, Call, Slots};
 use mv_wait::{Station, Task};
 use std::sync::Wait;
+use std::time::Clock;
 
 /// OBTAIN: the request that it gets, or none, stands behind those of the task's OBTAINs before.
-fn ask<R: Wait>(
+fn ask<R: Wait + Clock>(
     rt: &R,
     station: &Station,
     task: &mut Task,
@@ -64,7 +65,7 @@ fn request_in(outcome: Result<Obtained, ObtainRefusal>) -> Option<LatchToken>
 }
 
 /// Makes a call of a task whose OBTAINs got these requests, and takes one of the rooms where it is a WAIT.
-pub(crate) fn make<R: Wait>(
+pub(crate) fn make<R: Wait + Clock>(
     rt: &R,
     station: &Station,
     task: &mut Task,

@@ -16,6 +16,7 @@ use mv_calls::ValidTable;
 use mv_script::{Call, CallList};
 use mv_wait::{Station, Task};
 use std::sync::Wait;
+use std::time::Clock;
 
 /// What the tasks of a script do: each makes its own calls.
 #[derive(Drop)]
@@ -32,14 +33,14 @@ impl Work for Making<'_> {
 
     ghost has_done = { λ m b k old t new. HasMade b m.table.now (slice_index_or m.tasks.now k []) k new t };
 
-    fn work<R: Wait>(&self, rt: &R, station: &Station, task: &mut Task, room: &mut Room) {
+    fn work<R: Wait + Clock>(&self, rt: &R, station: &Station, task: &mut Task, room: &mut Room) {
         let list = &self.tasks[task.number() as usize];
         make_all(rt, station, task, self.table, &list.calls, room);
     }
 }
 
 // Makes these calls in order, and puts down what each answers.
-fn make_all<R: Wait>(
+fn make_all<R: Wait + Clock>(
     rt: &R,
     station: &Station,
     task: &mut Task,

@@ -21,6 +21,7 @@ use mv_wait::Station;
 use std::alloc::Global;
 use std::sync::Wait;
 use std::thread::Threads;
+use std::time::Clock;
 
 /// What a script came to: the history of its tasks' events, and what each of their calls answered.
 #[derive(Drop)]
@@ -37,7 +38,7 @@ pub struct ScriptRun {
 /// # Errors
 ///
 /// `NoMemory` where there is not enough, before the tasks start.
-pub fn run_script<R: Threads + Wait + Sync>(
+pub fn run_script<R: Threads + Wait + Clock + Sync>(
     rt: &R,
     alloc: Global,
     script: &Script,
@@ -60,7 +61,7 @@ pub fn run_script<R: Threads + Wait + Sync>(
 }
 
 // Opens a station of this configuration, has its tasks make their calls, and closes it.
-fn run_station<R: Threads + Wait + Sync>(
+fn run_station<R: Threads + Wait + Clock + Sync>(
     rt: &R,
     alloc: Global,
     config: ValidConfig,

@@ -33,9 +33,10 @@ use mv_script::{Answer, Call, Slots};
 use mv_task::end_of_task;
 use mv_wait::{Station, Task};
 use std::sync::Wait;
+use std::time::Clock;
 
 /// WAIT, with room for what is found.
-pub(crate) fn wait_in<R: Wait>(
+pub(crate) fn wait_in<R: Wait + Clock>(
     rt: &R,
     station: &Station,
     task: &mut Task,
@@ -57,7 +58,7 @@ pub(crate) fn wait_in<R: Wait>(
 }
 
 /// Makes a call that is neither a WAIT nor an OBTAIN, where the task's OBTAINs got these requests.
-pub(crate) fn serve<R: Wait>(
+pub(crate) fn serve<R: Wait + Clock>(
     rt: &R,
     station: &Station,
     task: &mut Task,
@@ -118,7 +119,7 @@ pub(crate) fn serve<R: Wait>(
 }
 
 /// EVPOST of an event of the script's table.
-fn event_posted<R: Wait>(
+fn event_posted<R: Wait + Clock>(
     rt: &R,
     station: &Station,
     task: &mut Task,
@@ -141,7 +142,7 @@ fn event_posted<R: Wait>(
 }
 
 /// EVNEXT of a position of the script's table.
-fn event_taken<R: Wait>(
+fn event_taken<R: Wait + Clock>(
     rt: &R,
     station: &Station,
     task: &mut Task,

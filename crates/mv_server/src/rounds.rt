@@ -13,6 +13,7 @@ use mv_machine::{History, ReplayRefusal, replay};
 use std::alloc::Global;
 use std::sync::Wait;
 use std::thread::Threads;
+use std::time::Clock;
 
 /// Answers each of these requests, however many there are, so many in a round: 1 to 10,000. Each round has a station that is opened
 /// for it and closed, and its history is judged before the next begins.
@@ -20,7 +21,7 @@ use std::thread::Threads;
 /// # Errors
 ///
 /// `NoMemory` where there is not enough for a round.
-pub fn serve_in_rounds<R: Threads + Wait + Sync>(
+pub fn serve_in_rounds<R: Threads + Wait + Clock + Sync>(
     rt: &R,
     alloc: Global,
     requests: &[u32],
@@ -42,7 +43,7 @@ pub fn serve_in_rounds<R: Threads + Wait + Sync>(
 }
 
 // One round: what it answers is added to the answers so far, which are all that it leaves.
-fn serve_round<R: Threads + Wait + Sync>(
+fn serve_round<R: Threads + Wait + Clock + Sync>(
     rt: &R,
     alloc: Global,
     requests: &[u32],

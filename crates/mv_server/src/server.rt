@@ -20,6 +20,7 @@ use mv_wait::{Station, Task, WaitSlot};
 use std::alloc::Global;
 use std::sync::Wait;
 use std::thread::Threads;
+use std::time::Clock;
 
 /// How many workers there are. Worker w is caller w, its element is w, and block w says that it is idle. Behind these blocks there
 /// is one for the answer to each request.
@@ -64,7 +65,7 @@ fn pool_config(alloc: Global, requests: u32) -> Result<ValidConfig, NoMemory>
 
 // A worker: tells that it is idle and with which generation it pauses, answers the request that it is handed, and so on until it is
 // told to stop.
-fn work<R: Wait>(rt: &R, station: &Station, task: &mut Task, requests: &[u32])
+fn work<R: Wait + Clock>(rt: &R, station: &Station, task: &mut Task, requests: &[u32])
     requires ready { CanServe station.now requests.now task.old }
     requires new { task.old.log ≡ [] }
     requires number { task.old.number < workers }
@@ -94,7 +95,13 @@ fn work<R: Wait>(rt: &R, station: &Station, task: &mut Task, requests: &[u32])
 }
 
 // Waits until a worker is idle, and hands this code to the first that takes it.
-fn hand_out<R: Wait>(rt: &R, station: &Station, task: &mut Task, requests: &[u32], code: u32)
+fn hand_out<R: Wait + Clock>(
+    rt: &R,
+    station: &Station,
+    task: &mut Task,
+    requests: &[u32],
+    code: u32,
+)
     requires ready { IsBack station.now requests.now workers task.old }
     requires code { code < release_limit }
     requires left { hand_out_events ≤ task.old.left }
@@ -125,7 +132,7 @@ fn hand_out<R: Wait>(rt: &R, station: &Station, task: &mut Task, requests: &[u32
 }
 
 // Waits for the block of a request, and answers the code that it was posted with.
-fn await_answer<R: Wait>(
+fn await_answer<R: Wait + Clock>(
     rt: &R,
     station: &Station,
     task: &mut Task,
@@ -143,7 +150,7 @@ fn await_answer<R: Wait>(
 }
 
 // The server: hands out each request, stops each worker, and waits for each answer, in order.
-fn serve<R: Wait>(
+fn serve<R: Wait + Clock>(
     rt: &R,
     station: &Station,
     task: &mut Task,
@@ -181,7 +188,13 @@ impl Work for Pool<'_> {
 
     ghost has_done = { λ pool b k old t new. HasDone b pool.requests.now k t new.items };
 
-    fn work<R: Wait>(&self, rt: &R, station: &Station, task: &mut Task, answers: &mut Vec<u32>) {
+    fn work<R: Wait + Clock>(
+        &self,
+        rt: &R,
+        station: &Station,
+        task: &mut Task,
+        answers: &mut Vec<u32>,
+    ) {
         if task.number() == WORKERS {
             serve(rt, station, task, self.requests, answers);
         } else {
@@ -207,7 +220,7 @@ fn rooms_for(alloc: Global, requests: usize) -> Result<Vec<Vec<u32>>, NoMemory>
 /// # Errors
 ///
 /// `NoMemory` where there is not enough, before the tasks start.
-pub fn serve_all<R: Threads + Wait + Sync>(
+pub fn serve_all<R: Threads + Wait + Clock + Sync>(
     rt: &R,
     alloc: Global,
     requests: &[u32],

@@ -9,9 +9,10 @@ use mv_pause::pause;
 use mv_wait::{Station, Task, WaitSlot};
 use mv_work::{Got, Lost, MOST_BLOCKS, Need, slots_in};
 use std::sync::Wait;
+use std::time::Clock;
 
 /// Waits until this is so, and answers what was told.
-pub(crate) fn meet<R: Wait>(
+pub(crate) fn meet<R: Wait + Clock>(
     rt: &R,
     station: &Station,
     task: &mut Task,

@@ -26,6 +26,7 @@ use mv_work::{RunResults, SpoolRun, SpoolWork, results_of, spool_run};
 use std::alloc::Global;
 use std::sync::Wait;
 use std::thread::Threads;
+use std::time::Clock;
 
 // The work of each task, which was not begun.
 fn works_of(alloc: Global, deck: &Deck, initiators: u32) -> Result<Vec<SpoolWork>, NoMemory>
@@ -43,7 +44,7 @@ fn works_of(alloc: Global, deck: &Deck, initiators: u32) -> Result<Vec<SpoolWork
 }
 
 // Opens a station of this configuration, has its tasks do their work, and closes it.
-fn run_station<R: Threads + Wait + Sync, G: Gate + Sync>(
+fn run_station<R: Threads + Wait + Clock + Sync, G: Gate + Sync>(
     rt: &R,
     alloc: Global,
     config: ValidConfig,
@@ -87,7 +88,7 @@ fn run_station<R: Threads + Wait + Sync, G: Gate + Sync>(
 /// let run = run_deck(rt, alloc, &deck, 2, &OpenGate)?;
 /// let report = write_report(alloc, &deck, &run.ends, &run.lines, &run.volumes)?;
 /// ```
-pub fn run_deck<R: Threads + Wait + Sync, G: Gate + Sync>(
+pub fn run_deck<R: Threads + Wait + Clock + Sync, G: Gate + Sync>(
     rt: &R,
     alloc: Global,
     deck: &Deck,

@@ -11,6 +11,7 @@ use mv_task::Gate;
 use mv_wait::{Station, Task};
 use mv_work::{Spool, SpoolWork};
 use std::sync::Wait;
+use std::time::Clock;
 
 /// What the tasks of a run have in common. What each has of its own is its work.
 #[derive(Drop)]
@@ -28,7 +29,13 @@ impl<G: Gate + Sync> Work for SpoolTasks<'_, G> {
 
     ghost has_done = { λ w b k old t new. IsWorked (spool_of b (deck_data w.deck.now) w.initiators) k new t };
 
-    fn work<R: Wait>(&self, rt: &R, station: &Station, task: &mut Task, room: &mut SpoolWork) {
+    fn work<R: Wait + Clock>(
+        &self,
+        rt: &R,
+        station: &Station,
+        task: &mut Task,
+        room: &mut SpoolWork,
+    ) {
         let spool = Spool::new(station, self.deck, self.initiators, self.gate);
         let mut needed = room.begin(rt, &spool, task);
         for _ in rt.forever() {

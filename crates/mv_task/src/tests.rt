@@ -14,6 +14,7 @@ use std::alloc::Global;
 use std::marker::Model;
 use std::process::Abort;
 use std::sync::Wait;
+use std::time::Clock;
 use std::{hint, thread};
 
 mod boards;
@@ -187,7 +188,7 @@ impl<'a> Worker<'a> {
 
     // Waits for a block of the task's own until it is posted with this code, and clears it.
     #[tactic(auto, using(mv_wait::proofs::Compose::served))]
-    fn await_post<R: Abort + Wait>(&mut self, rt: &R, ecb: u32, code: u32)
+    fn await_post<R: Abort + Wait + Clock>(&mut self, rt: &R, ecb: u32, code: u32)
         ensures { self.new ≡ self.old }
     {
         let station = self.station;

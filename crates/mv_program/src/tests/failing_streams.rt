@@ -18,7 +18,7 @@ fn a_source_that_fails_at_each_of_its_calls(rt: HostRuntime) {
 }
 
 // A run whose deck is read from a source that fails at this call.
-fn assert_read<X: Abort + AllocGlobal + Threads + Wait + Sync>(
+fn assert_read<X: Abort + AllocGlobal + Threads + Wait + Clock + Sync>(
     rt: &X,
     call: u64,
     exit: u8,
@@ -37,7 +37,7 @@ fn assert_read<X: Abort + AllocGlobal + Threads + Wait + Sync>(
 
 // Report and journal are written to such sinks. So many bytes of the report stand there in the end, and behind a whole one a front of the
 // journal, which is all that stands there of it, or a whole journal with this piece.
-fn assert_written<X: Abort + AllocGlobal + Threads + Wait + Sync>(
+fn assert_written<X: Abort + AllocGlobal + Threads + Wait + Clock + Sync>(
     rt: &X,
     sinks: [[usize; 3]; 2],
     exit: u8,
@@ -103,7 +103,7 @@ fn notes_that_fail_change_no_status(rt: HostRuntime) {
 }
 
 // The note of an empty deck's fault is written to such a sink, which takes a front of it.
-fn assert_noted<X: Abort + AllocGlobal + Threads + Wait + Sync>(
+fn assert_noted<X: Abort + AllocGlobal + Threads + Wait + Clock + Sync>(
     rt: &X,
     notes: [usize; 3],
     front: &str,

@@ -343,7 +343,7 @@ fn heavy_deck(alloc: Global, jobs: u32, step: &str) -> Result<String, AllocError
 }
 
 // A deck of 30,839 jobs runs to its end.
-fn assert_runs<X: Abort + AllocGlobal + Threads + Wait + Sync>(rt: &X, deck: &str) {
+fn assert_runs<X: Abort + AllocGlobal + Threads + Wait + Clock + Sync>(rt: &X, deck: &str) {
     let mut on = streams_over(rt, deck.as_bytes());
     on.report = sink(rt, WIDE);
     on.journal = sink(rt, WIDEST);

@@ -263,7 +263,7 @@ const MANY_CALLS: &str = "\
     131 6 END";
 
 // Scripts by such rows, each behind a front and a line that stands so many times.
-fn assert_behind<X: Abort + AllocGlobal + Threads + Wait + Sync>(
+fn assert_behind<X: Abort + AllocGlobal + Threads + Wait + Clock + Sync>(
     rt: &X,
     front: &str,
     line: &str,

@@ -131,7 +131,7 @@ pub(crate) fn unnumbered<X: Abort + AllocGlobal>(rt: &X, journal: &str) -> Strin
 }
 
 // Both commands on journals end with this exit, and with this note.
-fn assert_refused<X: Abort + AllocGlobal + Threads + Wait + Sync>(
+fn assert_refused<X: Abort + AllocGlobal + Threads + Wait + Clock + Sync>(
     rt: &X,
     journal: &str,
     exit: u8,
@@ -143,7 +143,7 @@ fn assert_refused<X: Abort + AllocGlobal + Threads + Wait + Sync>(
 }
 
 // Each of these in turn is said of one event, and all others stay.
-pub(crate) fn assert_forged<X: Abort + AllocGlobal + Threads + Wait + Sync>(
+pub(crate) fn assert_forged<X: Abort + AllocGlobal + Threads + Wait + Clock + Sync>(
     rt: &X,
     journal: &str,
     forgeries: &str,
@@ -175,7 +175,7 @@ fn journals_that_are_forged(rt: HostRuntime) {
 }
 
 // Both commands on a text that is cut before any of its bytes end in the line of that byte.
-fn assert_cut<X: Abort + AllocGlobal + Threads + Wait + Sync>(rt: &X, journal: &str) {
+fn assert_cut<X: Abort + AllocGlobal + Threads + Wait + Clock + Sync>(rt: &X, journal: &str) {
     for length in 0..journal.len() {
         let Some(front) = journal.get(..length) else {
             panic!(rt; "no front")
@@ -193,7 +193,7 @@ fn a_journal_cut_at_each_length(rt: HostRuntime) {
 }
 
 // A journal of nine events is legal, and is converted to this one.
-fn assert_converted<X: Abort + AllocGlobal + Threads + Wait + Sync>(
+fn assert_converted<X: Abort + AllocGlobal + Threads + Wait + Clock + Sync>(
     rt: &X,
     journal: &str,
     converted: &str,

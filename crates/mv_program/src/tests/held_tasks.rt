@@ -42,7 +42,7 @@ VOLUMES 12 0 0 0 0 0 0 0
 
 // Runs a deck while two points are held for a million rounds at most: both are reached, neither hold runs out, and the report is this.
 // The journal is legal, and has each of these pieces.
-fn assert_meets<X: Abort + AllocGlobal + Threads + Wait + Sync>(
+fn assert_meets<X: Abort + AllocGlobal + Threads + Wait + Clock + Sync>(
     rt: &X,
     words: &str,
     deck: &str,
@@ -58,7 +58,7 @@ fn assert_meets<X: Abort + AllocGlobal + Threads + Wait + Sync>(
 }
 
 // Runs a deck while two points are held, and says whether they meet.
-fn assert_held<X: Abort + AllocGlobal + Threads + Wait + Sync>(
+fn assert_held<X: Abort + AllocGlobal + Threads + Wait + Clock + Sync>(
     rt: &X,
     words: &str,
     on: &mut Streams,

@@ -58,7 +58,7 @@ END 9
 ";
 
 // Rows of decks, polled from the seed 5 on.
-fn assert_polled<X: Abort + AllocGlobal + Threads + Wait + Sync>(rt: &X, rows: &str) {
+fn assert_polled<X: Abort + AllocGlobal + Threads + Wait + Clock + Sync>(rt: &X, rows: &str) {
     let mut text = made(rt, rows.replace(rt.alloc(), "spool 1\n", "polled 1 5\n"));
     text = made(rt, text.replace(rt.alloc(), "spool 2\n", "polled 2 5\n"));
     text = made(rt, text.replace(rt.alloc(), "spool 8\n", "polled 8 5\n"));
@@ -80,7 +80,7 @@ fn decks_are_polled(rt: HostRuntime) {
 }
 
 // The empty deck, polled from this seed on, has the journal that the seed's order of tasks gives.
-fn assert_no_job<X: Abort + AllocGlobal + Threads + Wait + Sync>(
+fn assert_no_job<X: Abort + AllocGlobal + Threads + Wait + Clock + Sync>(
     rt: &X,
     words: &str,
     journal: &str,
@@ -97,7 +97,7 @@ fn a_seed_gives_the_order_of_the_tasks(rt: HostRuntime) {
 }
 
 // A run of this deck.
-fn polled<X: Abort + AllocGlobal + Threads + Wait + Sync>(rt: &X, deck: &[u8]) -> Streams {
+fn polled<X: Abort + AllocGlobal + Threads + Wait + Clock + Sync>(rt: &X, deck: &[u8]) -> Streams {
     let mut on = streams_over(rt, deck);
     let status = run(rt, "polled 4 7", &mut on);
     assert_exit(rt, status, 0, "polled 4 7");
@@ -105,7 +105,7 @@ fn polled<X: Abort + AllocGlobal + Threads + Wait + Sync>(rt: &X, deck: &[u8]) -
 }
 
 // One more run of this deck writes the same report and the same journal.
-fn assert_again<X: Abort + AllocGlobal + Threads + Wait + Sync>(
+fn assert_again<X: Abort + AllocGlobal + Threads + Wait + Clock + Sync>(
     rt: &X,
     deck: &[u8],
     first: &Streams,

@@ -3,7 +3,7 @@
 use super::*;
 
 // The answers of a script whose tasks' order the schedule decides. Its journal has this piece.
-fn answers_of<X: Abort + AllocGlobal + Threads + Wait + Sync>(
+fn answers_of<X: Abort + AllocGlobal + Threads + Wait + Clock + Sync>(
     rt: &X,
     script: &str,
     piece: &str,

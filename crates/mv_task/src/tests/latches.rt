@@ -15,6 +15,7 @@ use std::alloc::Global;
 use std::process::Abort;
 use std::sync::Wait;
 use std::thread::{self, Threads, join};
+use std::time::Clock;
 
 // A new station of two tasks with these budgets, and one block, of the second.
 fn open_two(rt: &impl Abort, alloc: Global, first: u32, second: u32) -> (Station, Task, Task)
@@ -30,7 +31,7 @@ fn open_two(rt: &impl Abort, alloc: Global, first: u32, second: u32) -> (Station
 
 // Asks for a latch alone, for this requestor.
 #[tactic(auto, using(mv_wait::proofs::Compose::served, mv_latchset::proofs::Obtains::few_events))]
-fn ask<R: Abort + Wait>(
+fn ask<R: Abort + Wait + Clock>(
     rt: &R,
     worker: &mut Worker<'_>,
     latch: u32,
@@ -48,7 +49,7 @@ fn ask<R: Abort + Wait>(
 }
 
 // Takes a latch alone, for this requestor. Where the request is to be posted, its post is waited for.
-fn take<R: Abort + Wait>(
+fn take<R: Abort + Wait + Clock>(
     rt: &R,
     worker: &mut Worker<'_>,
     latch: u32,
@@ -82,7 +83,7 @@ fn give_back<R: Abort + Wait>(rt: &R, worker: &mut Worker<'_>, token: LatchToken
 // ---- one task
 
 // Takes two latches, gives one of them back and takes a third: each token has the key of its request's record.
-fn take_three<R: Abort + Wait>(rt: &R, worker: &mut Worker<'_>) {
+fn take_three<R: Abort + Wait + Clock>(rt: &R, worker: &mut Worker<'_>) {
     let first = take(rt, worker, 0, 1, LatchForm::Conditional);
     let second = take(rt, worker, 1, 1, LatchForm::Conditional);
     assert!(rt; (first.key, second.key) == (0, 1));
@@ -133,7 +134,7 @@ fn hold_until_a_purge<R: Abort + Wait>(rt: &R, worker: &mut Worker<'_>, held: La
 }
 
 // Posts the block, and then waits for the latch.
-fn obtain_behind_a_post<R: Abort + Wait>(rt: &R, worker: &mut Worker<'_>) {
+fn obtain_behind_a_post<R: Abort + Wait + Clock>(rt: &R, worker: &mut Worker<'_>) {
     worker.post(rt, 0);
     let obtained = ask(rt, worker, 0, 9, LatchForm::Waiting);
     assert!(rt; obtained == Err(ObtainRefusal::Purged));
@@ -155,7 +156,7 @@ fn a_request_is_purged_while_its_task_waits(rt: HostRuntime) {
 }
 
 // Takes latch 0 and gives it back, so many times.
-fn take_often<R: Abort + Wait>(
+fn take_often<R: Abort + Wait + Clock>(
     rt: &R,
     station: &Station,
     task: Task,
@@ -177,7 +178,7 @@ fn take_often<R: Abort + Wait>(
 }
 
 // Tries for latch 0, and gives it back where it was granted.
-fn try_once<R: Abort + Wait>(rt: &R, worker: &mut Worker<'_>, requestor: u64)
+fn try_once<R: Abort + Wait + Clock>(rt: &R, worker: &mut Worker<'_>, requestor: u64)
     ensures { worker.new ≡ worker.old }
 {
     match ask(rt, worker, 0, requestor, LatchForm::Conditional) {
@@ -188,7 +189,7 @@ fn try_once<R: Abort + Wait>(rt: &R, worker: &mut Worker<'_>, requestor: u64)
 }
 
 // Tries so many times.
-fn try_often<R: Abort + Wait>(
+fn try_often<R: Abort + Wait + Clock>(
     rt: &R,
     station: &Station,
     task: Task,
@@ -236,7 +237,7 @@ fn two_threads_contend_for_one_latch(rt: HostRuntime) {
 }
 
 // Two threads take one latch so many times, the second by requests of this form.
-fn contend<R: Abort + Wait + Threads + Sync>(
+fn contend<R: Abort + Wait + Clock + Threads + Sync>(
     rt: &R,
     alloc: Global,
     form: LatchForm,

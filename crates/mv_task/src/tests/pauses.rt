@@ -21,6 +21,7 @@ use std::alloc::Global;
 use std::process::Abort;
 use std::sync::Wait;
 use std::thread::{self, join};
+use std::time::Clock;
 
 // A new station of two tasks with this budget. Elements 0 and 1 are the first one's, 2 and 3 the second one's.
 fn open_two(rt: &impl Abort, alloc: Global, budget: u32) -> (Station, Task, Task)
@@ -77,7 +78,7 @@ fn assert_is_element(rt: &impl Abort, station: &Station, element: u32)
 
 // A pause with this token, which is given the code.
 #[tactic(auto, using(mv_wait::proofs::Compose::served))]
-fn take<R: Abort + Wait>(rt: &R, worker: &mut Worker<'_>, own: u32, generation: u32)
+fn take<R: Abort + Wait + Clock>(rt: &R, worker: &mut Worker<'_>, own: u32, generation: u32)
     requires { generation < highest_generation }
 {
     let station = worker.station;
@@ -276,7 +277,7 @@ fn a_call_made_of_events_wakes_whom_it_releases(rt: HostRuntime) {
 }
 
 // Releases the other's pause and pauses, once with each generation.
-fn hand_over<R: Abort + Wait>(rt: &R, worker: &mut Worker<'_>) {
+fn hand_over<R: Abort + Wait + Clock>(rt: &R, worker: &mut Worker<'_>) {
     for generation in 0..ROUNDS {
         assert!(rt; hand(rt, worker, 2, generation).is_ok());
         take(rt, worker, 0, generation);
@@ -284,7 +285,7 @@ fn hand_over<R: Abort + Wait>(rt: &R, worker: &mut Worker<'_>) {
 }
 
 // Pauses first, and is the last to release.
-fn hand_back<R: Abort + Wait>(rt: &R, worker: &mut Worker<'_>) {
+fn hand_back<R: Abort + Wait + Clock>(rt: &R, worker: &mut Worker<'_>) {
     for generation in 0..ROUNDS {
         take(rt, worker, 2, generation);
         assert!(rt; hand(rt, worker, 0, generation).is_ok());
@@ -309,7 +310,7 @@ fn two_threads_release_in_turn(rt: HostRuntime) {
 
 // A transfer to the other's pause, as soon as its task has parked, and back.
 #[tactic(auto, using(mv_wait::proofs::Compose::served))]
-fn hand_and_take<R: Abort + Wait>(rt: &R, worker: &mut Worker<'_>, own: Token, other: Token)
+fn hand_and_take<R: Abort + Wait + Clock>(rt: &R, worker: &mut Worker<'_>, own: Token, other: Token)
     requires { own.generation < highest_generation }
 {
     await_pause(rt, worker, other.element);
@@ -325,7 +326,7 @@ fn hand_and_take<R: Abort + Wait>(rt: &R, worker: &mut Worker<'_>, own: Token, o
 const TRANSFERS: u32 = 500;
 
 // Transfers first, and is the last to release.
-fn transfer_over<R: Abort + Wait>(rt: &R, worker: &mut Worker<'_>) {
+fn transfer_over<R: Abort + Wait + Clock>(rt: &R, worker: &mut Worker<'_>) {
     for generation in 0..TRANSFERS {
         hand_and_take(rt, worker, token(0, generation), token(2, generation));
     }
@@ -333,7 +334,7 @@ fn transfer_over<R: Abort + Wait>(rt: &R, worker: &mut Worker<'_>) {
 }
 
 // Pauses first, so its own generations are one ahead.
-fn transfer_back<R: Abort + Wait>(rt: &R, worker: &mut Worker<'_>) {
+fn transfer_back<R: Abort + Wait + Clock>(rt: &R, worker: &mut Worker<'_>) {
     take(rt, worker, 2, 0);
     for generation in 0..TRANSFERS {
         hand_and_take(rt, worker, token(2, generation + 1), token(0, generation));

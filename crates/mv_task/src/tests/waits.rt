@@ -13,6 +13,7 @@ use std::alloc::{AllocError, Global};
 use std::process::Abort;
 use std::sync::Wait;
 use std::thread::{Threads, join};
+use std::time::Clock;
 
 // ---- one task
 
@@ -71,7 +72,13 @@ fn a_chain_of_a_thousand_exits_is_posted(rt: HostRuntime) {
 // ---- two threads
 
 // Posts the other's block and waits for the own one, so many times.
-fn hand_over<R: Abort + Wait>(rt: &R, worker: &mut Worker<'_>, own: u32, other: u32, times: u32) {
+fn hand_over<R: Abort + Wait + Clock>(
+    rt: &R,
+    worker: &mut Worker<'_>,
+    own: u32,
+    other: u32,
+    times: u32,
+) {
     for _ in 0..times {
         worker.post(rt, other);
         worker.await_post(rt, own, CODE);
@@ -79,7 +86,13 @@ fn hand_over<R: Abort + Wait>(rt: &R, worker: &mut Worker<'_>, own: u32, other: 
 }
 
 // Waits first, and is the last to post.
-fn hand_back<R: Abort + Wait>(rt: &R, worker: &mut Worker<'_>, own: u32, other: u32, times: u32) {
+fn hand_back<R: Abort + Wait + Clock>(
+    rt: &R,
+    worker: &mut Worker<'_>,
+    own: u32,
+    other: u32,
+    times: u32,
+) {
     for _ in 0..times {
         worker.await_post(rt, own, CODE);
         worker.post(rt, other);
@@ -128,7 +141,7 @@ fn clear_own<R: Abort + Wait>(rt: &R, worker: &mut Worker<'_>) -> u32
 }
 
 // Posts the own block 0, whose exit posts block 1, where the other task has parked for that, and waits for block 2.
-fn post_by_exit<R: Abort + Wait>(rt: &R, worker: &mut Worker<'_>, times: u32) {
+fn post_by_exit<R: Abort + Wait + Clock>(rt: &R, worker: &mut Worker<'_>, times: u32) {
     for _ in 0..times {
         extend(rt, worker, 0, 1);
         worker.await_bit(rt, 1, WAIT_BIT);
@@ -305,7 +318,7 @@ fn first_blocks(rt: &impl Abort, alloc: Global, station: &Station, blocks: u32) 
 
 // Waits until all of these blocks are complete.
 #[tactic(auto, using(mv_wait::proofs::Compose::served))]
-fn wait_for<R: Abort + Wait>(
+fn wait_for<R: Abort + Wait + Clock>(
     rt: &R,
     station: &Station,
     task: &mut Task,
@@ -326,7 +339,12 @@ fn wait_for<R: Abort + Wait>(
 }
 
 // Waits until all of the first blocks are complete.
-fn wait_for_all<R: Abort + Wait>(rt: &R, alloc: Global, worker: &mut Worker<'_>, blocks: u32) {
+fn wait_for_all<R: Abort + Wait + Clock>(
+    rt: &R,
+    alloc: Global,
+    worker: &mut Worker<'_>,
+    blocks: u32,
+) {
     let station = worker.station;
     let ecbs = first_blocks(rt, alloc, station, blocks);
     let mut out = vec![in alloc; WaitSlot::Open; ecbs.len()].expect(rt, "room for slots");
@@ -341,7 +359,7 @@ fn post_each<R: Abort + Wait>(rt: &R, worker: &mut Worker<'_>, blocks: u32) {
 }
 
 // One task waits for all of so many blocks, and another posts them one by one.
-fn wait_for_many<R: Abort + Wait + Threads + Sync>(rt: &R, alloc: Global, blocks: u32)
+fn wait_for_many<R: Abort + Wait + Clock + Threads + Sync>(rt: &R, alloc: Global, blocks: u32)
     requires { blocks < 2 ^ 16 }
 {
     let owners = vec![in alloc; 0u32; blocks as usize].expect(rt, "room for owners");

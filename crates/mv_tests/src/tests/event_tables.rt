@@ -15,6 +15,7 @@ use mv_wait::{Station, Task};
 use std::alloc::Global;
 use std::process::Abort;
 use std::sync::Wait;
+use std::time::Clock;
 
 // Three events, and a slot for each, of task 0.
 const TABLE: Table = Table {
@@ -65,7 +66,7 @@ fn checked(rt: &impl Abort, station: &Station) -> ValidTable
 // ---- the calls, of a task at rest that is asserted to have the events for them
 
 #[tactic(auto, using(mv_wait::proofs::Compose::served))]
-fn post<R: Abort + Wait>(
+fn post<R: Abort + Wait + Clock>(
     rt: &R,
     station: &Station,
     task: &mut Task,
@@ -87,7 +88,7 @@ fn post<R: Abort + Wait>(
 }
 
 #[tactic(auto, using(mv_wait::proofs::Compose::served))]
-fn next<R: Abort + Wait>(
+fn next<R: Abort + Wait + Clock>(
     rt: &R,
     station: &Station,
     task: &mut Task,
@@ -108,7 +109,7 @@ fn next<R: Abort + Wait>(
 
 // Writes the table's volume, and posts a slot with what is no event.
 #[tactic(auto, using(mv_wait::proofs::Compose::served))]
-fn break_a_table<R: Abort + Wait>(rt: &R, station: &Station, task: &mut Task)
+fn break_a_table<R: Abort + Wait + Clock>(rt: &R, station: &Station, task: &mut Task)
     requires task { IsOf station.now task.old }
     requires rest { IsAtRest task.old.log }
     requires volumes { station.now.config.volumes ≡ 1 }
