@@ -6,7 +6,7 @@ ghost use Rattle.mv_latch.specs.Request.{posted_ecb};
 ghost use Rattle.mv_calls.specs.Rest.{IsAtRest};
 ghost use Rattle.mv_board.specs.Faces.{IsOf};
 
-use super::{COMPLETION_BIT, Worker, assert_is_block, end, open};
+use super::{CODE, COMPLETION_BIT, Worker, assert_is_block, end, open};
 use mv_latch::{LatchForm, Mode};
 use mv_latchset::{LatchToken, ObtainRefusal, Obtained, obtain, purge, release_latch};
 use mv_machine::replay;
@@ -15,7 +15,7 @@ use std::alloc::Global;
 use std::process::Abort;
 use std::sync::Wait;
 use std::thread::{self, Threads, join};
-use std::time::Clock;
+use std::time::{Clock, Duration};
 
 // A new station of two tasks with these budgets, and one block, of the second.
 fn open_two(rt: &impl Abort, alloc: Global, first: u32, second: u32) -> (Station, Task, Task)
@@ -153,6 +153,39 @@ fn a_request_is_purged_while_its_task_waits(rt: HostRuntime) {
     );
     let (holder, waiter) = (holder.back(), waiter.back());
     end(station, holder, waiter);
+}
+
+// Waits for a post of the block, gives the other task the time to park, and then gives back the latch that it holds.
+fn hold_until_the_other_parks<R: Abort + Wait + Clock>(
+    rt: &R,
+    worker: &mut Worker<'_>,
+    held: LatchToken,
+) {
+    worker.await_post(rt, 0, CODE);
+    thread::sleep(rt, Duration::from_millis(50));
+    give_back(rt, worker, held);
+}
+
+// Posts the block, waits for the latch and gives it back.
+fn take_after_a_post<R: Abort + Wait + Clock>(rt: &R, worker: &mut Worker<'_>) {
+    worker.post(rt, 0);
+    let token = take(rt, worker, 0, 9, LatchForm::Waiting);
+    give_back(rt, worker, token);
+}
+
+#[test]
+fn a_task_that_parked_for_a_latch_is_woken_at_its_grant(rt: HostRuntime) {
+    let (station, waiter, holder) = open_two(&rt, rt.alloc(), 100, 100);
+    let mut holder = Worker::new(&station, holder);
+    let mut waiter = Worker::new(&station, waiter);
+    let held = take(&rt, &mut holder, 0, 1, LatchForm::Conditional);
+    join(
+        &rt,
+        || hold_until_the_other_parks(&rt, &mut holder, held),
+        || take_after_a_post(&rt, &mut waiter),
+    );
+    let (waiter, holder) = (waiter.back(), holder.back());
+    end(station, waiter, holder);
 }
 
 // Takes latch 0 and gives it back, so many times.
