@@ -18,6 +18,7 @@ use mv_wait::{Station, Task};
 use std::alloc::Global;
 use std::sync::Wait;
 use std::thread::Threads;
+use std::time::Clock;
 
 /// Two numbers that belong together.
 #[derive(Clone, Copy, Debug, PartialEq, Eq)]
@@ -72,7 +73,13 @@ fn configuration(alloc: Global, pairs: u32, reads: u32) -> Result<ValidConfig, N
 }
 
 // Writes the pair of this number, under the latch alone.
-fn write_pair<R: Wait>(rt: &R, station: &Station, task: &mut Task, pairs: &[Pair], number: usize)
+fn write_pair<R: Wait + Clock>(
+    rt: &R,
+    station: &Station,
+    task: &mut Task,
+    pairs: &[Pair],
+    number: usize,
+)
     requires number { number < length pairs.now }
     requires ready { IsWriting station.now pairs.now task.old }
     requires left { 5 ≤ task.old.left }
@@ -95,7 +102,7 @@ fn write_pair<R: Wait>(rt: &R, station: &Station, task: &mut Task, pairs: &[Pair
 }
 
 // Reads the pair, under the latch shared.
-fn read_pair<R: Wait>(rt: &R, station: &Station, task: &mut Task) -> Option<Pair>
+fn read_pair<R: Wait + Clock>(rt: &R, station: &Station, task: &mut Task) -> Option<Pair>
     requires ready { IsReading station.now task.old }
     requires left { 5 ≤ task.old.left }
     ensures read { IfSome result (WasRead task.new.number task.new.log) }
@@ -119,7 +126,7 @@ fn read_pair<R: Wait>(rt: &R, station: &Station, task: &mut Task) -> Option<Pair
 }
 
 // The writer: each pair in turn.
-fn write_all<R: Wait>(rt: &R, station: &Station, task: &mut Task, pairs: &[Pair])
+fn write_all<R: Wait + Clock>(rt: &R, station: &Station, task: &mut Task, pairs: &[Pair])
     requires ready { IsWriting station.now pairs.now task.old }
     requires left { 5 * length pairs.now ≤ task.old.left }
     ensures ready { IsWriting station.now pairs.now task.new }
@@ -130,7 +137,13 @@ fn write_all<R: Wait>(rt: &R, station: &Station, task: &mut Task, pairs: &[Pair]
 }
 
 // A reader: so many reads.
-fn read_all<R: Wait>(rt: &R, station: &Station, task: &mut Task, reads: u32, room: &mut Vec<Pair>)
+fn read_all<R: Wait + Clock>(
+    rt: &R,
+    station: &Station,
+    task: &mut Task,
+    reads: u32,
+    room: &mut Vec<Pair>,
+)
     requires ready { IsReading station.now task.old }
     requires left { 5 * reads ≤ task.old.left }
     requires room { (room.old.items ≡ []) × (reads ≤ vec_capacity room.old) }
@@ -160,7 +173,13 @@ impl Work for Sharing<'_> {
     ghost has_done = { λ s b k old t new. HasDone s.pairs.now k t new.items };
 
     #[tactic(auto, using(mv_ordered::proofs::Calls::new_keeps_discipline))]
-    fn work<R: Wait>(&self, rt: &R, station: &Station, task: &mut Task, room: &mut Vec<Pair>) {
+    fn work<R: Wait + Clock>(
+        &self,
+        rt: &R,
+        station: &Station,
+        task: &mut Task,
+        room: &mut Vec<Pair>,
+    ) {
         if task.number() == WRITER {
             write_all(rt, station, task, self.pairs);
         } else {
@@ -186,7 +205,7 @@ fn rooms_for(alloc: Global, reads: u32) -> Result<Vec<Vec<Pair>>, NoMemory>
 /// # Errors
 ///
 /// `NoMemory` where there is not enough, before the tasks start.
-pub fn share<R: Threads + Wait + Sync>(
+pub fn share<R: Threads + Wait + Clock + Sync>(
     rt: &R,
     alloc: Global,
     pairs: &[Pair],
