@@ -1,6 +1,6 @@
 -- A task that is polled, from one state to the next.
-use Rattle.std.proofs.Common.{◌≡◌, ℕ, Option, Some, None, sym, subst}
-use Rattle.std.specs.Prelude.{IfSome}
+use Rattle.std.proofs.Common.{◌≡◌, ℕ, Option, Some, None, Result, Ok, Err, sym, subst}
+use Rattle.std.specs.Prelude.{IfOk, IfSome}
 use Rattle.mv_board.specs.Faces.{CallerFace, IsSame}
 use Rattle.mv_plan.specs.SpoolSetup.{spool_setup}
 use Rattle.mv_polled.specs.declared.polled.Polled.{Polled}
@@ -9,41 +9,45 @@ use Rattle.mv_polled.specs.Meeting.{IsMeeting, IsNeed}
 use Rattle.mv_polled.specs.Polled.{HasTakenUp, IsPolled, Stands}
 use Rattle.mv_polled.proofs.Calls.{need_fits, new_meets}
 use Rattle.mv_wait.proofs.Runs.{same_caller}
+use Rattle.mv_work.specs.declared.lost.Lost.{Lost}
 use Rattle.mv_work.specs.declared.need.Need.{Need}
 use Rattle.mv_work.specs.declared.work.SpoolWork.{SpoolWork}
 use Rattle.mv_work.specs.Spool.{SpoolFace}
 use Rattle.mv_work.specs.Works.{HasCome, IsNew}
-use Rattle.mv_work.proofs.Meeting.{CanMeet, waits_ready}
+use Rattle.mv_work.proofs.Meeting.{CanMeet, done_worked, lost_worked, waits_ready}
 
 -- a task that waits in a call which it began as it was then, and what holds of it
 pub record IsAtCall (s : SpoolFace) (t : CallerFace) (p : Polled) : Type 0 where
   pub need : Need
   pub began : CallerFace
-  pub come : HasCome s p.work t (Some need) began
+  pub come : HasCome s p.work t (Ok (Some need)) began
   pub ready : CanMeet s p.work.role t need began
   pub same : IsSame began p.task
   pub meeting : IsMeeting s.board.config need p.meeting began p.task
 
 module _ (s : SpoolFace) (config : s.board.config ≡ spool_setup s.jobs s.initiators) where
   -- what a task has come to fits a meeting
-  pub fits : (w : SpoolWork) (need : Option Need) (t u : CallerFace) → HasCome s w t need u → IfSome need IsNeed
-  fits w (Some n) t u come = need_fits s.board.config u.number n (waits_ready s t n u w.role config come).may
-  fits w None t u come = tt
+  pub fits : (w : SpoolWork) (next : Result (Option Need) Lost) (t u : CallerFace) → HasCome s w t next u
+      → IfOk next (λ need. IfSome need IsNeed)
+  fits w (Ok (Some n)) t u come = need_fits s.board.config u.number n (waits_ready s t n u w.role config come).may
+  fits w (Ok None) t u come = tt
+  fits w (Err lost) t u come = tt
 
   -- and stands so once it is taken up
-  pub stands_next : (k : ℕ) (t : CallerFace) (p : Polled) (need : Option Need) {w : SpoolWork} {u : CallerFace}
+  pub stands_next : (k : ℕ) (t : CallerFace) (p : Polled) (next : Result (Option Need) Lost) {w : SpoolWork} {u : CallerFace}
       → (p.task ≡ u) × (p.work ≡ w)
-      → HasCome s w t need u → HasTakenUp need p.state p.meeting → Stands s k t p p.state
-  stands_next k t p need {w} {u} same come taken =
-      go need taken (subst (λ (w : SpoolWork). HasCome s w t need p.task) (sym same.1)
-      (subst (λ (u : CallerFace). HasCome s w t need u) (sym same.0) come)) where
-        go : (need : Option Need) → HasTakenUp need p.state p.meeting → HasCome s p.work t need p.task
+      → HasCome s w t next u → HasTakenUp next p.state p.meeting → Stands s k t p p.state
+  stands_next k t p next {w} {u} same come taken =
+      go next taken (subst (λ (w : SpoolWork). HasCome s w t next p.task) (sym same.1)
+      (subst (λ (u : CallerFace). HasCome s w t next u) (sym same.0) come)) where
+        go : (next : Result (Option Need) Lost) → HasTakenUp next p.state p.meeting → HasCome s p.work t next p.task
             → Stands s k t p p.state
-        go (Some n) taken come =
+        go (Ok (Some n)) taken come =
             let at = waits_ready s t n p.task p.work.role config come in
             subst (Stands s k t p) (sym taken.0)
             (n, p.task, come, same_caller p.task, new_meets s.board n p.meeting p.task at.rests at.may taken.1)
-        go None taken come = subst (Stands s k t p) (sym taken) come
+        go (Ok None) taken come = subst (Stands s k t p) (sym taken) (done_worked s p.work.role t p.task come)
+        go (Err lost) taken come = subst (Stands s k t p) (sym taken) (lost_worked s p.work.role t p.task come)
 
   -- a task that is new
   pub new_stands : (k : ℕ) (p : Polled) (is : IsPolled s k p) → p.state ≡ New → (p.task ≡ is.new) × IsNew s.jobs s.initiators k p.work

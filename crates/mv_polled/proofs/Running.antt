@@ -11,7 +11,7 @@ use Rattle.mv_polled.specs.Polled.{ArePolled, IsUnpolled, Stands, is_finished, i
 use Rattle.mv_wait.proofs.Parts.{fresh_at, one_of}
 use Rattle.mv_work.specs.declared.work.SpoolWork.{SpoolWork}
 use Rattle.mv_work.specs.Spool.{SpoolFace}
-use Rattle.mv_work.specs.Works.{AreWorked, HasCome, IsNew}
+use Rattle.mv_work.specs.Works.{AreWorked, HasWorked, IsNew}
 use Rattle.mv_work.proofs.Histories.{first_of}
 use Rattle.mv_work.proofs.Runs.{still_of}
 
@@ -57,7 +57,7 @@ all_finished (p ∷ ps) none (suc k) d lt = all_finished ps (finished_front p ps
 
 -- a task that is finished has come to its end
 over : (s : SpoolFace) (k : ℕ) (t : CallerFace) (p : Polled) (st : State) → is_over st ≡ true → Stands s k t p st
-    → HasCome s p.work t None p.task
+    → HasWorked s p.work.role t p.task
 over s k t p Finished is x = x
 over s k t p New is x = absurd (cc is)
 over s k t p Waits is x = absurd (cc is)
@@ -78,7 +78,7 @@ in_order b j (p ∷ ps) each =
 
 module _ (s : SpoolFace) (ps : List Polled) (polled : ArePolled s ps) (none : unfinished ps ≡ []) where
   ended : (k : ℕ) (d : Polled) (lt : k < length ps)
-      → HasCome s (get_or ps k d).work (polled k d lt).new None (task_of (get_or ps k d))
+      → HasWorked s (get_or ps k d).work.role (polled k d lt).new (task_of (get_or ps k d))
   ended k d lt =
       let p = get_or ps k d in
       over s k (polled k d lt).new p p.state (all_finished ps none k d lt) (polled k d lt).stands
@@ -103,8 +103,8 @@ module _ (s : SpoolFace) (ps : List Polled) (polled : ArePolled s ps) (none : un
         let new = (polled k d within).new in record {
           before = new;
           fresh = (polled k d within).fresh;
-          come = subst (λ x. HasCome s x new None (get_or (map task_of ps) k t)) (sym (get_or-map work_of ps k d w within))
-              (subst (λ u. HasCome s (work_of (get_or ps k d)) new None u) (sym (get_or-map task_of ps k d t within))
+          worked = subst (λ (x : SpoolWork). HasWorked s x.role new (get_or (map task_of ps) k t)) (sym (get_or-map work_of ps k d w within))
+              (subst (λ u. HasWorked s (work_of (get_or ps k d)).role new u) (sym (get_or-map task_of ps k d t within))
               (ended k d within));
         };
   }

@@ -1,5 +1,6 @@
 -- A task that is polled, and that it makes what its program says. It is task k of the spool, and was t when it was new.
 use Rattle.std.specs.Prelude.{◌≡◌, ℕ, ◌<◌, Bool, true, false, not, List, filter, length, take, slice_index_or, Option, Some, None}
+use Rattle.std.specs.Prelude.{Result, Ok, Err}
 use Rattle.mv_board.specs.Faces.{CallerFace, IsFresh, IsSame}
 use Rattle.mv_deck.specs.Deck.{JobData}
 use Rattle.mv_polled.specs.declared.meeting.Meeting.{Meeting}
@@ -7,20 +8,21 @@ use Rattle.mv_polled.specs.declared.polled.Polled.{Polled}
 use Rattle.mv_polled.specs.declared.polled.State.{State}
 use Rattle.mv_polled.specs.declared.polled.State.TheVariants.{New, Waits, Finished}
 use Rattle.mv_polled.specs.Meeting.{HasRoom, IsMeeting, IsTakenUp}
+use Rattle.mv_work.specs.declared.lost.Lost.{Lost}
 use Rattle.mv_work.specs.declared.need.Need.{Need}
 use Rattle.mv_work.specs.Spool.{SpoolFace}
-use Rattle.mv_work.specs.Works.{IsNew, HasCome}
+use Rattle.mv_work.specs.Works.{HasCome, HasWorked, IsNew}
 
 -- a task that waits in a call which it began as it was at u
 abbrev pub IsWaiting : SpoolFace → CallerFace → Polled → Type 0
-IsWaiting s t p = (n : Need) × (u : CallerFace) × HasCome s p.work t (Some n) u × IsSame u p.task
+IsWaiting s t p = (n : Need) × (u : CallerFace) × HasCome s p.work t (Ok (Some n)) u × IsSame u p.task
     × IsMeeting s.board.config n p.meeting u p.task
 
 -- what has come of the task
 abbrev pub Stands : SpoolFace → ℕ → CallerFace → Polled → State → Type 0
 Stands s k t p New = (p.task ≡ t) × IsNew s.jobs s.initiators k p.work
 Stands s k t p Waits = IsWaiting s t p
-Stands s k t p Finished = HasCome s p.work t None p.task
+Stands s k t p Finished = HasWorked s p.work.role t p.task
 
 -- task k of the spool, as it stands between two polls
 pub record IsPolled (s : SpoolFace) (k : ℕ) (p : Polled) : Type 0 where
@@ -40,9 +42,10 @@ pub record IsUnpolled (deck : List JobData) (i : ℕ) (p : Polled) : Type 0 wher
   pub room : HasRoom p.meeting
 
 -- what is needed next is taken up, or the task is finished
-abbrev pub HasTakenUp : Option Need → State → Meeting → Type 0
-HasTakenUp (Some n) s m = (s ≡ Waits) × IsTakenUp n m
-HasTakenUp None s m = s ≡ Finished
+abbrev pub HasTakenUp : Result (Option Need) Lost → State → Meeting → Type 0
+HasTakenUp (Ok (Some n)) s m = (s ≡ Waits) × IsTakenUp n m
+HasTakenUp (Ok None) s m = s ≡ Finished
+HasTakenUp (Err lost) s m = s ≡ Finished
 
 -- it makes no more events
 abbrev pub is_over : State → Bool

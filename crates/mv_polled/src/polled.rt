@@ -14,7 +14,7 @@ use mv_deck::Deck;
 use mv_io::NoMemory;
 use mv_task::OpenGate;
 use mv_wait::Task;
-use mv_work::{Need, Spool, SpoolWork};
+use mv_work::{Lost, Need, Spool, SpoolWork};
 use std::alloc::Global;
 use std::sync::Wait;
 
@@ -95,8 +95,8 @@ impl Polled {
         ensures polled { (k : ℕ) → k < spool.now.initiators + 3 → IsPolled spool.now k self.old
             → IsPolled spool.now k self.new }
     {
-        let need = self.work.begin(rt, spool, &mut self.task);
-        self.take_up(need);
+        let next = self.work.begin(rt, spool, &mut self.task);
+        self.take_up(next);
     }
 
     // Polls the call that the task waits in, and goes on behind its answer up to the next wait: whether there was one.
@@ -114,27 +114,28 @@ impl Polled {
                 true
             }
             Turn::Ready(Ok(got)) => {
-                let need = self.work.go_on(rt, spool, &mut self.task, got);
-                self.take_up(need);
+                let next = self.work.go_on(rt, spool, &mut self.task, got);
+                self.take_up(next);
                 true
             }
         }
     }
 
-    // Takes up the call of what the task waits for next.
-    fn take_up(&mut self, need: Option<Need>)
+    // Takes up the call of what the task waits for next. A task that is done or lost is finished.
+    fn take_up(&mut self, next: Result<Option<Need>, Lost>)
         requires room { HasRoom self.old.meeting }
-        requires need { IfSome need IsNeed }
+        requires need { IfOk next (λ need. IfSome need IsNeed) }
         ensures same { (self.new.task ≡ self.old.task) × (self.new.work ≡ self.old.work) }
         ensures room { HasRoom self.new.meeting }
-        ensures taken { HasTakenUp need self.new.state self.new.meeting }
+        ensures taken { HasTakenUp next self.new.state self.new.meeting }
     {
-        match need {
-            Some(need) => {
+        match next {
+            Ok(Some(need)) => {
                 self.meeting.take_up(need);
                 self.state = State::Waits;
             }
-            None => self.state = State::Finished,
+            Ok(None) => self.state = State::Finished,
+            Err(Lost) => self.state = State::Finished,
         }
     }
 }

@@ -37,15 +37,19 @@ impl<G: Gate + Sync> Work for SpoolTasks<'_, G> {
         room: &mut SpoolWork,
     ) {
         let spool = Spool::new(station, self.deck, self.initiators, self.gate);
-        let mut needed = room.begin(rt, &spool, task);
+        let mut next = room.begin(rt, &spool, task);
         for _ in rt.forever() {
+            // A task that is lost makes no more events, like one that is done.
+            let Ok(needed) = next else {
+                return;
+            };
             let Some(need) = needed else {
                 return;
             };
             let Ok(got) = meet(rt, station, task, need) else {
                 return;
             };
-            needed = room.go_on(rt, &spool, task, got);
+            next = room.go_on(rt, &spool, task, got);
         }
     }
 }

@@ -21,7 +21,6 @@ use Rattle.mv_work.specs.Spool.{SpoolFace}
 use Rattle.mv_work.specs.Waiting.{need_of, stage_then}
 use Rattle.mv_work.specs.Works.{HasComeAs}
 use Rattle.mv_work.specs.Writing.{WriterComes}
-use Rattle.mv_work.proofs.Waits.{comes_out, lost_out}
 
 -- an initiator that was told something is one of the spool's
 pub told_index : (sp : SpoolFace) (me : Initiator) (s : InitiatorStage) (g : Got) → IsInitiatorAnswer sp me s g → me.index < sp.initiators
@@ -30,7 +29,7 @@ told_index sp me (at.Latch r) (got.Granted token) is = is.0.0.at.index
 told_index sp me s g is = absurd is
 
 -- the task was t when it was new, and is u; the stage and the need are those that were kept
-module _ (sp : SpoolFace) (t u : CallerFace) (need : Option Need) where
+module _ (sp : SpoolFace) (t u : CallerFace) (need : Result (Option Need) Lost) where
   pub scheduler_come : (was now : Option SchedulerStage) (came : Result (Next SchedulerStage) Lost) → now ≡ stage_then was came
       → need ≡ need_of came → t.number ≡ scheduler → SchedulerComes sp (scheduling sp.board.config sp.initiators sp.jobs) t came u
       → HasComeAs sp (role.Scheduler now) t need u
@@ -40,8 +39,8 @@ module _ (sp : SpoolFace) (t u : CallerFace) (need : Option Need) where
         go : (came : Result (Next SchedulerStage) Lost) → SchedulerComes sp (scheduling sp.board.config sp.initiators sp.jobs) t came u
             → HasComeAs sp (role.Scheduler (stage_then was came)) t (need_of came) u
         go (Ok (next.Wait to n)) x = (is, x.come)
-        go (Ok next.Done) x = let out = comes_out x in (out.ran.went.same, (is, out))
-        go (Err lost) x = let out = lost_out x in (out.ran.went.same, (is, out))
+        go (Ok next.Done) x = (x.come.went.same, (is, x.come))
+        go (Err lost) x = (x.come.went.same, (is, x.come))
 
   pub initiator_come : (me : Initiator) (was now : Option InitiatorStage) (came : Result (Next InitiatorStage) Lost)
       → now ≡ stage_then was came → need ≡ need_of came → t.number ≡ initiator me.index → me.index < sp.initiators
@@ -54,8 +53,8 @@ module _ (sp : SpoolFace) (t u : CallerFace) (need : Option Need) where
             → InitiatorComes sp me (initiating_noted sp.board.config sp.jobs me.index) t came u
             → HasComeAs sp (role.Initiator me (stage_then was came)) t (need_of came) u
         go (Ok (next.Wait to n)) x = (is, x.come)
-        go (Ok next.Done) x = let out = comes_out x in (out.ran.went.same, (is, lt, out))
-        go (Err lost) x = let out = lost_out x in (out.ran.went.same, (is, lt, out))
+        go (Ok next.Done) x = (x.come.went.same, (is, lt, x.come))
+        go (Err lost) x = (x.come.went.same, (is, lt, x.come))
 
   pub writer_come : (ends : Vec ℕ Global) (was now : Option ℕ) (came : Result (Next ℕ) Lost) → now ≡ stage_then was came
       → need ≡ need_of came → t.number ≡ writer sp.initiators → WriterComes sp ends (writing sp.board.config (length sp.jobs)) t came u
@@ -66,5 +65,5 @@ module _ (sp : SpoolFace) (t u : CallerFace) (need : Option Need) where
         go : (came : Result (Next ℕ) Lost) → WriterComes sp ends (writing sp.board.config (length sp.jobs)) t came u
             → HasComeAs sp (role.Writer ends (stage_then was came)) t (need_of came) u
         go (Ok (next.Wait to n)) x = (is, x.come)
-        go (Ok next.Done) x = let out = comes_out x in (out.ran.went.same, (is, out))
-        go (Err lost) x = let out = lost_out x in (out.ran.went.same, (is, out))
+        go (Ok next.Done) x = (x.come.went.same, (is, x.come))
+        go (Err lost) x = (x.come.went.same, (is, x.come))

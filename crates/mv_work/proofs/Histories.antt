@@ -35,7 +35,7 @@ use Rattle.mv_work.specs.Ran.{Ran, RanOut, IsOver}
 use Rattle.mv_work.specs.Recording.{AreResults}
 use Rattle.mv_work.specs.Records.{JobRecord}
 use Rattle.mv_work.specs.Spool.{SpoolFace}
-use Rattle.mv_work.specs.Works.{AreWorked, HasWorked, IsWorked, IsWriter, ends_in, records}
+use Rattle.mv_work.specs.Works.{AreWorked, IsWorked, IsWriter, ProgramIs, ends_in, records}
 use Rattle.mv_work.proofs.brought.Forgetting.{done_noted, forgotten, initiating_forgets}
 use Rattle.mv_work.proofs.Roles.{IsRole, last_writes, noted_in, records_front}
 use Rattle.mv_work.proofs.Runs.{out_done, out_wrong, ran_astray, ran_last}
@@ -71,6 +71,10 @@ forgets c deck m {records} {t} {u} r =
 
 -- ---- what a task has made in each role
 
+-- the task has made all events of its role's program
+abbrev HasRun : SpoolFace → Role → CallerFace → CallerFace → Type 0
+HasRun s r t u = ProgramIs (λ A program answer. RanOut program answer t u) s r t.number
+
 -- which task has an initiator's number
 pub initiator_is : (deck : List JobData) (i m : ℕ) → m < i → task deck i (initiator m) ≡ initiating (spool_setup deck i) deck m
 initiator_is deck i m lt =
@@ -88,7 +92,7 @@ writer_is deck i =
 
 module _ (s : SpoolFace) (config : s.board.config ≡ spool_setup s.jobs s.initiators) (t u : CallerFace) where
   -- what the plan says of it
-  plan_made : (r : Role) → HasWorked s r t u → RanOut (task s.jobs s.initiators t.number) (ends_in r) t u
+  plan_made : (r : Role) → HasRun s r t u → RanOut (task s.jobs s.initiators t.number) (ends_in r) t u
   plan_made role.Reader made =
       subst (λ k. RanOut (task s.jobs s.initiators k) [] t u) (sym made.0)
       (subst (λ (c : Setup). RanOut (reading c (length s.jobs)) [] t u) config made.1)
@@ -106,7 +110,7 @@ module _ (s : SpoolFace) (config : s.board.config ≡ spool_setup s.jobs s.initi
       (subst (λ (c : Setup). RanOut (writing c (length s.jobs)) ends.items t u) config made.1))
 
   -- what an initiator of this number noted
-  initiator_made : (m : ℕ) → t.number ≡ initiator m → m < s.initiators → (r : Role) → HasWorked s r t u
+  initiator_made : (m : ℕ) → t.number ≡ initiator m → m < s.initiators → (r : Role) → HasRun s r t u
       → RanOut (initiating_noted (spool_setup s.jobs s.initiators) s.jobs m) (noted_in r) t u
   initiator_made m is lt role.Reader made = absurd (let e = made.0 in omega arith)
   initiator_made m is lt (role.Scheduler stage) made = absurd (let e = made.0 in omega arith)
@@ -117,7 +121,7 @@ module _ (s : SpoolFace) (config : s.board.config ≡ spool_setup s.jobs s.initi
   initiator_made m is lt (role.Writer ends job) made = absurd (let e = made.0 in omega arith)
 
 -- the role of a task that has worked is that of its number
-role_is : (s : SpoolFace) (t u : CallerFace) (r : Role) → HasWorked s r t u → IsRole s.initiators t.number r
+role_is : (s : SpoolFace) (t u : CallerFace) (r : Role) → HasRun s r t u → IsRole s.initiators t.number r
 role_is s t u role.Reader made = made.0
 role_is s t u (role.Scheduler stage) made = made.0
 role_is s t u (role.Initiator me stage) made = (made.0, made.1)
@@ -151,7 +155,7 @@ module _ (s : SpoolFace) (works : List SpoolWork) (tasks : List CallerFace) (wor
   role_at : (k : ℕ) → k < s.initiators + 3 → IsRole s.initiators k (work k).role
   role_at k lt =
       let w = one k lt in
-      subst (λ n. IsRole s.initiators n (work k).role) w.fresh.number (role_is s w.before (back k) (work k).role w.come.1)
+      subst (λ n. IsRole s.initiators n (work k).role) w.fresh.number (role_is s w.before (back k) (work k).role w.worked.1)
 
   -- the last work is the writer's
   pub works_end : (d : SpoolWork) → IsWriter (get_or works (length works - 1) d).role
@@ -183,7 +187,7 @@ module _ (s : SpoolFace) (works : List SpoolWork) (tasks : List CallerFace) (wor
         heard =
             let w = one k lt in
             let u = back k in
-            let number : u.number ≡ k = w.come.0.number ∙ w.fresh.number in
+            let number : u.number ≡ k = w.worked.0.number ∙ w.fresh.number in
             ap (λ n. heard_in setup n es) (sym number)
             ∙ ap (λ log. noted log (told_to setup u.number es)) (part k lt).logged
             ∙ ap (λ ws. noted u.log ws) (part k lt).told
@@ -206,7 +210,7 @@ module _ (s : SpoolFace) (works : List SpoolWork) (tasks : List CallerFace) (wor
     plan_of k lt =
         let w = one k lt in
         subst (λ n. RanOut (task s.jobs s.initiators n) (ends_in (work k).role) w.before (back k)) w.fresh.number
-        (plan_made s config w.before (back k) (work k).role w.come.1)
+        (plan_made s config w.before (back k) (work k).role w.worked.1)
 
     follows : Follows s.jobs s.initiators es
     follows =
@@ -237,7 +241,7 @@ module _ (s : SpoolFace) (works : List SpoolWork) (tasks : List CallerFace) (wor
         let hs = heard_in setup k es in
         let kept = nothing_kept k in
         let ends = ends_in (work k).role in
-        let r = initiator_made s config w.before (back k) m w.fresh.number low (work k).role w.come.1 in
+        let r = initiator_made s config w.before (back k) m w.fresh.number low (work k).role w.worked.1 in
         let comes = comes_to (initiating_noted setup s.jobs m) r.last k lt r.ran in
         let plan = subst (λ call. left (call kept) hs ≡ Done ends) (initiator_is s.jobs s.initiators m low) (done_at k lt) in
         let noted = done_noted setup s.jobs m kept hs ends plan in

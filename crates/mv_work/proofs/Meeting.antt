@@ -1,5 +1,5 @@
 -- From what a task waits for, and how that was met, to what it was told. For whoever runs tasks.
-use Rattle.std.proofs.Common.{◌≡◌, ℕ, ◌+◌, ◌*◌, ◌<◌, ◌≤◌, [], Option, Some, None, Result, sym, ◌∙◌, subst, arith}
+use Rattle.std.proofs.Common.{◌≡◌, ℕ, ◌+◌, ◌*◌, ◌<◌, ◌≤◌, [], Option, Some, None, Result, Ok, Err, sym, ◌∙◌, subst, arith}
 use Rattle.mv_board.specs.Faces.{CallerFace, IsSame}
 use Rattle.mv_machine.specs.Setup.{Setup, element_count}
 use Rattle.mv_calls.specs.Keeping.{kept_of}
@@ -13,6 +13,7 @@ use Rattle.mv_work.specs.declared.need.Got.TheVariants as got
 use Rattle.mv_work.specs.declared.need.Need.{Need}
 use Rattle.mv_work.specs.declared.need.Need.TheVariants as need
 use Rattle.mv_work.specs.declared.initiator.Initiator.{Initiator}
+use Rattle.mv_work.specs.declared.lost.Lost.{Lost}
 use Rattle.mv_work.specs.declared.stage.InitiatorStage.{InitiatorStage}
 use Rattle.mv_work.specs.declared.stage.InitiatorStage.TheVariants as at
 use Rattle.mv_work.specs.declared.work.Role.{Role}
@@ -24,8 +25,8 @@ use Rattle.mv_work.specs.Ran.{Ran, RanOut}
 use Rattle.mv_work.specs.Scheduling.{AreBlocks, AreSlots}
 use Rattle.mv_work.specs.Spool.{SpoolFace}
 use Rattle.mv_work.specs.Waiting.{IsResting, Stages, Told, Waits}
-use Rattle.mv_work.specs.Works.{HasComeAs, HasWorked, ToldAs, WaitsAs}
-use Rattle.mv_work.proofs.Runs.{leads_astray, out_wrong, ran_last, served_as}
+use Rattle.mv_work.specs.Works.{HasComeAs, HasWorked, ProgramIs, ToldAs, WaitsAs}
+use Rattle.mv_work.proofs.Runs.{leads_astray, out_done, out_wrong, ran_last, served_as}
 use Rattle.mv_work.proofs.Waits.{rests_less, told_answer}
 
 -- ---- a need was met
@@ -63,27 +64,27 @@ own_index sp me (at.Pause round) (need.Pause token) fits = fits.0.index
 own_index sp me (at.Latch r) (need.Latch latch requestor mode) fits = fits.0.0.at.index
 own_index sp me s n fits = absurd fits
 
--- the call of what the task waits for may be made; behind an answer the task was told that, and otherwise it has worked
+-- the call of what the task waits for may be made; after an answer the task was told that, and otherwise it has worked
 pub record CanMeet (sp : SpoolFace) (r : Role) (t : CallerFace) (n : Need) (u : CallerFace) : Type 0 where
   pub same : IsSame t u
   pub rests : IsResting sp.board (need_events n) u
   pub may : MayMeet sp.board.config u.number n
   pub told : (g : Got) (v : CallerFace) → IsAnswerTo n g → Ran (need_call sp.board.config n) (Done (answer_of g)) u v
       → u.left ≤ v.left + need_events n → ToldAs sp r t g v
-  pub lost : (v : CallerFace) → Ran (need_call sp.board.config n) Wrong u v → HasComeAs sp r t None v
+  pub lost : (v : CallerFace) → Ran (need_call sp.board.config n) Wrong u v → HasWorked sp r t v
 
 module _ (sp : SpoolFace) (t : CallerFace) (n : Need) (u : CallerFace) where
   ready : {S A : Type 0} {stages : Stages S A} {Fits : S → Need → Type 0} {Answers : S → Got → Type 0} {whole : Call A} {s : S} (a : A)
       (r : Role) (k : ℕ) → t.number ≡ k → Waits sp.board stages Fits whole t s n u → (Fits s n → MayMeet sp.board.config k n)
       → ((g : Got) → IsAnswerTo n g → Fits s n → Answers s g)
       → ((g : Got) (v : CallerFace) → Told sp.board stages Answers whole t s g v → ToldAs sp r t g v)
-      → ((v : CallerFace) → RanOut whole a t v → HasWorked sp r t v) → CanMeet sp r t n u
+      → ((v : CallerFace) → IsSame t v → RanOut whole a t v → HasWorked sp r t v) → CanMeet sp r t n u
   ready {stages = stages} {s = s} a r k is x may answers told worked = record {
     same = x.same;
     rests = rests_less x.rests (omega arith);
     may = subst (λ k. MayMeet sp.board.config k n) (sym (x.same.number ∙ is)) (may x.fits);
     told = λ g v is ran few. told g v (told_answer g (answers g is) x ran few);
-    lost = λ v ran. (same_then t u v x.same ran.went.same, worked v (out_wrong a (leads_astray (stages.then s) x.leads ran)));
+    lost = λ v ran. worked v (same_then t u v x.same ran.went.same) (out_wrong a (leads_astray (stages.then s) x.leads ran));
   }
 
   -- so it is of a task that waits in its role
@@ -94,12 +95,12 @@ module _ (sp : SpoolFace) (t : CallerFace) (n : Need) (u : CallerFace) where
       ready [] (role.Scheduler (Some s)) scheduler at.0 at.1 (λ fits. fits.may)
       (λ g to fits. record { numbers = fits.numbers; slots = slots_are sp.board.config scheduler _ n g to fits.blocks fits.may })
       (λ g v x. (at.0, x))
-      (λ v x. (at.0, x))
+      (λ v same x. (same, (at.0, x)))
   waits_ready (role.Initiator me None) is at = absurd at
   waits_ready (role.Initiator me (Some s)) is at =
       ready me.noted.jobs (role.Initiator me (Some s)) (initiator me.index) at.0 at.1 (own_there sp me s n is) (initiator_is sp me s n)
       (λ g v x. (at.0, x))
-      (λ v x. (at.0, own_index sp me s n at.1.fits, x))
+      (λ v same x. (same, (at.0, own_index sp me s n at.1.fits, x)))
   waits_ready (role.Writer ends None) is at = absurd at
   waits_ready (role.Writer ends (Some j)) is at =
       ready ends.items (role.Writer ends (Some j)) (writer sp.initiators) at.0 at.1 (λ fits. fits.may)
@@ -109,7 +110,32 @@ module _ (sp : SpoolFace) (t : CallerFace) (n : Need) (u : CallerFace) where
         slot = slots_are sp.board.config (writer sp.initiators) None n g to fits.block fits.may;
       })
       (λ g v x. (at.0, x))
-      (λ v x. (at.0, x))
+      (λ v same x. (same, (at.0, x)))
+
+-- ---- a task that makes no more events
+
+-- what holds of each task's program, if something else does
+program_as : (P Q : (A : Type 0) → Call A → A → Type 0) (s : SpoolFace) (k : ℕ) → ((A : Type 0) (call : Call A) (a : A) → P A call a → Q A call a)
+    → (r : Role) → ProgramIs P s r k → ProgramIs Q s r k
+program_as P Q s k so role.Reader x = (x.0, so _ _ _ x.1)
+program_as P Q s k so (role.Scheduler stage) x = (x.0, so _ _ _ x.1)
+program_as P Q s k so (role.Initiator me stage) x = (x.0, x.1, so _ _ _ x.2)
+program_as P Q s k so (role.Writer ends job) x = (x.0, so _ _ _ x.1)
+
+module _ (s : SpoolFace) (r : Role) (t u : CallerFace) where
+  -- a task that is done
+  pub done_worked : HasComeAs s r t (Ok None) u → HasWorked s r t u
+  done_worked x = (
+    x.0,
+    program_as (λ A call a. Ran call (Done a) t u) (λ A call a. RanOut call a t u) s t.number (λ A call a ran. out_done ran) r x.1,
+  )
+
+  -- and one that is lost
+  pub lost_worked : {lost : Lost} → HasComeAs s r t (Err lost) u → HasWorked s r t u
+  lost_worked x = (
+    x.0,
+    program_as (λ A call a. Ran call Wrong t u) (λ A call a. RanOut call a t u) s t.number (λ A call a ran. out_wrong a ran) r x.1,
+  )
 
 -- ---- how the calls of the services meet needs
 

@@ -13,9 +13,9 @@ use Rattle.mv_work.specs.declared.need.Need.{Need}
 use Rattle.mv_work.specs.declared.next.Next.{Next}
 use Rattle.mv_work.specs.declared.next.Next.TheVariants as next
 use Rattle.mv_work.specs.Needs.{answer_of, need_call, need_events}
-use Rattle.mv_work.specs.Ran.{Ran, RanOut, Leads}
+use Rattle.mv_work.specs.Ran.{Ran, Leads}
 use Rattle.mv_work.specs.Waiting.{Asks, AsksFor, Comes, ComesTo, IsResting, Stages, Told, Waits}
-use Rattle.mv_work.proofs.Runs.{astray, leads_all, leads_on, leads_same, leads_then, out_done, out_wrong, ran_nothing}
+use Rattle.mv_work.proofs.Runs.{astray, leads_all, leads_on, leads_same, leads_then, ran_nothing}
 use Rattle.mv_work.proofs.Runs.{served_few, served_ran, still_of}
 
 -- a task at rest, with fewer events that it needs
@@ -85,13 +85,6 @@ module _ {S A : Type 0} {b : BoardFace} {stages : Stages S A} {Fits : S → Need
   pub comes_nowhere : {whole : Call A} {lost : Lost} (u : CallerFace) → whole ≡ wrong → IsAtRest u.log
       → Comes b stages Fits a whole u (Err lost) u
   comes_nowhere {whole} u is quiet = comes_astray (astray (leads_all whole u) is quiet)
-
-  -- a task that is done or lost has made all events
-  pub comes_out : {whole : Call A} {t u : CallerFace} → Comes b stages Fits a whole t (Ok next.Done) u → RanOut whole a t u
-  comes_out w = out_done w.come
-
-  pub lost_out : {whole : Call A} {t u : CallerFace} {lost : Lost} → Comes b stages Fits a whole t (Err lost) u → RanOut whole a t u
-  lost_out w = out_wrong a w.come
 
 -- what is asked for, by another name, and by no more events
 pub asks_as : {S A : Type 0} {c : Setup} {stages : Stages S A} {Fits : S → Need → Type 0} {a : A} {later whole : Call A} {less most : ℕ}

@@ -1,5 +1,5 @@
 -- A task that waits, one that was told what it waited for, and one that has come to its next wait. A stage says where a task waits:
--- what is left to do behind the answer, and how many events that may need. What a task of the spool waits for fits its stage.
+-- what is left to do after the answer, and how many events that may need. What a task of the spool waits for fits its stage.
 use Rattle.std.specs.Prelude.{◌≡◌, ℕ, ◌+◌, ◌≤◌, Option, Some, None, Result, Ok, Err}
 use Rattle.mv_board.specs.Faces.{BoardFace, CallerFace, IsOf, IsSame}
 use Rattle.mv_calls.specs.Keeping.{Kept}
@@ -33,7 +33,7 @@ pub record Waits {S A : Type 0} (b : BoardFace) (stages : Stages S A) (Fits : S 
   pub fits : Fits s n
   pub leads : Leads whole (followed (need_call b.config n) (stages.then s)) t u
 
--- it was told this
+-- the task was given this answer
 pub record Told {S A : Type 0} (b : BoardFace) (stages : Stages S A) (Answers : S → Got → Type 0) (whole : Call A) (t : CallerFace)
     (s : S) (g : Got) (u : CallerFace) : Type 0 where
   pub same : IsSame t u
@@ -65,14 +65,14 @@ pub record Asks {S A : Type 0} (c : Setup) (stages : Stages S A) (Fits : S → N
     (next : Next S) : Type 0 where
   pub asks : AsksFor c stages Fits a later most next
 
--- where a task waits once it has come so far: at the next stage, or where it waited
+-- where a task waits next: at the next stage, or still where it waited
 abbrev pub stage_then : {S : Type 0} → Option S → Result (Next S) Lost → Option S
 stage_then at (Ok (next.Wait s n)) = Some s
 stage_then at (Ok next.Done) = at
 stage_then at (Err lost) = at
 
--- and what it waits for there, if anything
-abbrev pub need_of : {S : Type 0} → Result (Next S) Lost → Option Need
-need_of (Ok (next.Wait s n)) = Some n
-need_of (Ok next.Done) = None
-need_of (Err lost) = None
+-- what a task waits for next: nothing if its program is done
+abbrev pub need_of : {S : Type 0} → Result (Next S) Lost → Result (Option Need) Lost
+need_of (Ok (next.Wait s n)) = Ok (Some n)
+need_of (Ok next.Done) = Ok None
+need_of (Err lost) = Err lost

@@ -1,13 +1,15 @@
 -- The work of a task: the role that it plays, where it waits, and what it comes to. Jobs and initiators are counted from 0; tasks have
 -- their numbers.
 use Rattle.std.specs.Prelude.{◌≡◌, ℕ, ◌+◌, ◌<◌, ◌≤◌, false, List, [], ◌∷◌, flat_map, length, vec_capacity, Option, Some, None}
-use Rattle.std.specs.Prelude.{slice_index_or}
+use Rattle.std.specs.Prelude.{Result, Ok, Err, slice_index_or}
 use Rattle.std.specs.List.{AllByRecursion}
 use Rattle.mv_board.specs.Faces.{CallerFace, IsFresh, IsSame}
+use Rattle.mv_calls.specs.Program.{Call, Done, Wrong}
 use Rattle.mv_deck.specs.Deck.{JobData}
 use Rattle.mv_plan.specs.SpoolSetup.{reader, scheduler, writer, initiator}
 use Rattle.mv_plan.specs.SpoolTasks.{reading, scheduling, writing}
 use Rattle.mv_work.specs.declared.initiator.Initiator as code
+use Rattle.mv_work.specs.declared.lost.Lost.{Lost}
 use Rattle.mv_work.specs.declared.need.Got.{Got}
 use Rattle.mv_work.specs.declared.need.Need.{Need}
 use Rattle.mv_work.specs.declared.work.Role.{Role}
@@ -15,7 +17,7 @@ use Rattle.mv_work.specs.declared.work.Role.TheVariants.{Reader, Scheduler, Init
 use Rattle.mv_work.specs.declared.work.SpoolWork.{SpoolWork}
 use Rattle.mv_work.specs.Initiating.{IsInitiatorAnswer, IsInitiatorNeed, initiator_stages, marks_left}
 use Rattle.mv_work.specs.Noting.{initiating_noted}
-use Rattle.mv_work.specs.Ran.{RanOut}
+use Rattle.mv_work.specs.Ran.{Ran, RanOut}
 use Rattle.mv_work.specs.Records.{JobRecord}
 use Rattle.mv_work.specs.Scheduling.{IsSchedulerAnswer, IsSchedulerNeed, scheduler_stages}
 use Rattle.mv_work.specs.Spool.{SpoolFace}
@@ -71,15 +73,25 @@ IsWriter (Scheduler stage) = ⊥
 IsWriter (Initiator me stage) = ⊥
 IsWriter (Writer ends job) = Unit {0}
 
--- All events of the task were made, which was t when it was new, and the role has what it brings back.
+-- P holds of the program of the task that plays a role, and of what the role brings back. The task has the role's number k.
+abbrev pub ProgramIs : ((A : Type 0) → Call A → A → Type 0) → SpoolFace → Role → ℕ → Type 0
+ProgramIs P s Reader k = (k ≡ reader) × P (List ℕ) (reading s.board.config (length s.jobs)) []
+ProgramIs P s (Scheduler stage) k = (k ≡ scheduler) × P (List ℕ) (scheduling s.board.config s.initiators s.jobs) []
+ProgramIs P s (Initiator me stage) k = (k ≡ initiator me.index) × (me.index < s.initiators)
+    × P (List JobRecord) (initiating_noted s.board.config s.jobs me.index) me.noted.jobs
+ProgramIs P s (Writer ends job) k = (k ≡ writer s.initiators) × P (List ℕ) (writing s.board.config (length s.jobs)) ends.items
+
+-- The task was t when it was new. Its program is done, and what the role brings back is the program's answer.
+abbrev pub IsDone : SpoolFace → Role → CallerFace → CallerFace → Type 0
+IsDone s role t u = IsSame t u × ProgramIs (λ A program answer. Ran program (Done answer) t u) s role t.number
+
+-- It is lost: it read a reply that its program does not foresee.
+abbrev pub IsLost : SpoolFace → Role → CallerFace → CallerFace → Type 0
+IsLost s role t u = IsSame t u × ProgramIs (λ A program answer. Ran program Wrong t u) s role t.number
+
+-- It makes no more events: it is done or lost.
 abbrev pub HasWorked : SpoolFace → Role → CallerFace → CallerFace → Type 0
-HasWorked s Reader t u = (t.number ≡ reader) × RanOut (reading s.board.config (length s.jobs)) [] t u
-HasWorked s (Scheduler stage) t u =
-    (t.number ≡ scheduler) × RanOut (scheduling s.board.config s.initiators s.jobs) [] t u
-HasWorked s (Initiator me stage) t u = (t.number ≡ initiator me.index) × (me.index < s.initiators)
-    × RanOut (initiating_noted s.board.config s.jobs me.index) me.noted.jobs t u
-HasWorked s (Writer ends job) t u =
-    (t.number ≡ writer s.initiators) × RanOut (writing s.board.config (length s.jobs)) ends.items t u
+HasWorked s role t u = IsSame t u × ProgramIs (λ A program answer. RanOut program answer t u) s role t.number
 
 -- ---- from one wait to the next
 
@@ -96,7 +108,7 @@ WaitsAs s (Writer ends None) t n u = ⊥
 WaitsAs s (Writer ends (Some job)) t n u = (t.number ≡ writer s.initiators)
     × Waits s.board (writer_stages s ends.items) (IsWriterNeed s (room_in ends)) (writing s.board.config (length s.jobs)) t job n u
 
--- It was told this.
+-- In its role it was given this answer.
 abbrev pub ToldAs : SpoolFace → Role → CallerFace → Got → CallerFace → Type 0
 ToldAs s Reader t g u = ⊥
 ToldAs s (Scheduler None) t g u = ⊥
@@ -109,16 +121,17 @@ ToldAs s (Writer ends None) t g u = ⊥
 ToldAs s (Writer ends (Some job)) t g u = (t.number ≡ writer s.initiators)
     × Told s.board (writer_stages s ends.items) (IsWriterAnswer s (room_in ends)) (writing s.board.config (length s.jobs)) t job g u
 
--- The task was t when it was new. In its role it waits for what it needs, or needs nothing more and has worked.
-abbrev pub HasComeAs : SpoolFace → Role → CallerFace → Option Need → CallerFace → Type 0
-HasComeAs s role t (Some n) u = WaitsAs s role t n u
-HasComeAs s role t None u = IsSame t u × HasWorked s role t u
+-- The task was t when it was new. In its role it waits for what it needs, or is done, or is lost.
+abbrev pub HasComeAs : SpoolFace → Role → CallerFace → Result (Option Need) Lost → CallerFace → Type 0
+HasComeAs s role t (Ok (Some n)) u = WaitsAs s role t n u
+HasComeAs s role t (Ok None) u = IsDone s role t u
+HasComeAs s role t (Err lost) u = IsLost s role t u
 
 -- the same of its work
-abbrev pub HasCome : SpoolFace → SpoolWork → CallerFace → Option Need → CallerFace → Type 0
-HasCome s w t need u = HasComeAs s w.role t need u
+abbrev pub HasCome : SpoolFace → SpoolWork → CallerFace → Result (Option Need) Lost → CallerFace → Type 0
+HasCome s w t came u = HasComeAs s w.role t came u
 
--- The task, which was t when it was new, was told what it waited for.
+-- The task, which was t when it was new, was given what it waited for.
 abbrev pub WasTold : SpoolFace → SpoolWork → CallerFace → Got → CallerFace → Type 0
 WasTold s w t g u = ToldAs s w.role t g u
 
@@ -128,7 +141,7 @@ WasTold s w t g u = ToldAs s w.role t g u
 pub record IsWorked (s : SpoolFace) (k : ℕ) (w : SpoolWork) (u : CallerFace) : Type 0 where
   pub before : CallerFace
   pub fresh : IsFresh s.board k before
-  pub come : HasCome s w before None u
+  pub worked : HasWorked s w.role before u
 
 -- So each task has, in the order of their numbers.
 pub record AreWorked (s : SpoolFace) (ws : List SpoolWork) (ts : List CallerFace) : Type 0 where

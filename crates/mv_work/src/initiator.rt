@@ -62,6 +62,76 @@ pub(crate) struct Initiator {
     pub noted: InitiatorRecord,
 }
 
+impl Initiator {
+    /// The initiator of this index, with room for the notes of each job of the deck.
+    pub(crate) fn with_room(alloc: Global, index: u32, deck: &Deck) -> Result<Initiator, NoMemory>
+        ensures index { IfOk result (λ me. me.index ≡ index) }
+        ensures given { IfOk result (λ me. AllByRecursion (λ b. b ≡ false) me.given.items) }
+        ensures size { IfOk result (λ me. length me.given.items ≡ length (deck_data deck.now)) }
+        ensures none { IfOk result (λ me. (me.noted.jobs ≡ []) × (me.noted.notes ≡ [])) }
+        ensures room { IfOk result (λ me. marks_left me.given.items (deck_data deck.now) ≤ me.noted.room) }
+    {
+        let room = marks_of_jobs(&deck.jobs)?;
+        Ok(Initiator {
+            index,
+            given: none_given(alloc, deck.jobs.len())?,
+            noted: InitiatorRecord::with_room(alloc, room)?,
+        })
+    }
+}
+
+// How many marks a step leaves.
+fn marks_of_step(step: &Step) -> usize
+    ensures marks { result ≡ step_marks step.now }
+    ensures few { result ≤ 1 }
+{
+    match step {
+        Step::Print(_) => 1,
+        Step::Scan(_) => 1,
+        Step::Use(..) => 0,
+        Step::Free(_) => 0,
+        Step::Count(..) => 0,
+        Step::Abend(_) => 0,
+        Step::Return(_) => 0,
+    }
+}
+
+// How many marks these steps leave.
+fn marks_of(steps: &[Step]) -> usize
+    ensures { result ≡ steps_marks steps.now }
+{
+    let mut marks = 0;
+    for k in 0..steps.len() {
+        marks += marks_of_step(&steps[k]);
+    }
+    marks
+}
+
+// How many marks these jobs leave: those of their steps, and one for each end. A count that no memory could hold is refused.
+fn marks_of_jobs(jobs: &[Job]) -> Result<usize, NoMemory>
+    ensures { IfOk result (λ marks. marks ≡ sum_by job_marks (map job_data jobs.now)) }
+{
+    let mut marks = 0_usize;
+    for k in 0..jobs.len() {
+        let Some(more) = marks.checked_add(marks_of(&jobs[k].steps)) else {
+            return Err(NoMemory);
+        };
+        let Some(more) = more.checked_add(1) else {
+            return Err(NoMemory);
+        };
+        marks = more;
+    }
+    Ok(marks)
+}
+
+// One flag per job, all false: no job has been handed out yet.
+fn none_given(alloc: Global, jobs: usize) -> Result<Vec<bool>, NoMemory>
+    ensures none { IfOk result (λ given. AllByRecursion (λ b. b ≡ false) given.items) }
+    ensures size { IfOk result (λ given. length given.items ≡ jobs) }
+{
+    Ok(vec![in alloc; false; jobs]?)
+}
+
 impl<G: Gate> Spool<'_, G> {
     /// Begins an initiator that was given no job, and returns what it waits for.
     pub(crate) fn begin_initiator<R: Wait>(
@@ -70,7 +140,7 @@ impl<G: Gate> Spool<'_, G> {
         task: &mut Task,
         me: &Initiator,
         stage: &mut Option<InitiatorStage>,
-    ) -> Option<Need>
+    ) -> Result<Option<Need>, Lost>
         requires fresh { IsFresh self.now.board task.old.number task.old }
         requires new { IsNewInitiator self.now.jobs self.now.initiators task.old.number me.now }
         ensures { HasComeAs self.now (role.Initiator me.now stage.new) task.old result task.new }
@@ -89,7 +159,7 @@ impl<G: Gate> Spool<'_, G> {
         me: &mut Initiator,
         stage: &mut Option<InitiatorStage>,
         got: Got,
-    ) -> Option<Need>
+    ) -> Result<Option<Need>, Lost>
         requires told { (t : CallerFace) × ToldAs self.now (role.Initiator me.old stage.old) t got task.old }
         ensures { (t : CallerFace) → ToldAs self.now (role.Initiator me.old stage.old) t got task.old
             → HasComeAs self.now (role.Initiator me.new stage.new) t result task.new }
@@ -99,7 +169,7 @@ impl<G: Gate> Spool<'_, G> {
         keep_stage(stage, next)
     }
 
-    // Goes on from the stage at which it waited, by what it was told.
+    // Resumes at the stage at which the initiator waited.
     fn resume_initiator<R: Wait>(
         &self,
         rt: &R,
@@ -141,7 +211,7 @@ impl<G: Gate> Spool<'_, G> {
         self.begin_round(rt, task, me, Round { number: 0, next })
     }
 
-    // Tells the scheduler that the initiator is idle and with which generation it pauses, and waits for what it is given.
+    // Posts that the initiator is idle, with the generation of its next pause, and waits for a code.
     fn begin_round<R: Wait>(
         &self,
         rt: &R,
@@ -160,7 +230,7 @@ impl<G: Gate> Spool<'_, G> {
         Ok(Next::Wait(InitiatorStage::Pause(round.number), Need::Pause(round.next)))
     }
 
-    // It was given a code: the job that this names is begun, and the element is given back where no job follows.
+    // A code was given: begins the job that it names, or deallocates the element if no job follows.
     fn on_given<R: Wait>(
         &self,
         rt: &R,
@@ -197,7 +267,7 @@ impl<G: Gate> Spool<'_, G> {
         self.start_job(rt, task, me, round, named)
     }
 
-    // Begins a job that was named, which may be one that is not to be run.
+    // Begins the job that a code named. One that is not to be run ends at once.
     fn start_job<R: Wait>(
         &self,
         rt: &R,
@@ -248,7 +318,7 @@ impl<G: Gate> Spool<'_, G> {
     }
 }
 
-// The job of so many that a code names, if it names one.
+// The job that a code names, in a deck of this many jobs.
 fn job_named(jobs: u32, code: u32) -> Result<Named, Lost>
     requires { jobs ≤ jobs_limit }
     ensures { MatchResult result (λ named. Some (named_of named) ≡ named_by jobs code) (λ _. None ≡ named_by jobs code) }
@@ -265,75 +335,5 @@ fn job_named(jobs: u32, code: u32) -> Result<Named, Lost>
         })
     } else {
         Err(Lost)
-    }
-}
-
-// The marks that are made of a step.
-fn marks_of_step(step: &Step) -> usize
-    ensures marks { result ≡ step_marks step.now }
-    ensures few { result ≤ 1 }
-{
-    match step {
-        Step::Print(_) => 1,
-        Step::Scan(_) => 1,
-        Step::Use(..) => 0,
-        Step::Free(_) => 0,
-        Step::Count(..) => 0,
-        Step::Abend(_) => 0,
-        Step::Return(_) => 0,
-    }
-}
-
-// And of these steps.
-fn marks_of(steps: &[Step]) -> usize
-    ensures { result ≡ steps_marks steps.now }
-{
-    let mut marks = 0;
-    for k in 0..steps.len() {
-        marks += marks_of_step(&steps[k]);
-    }
-    marks
-}
-
-// And of these jobs with their ends. More than memory could have are refused.
-fn marks_of_jobs(jobs: &[Job]) -> Result<usize, NoMemory>
-    ensures { IfOk result (λ marks. marks ≡ sum_by job_marks (map job_data jobs.now)) }
-{
-    let mut marks = 0_usize;
-    for k in 0..jobs.len() {
-        let Some(more) = marks.checked_add(marks_of(&jobs[k].steps)) else {
-            return Err(NoMemory);
-        };
-        let Some(more) = more.checked_add(1) else {
-            return Err(NoMemory);
-        };
-        marks = more;
-    }
-    Ok(marks)
-}
-
-// Of none of so many jobs it is noted that it was given.
-fn none_given(alloc: Global, jobs: usize) -> Result<Vec<bool>, NoMemory>
-    ensures none { IfOk result (λ given. AllByRecursion (λ b. b ≡ false) given.items) }
-    ensures size { IfOk result (λ given. length given.items ≡ jobs) }
-{
-    Ok(vec![in alloc; false; jobs]?)
-}
-
-impl Initiator {
-    /// The initiator of this index, with room for the notes of each job of the deck.
-    pub(crate) fn with_room(alloc: Global, index: u32, deck: &Deck) -> Result<Initiator, NoMemory>
-        ensures index { IfOk result (λ me. me.index ≡ index) }
-        ensures given { IfOk result (λ me. AllByRecursion (λ b. b ≡ false) me.given.items) }
-        ensures size { IfOk result (λ me. length me.given.items ≡ length (deck_data deck.now)) }
-        ensures none { IfOk result (λ me. (me.noted.jobs ≡ []) × (me.noted.notes ≡ [])) }
-        ensures room { IfOk result (λ me. marks_left me.given.items (deck_data deck.now) ≤ me.noted.room) }
-    {
-        let room = marks_of_jobs(&deck.jobs)?;
-        Ok(Initiator {
-            index,
-            given: none_given(alloc, deck.jobs.len())?,
-            noted: InitiatorRecord::with_room(alloc, room)?,
-        })
     }
 }

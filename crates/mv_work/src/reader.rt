@@ -4,7 +4,7 @@
 //!   begin ──> post entered(0) ──> post entered(1) ──> ... ──> done
 //! ```
 
-ghost use Rattle.std.specs.Prelude.{[], length, None};
+ghost use Rattle.std.specs.Prelude.{[], length, None, Ok};
 ghost use Rattle.mv_board.specs.Faces.{IsFresh};
 ghost use Rattle.mv_plan.specs.SpoolSetup.{reader};
 ghost use Rattle.mv_plan.specs.SpoolTasks.{reading};
@@ -22,7 +22,7 @@ impl<G: Gate> Spool<'_, G> {
     /// Enters each job, in order. The reader never waits.
     pub(crate) fn read<R: Wait>(&self, rt: &R, task: &mut Task)
         requires fresh { IsFresh self.now.board reader task.old }
-        ensures { HasComeAs self.now role.Reader task.old None task.new }
+        ensures { HasComeAs self.now role.Reader task.old (Ok None) task.new }
     {
         for job in 0..self.jobs() {
             self.pass(rt, task, Point::Entered(job));

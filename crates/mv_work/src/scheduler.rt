@@ -47,7 +47,10 @@ use std::sync::Wait;
 
 impl<G: Gate> Spool<'_, G> {
     /// Begins the scheduler, and returns what it waits for.
-    pub(crate) fn begin_scheduler(&self, stage: &mut Option<SchedulerStage>) -> Option<Need>
+    pub(crate) fn begin_scheduler(
+        &self,
+        stage: &mut Option<SchedulerStage>,
+    ) -> Result<Option<Need>, Lost>
         ensures { (t : CallerFace) → IsFresh self.now.board scheduler t → HasComeAs self.now (role.Scheduler stage.new) t result t }
     {
         // Reading a field makes the facts of the spool known here.
@@ -63,7 +66,7 @@ impl<G: Gate> Spool<'_, G> {
         task: &mut Task,
         stage: &mut Option<SchedulerStage>,
         got: Got,
-    ) -> Option<Need>
+    ) -> Result<Option<Need>, Lost>
         requires told { (t : CallerFace) × ToldAs self.now (role.Scheduler stage.old) t got task.old }
         ensures { (t : CallerFace) → ToldAs self.now (role.Scheduler stage.old) t got task.old
             → HasComeAs self.now (role.Scheduler stage.new) t result task.new }
@@ -73,7 +76,7 @@ impl<G: Gate> Spool<'_, G> {
         keep_stage(stage, next)
     }
 
-    // Goes on from the stage at which it waited, by what it was told.
+    // Resumes at the stage at which the scheduler waited.
     fn resume_scheduler<R: Wait>(
         &self,
         rt: &R,
@@ -110,7 +113,7 @@ impl<G: Gate> Spool<'_, G> {
         Next::Wait(SchedulerStage::Entry(job), Need::Block(self.entered(job)))
     }
 
-    // The job was entered: it waits for the ends of the jobs that its AFTER names, if there are any.
+    // The job was entered: waits for the ends of the jobs that its AFTER names, if there are any.
     fn on_entry<R: Wait>(
         &self,
         rt: &R,
@@ -136,7 +139,7 @@ impl<G: Gate> Spool<'_, G> {
         ))
     }
 
-    // The ends were found: whether the job is to be run is known.
+    // The ends were found: decides whether the job is to be run.
     fn on_ends<R: Wait>(
         &self,
         rt: &R,
@@ -177,7 +180,7 @@ impl<G: Gate> Spool<'_, G> {
         ))
     }
 
-    // The lowest that is idle is given the job, and the next job follows.
+    // Gives the job to the lowest initiator that is idle. The next job follows.
     fn on_idle<R: Wait>(
         &self,
         rt: &R,
@@ -200,7 +203,7 @@ impl<G: Gate> Spool<'_, G> {
         Ok(self.schedule(job + 1))
     }
 
-    // Clears an idle initiator's block, and gives a code to the pause of the generation that it told.
+    // Clears an idle initiator's block, and releases its pause, of the generation that it posted, with a code.
     fn hand_over<R: Wait>(
         &self,
         rt: &R,
@@ -240,7 +243,7 @@ impl<G: Gate> Spool<'_, G> {
         )
     }
 
-    // It is idle: it is told that no job follows.
+    // The initiator is idle: dismisses it with `NO_JOB`. The next initiator follows.
     fn on_dismissal<R: Wait>(
         &self,
         rt: &R,
@@ -253,7 +256,7 @@ impl<G: Gate> Spool<'_, G> {
         ensures { SchedulerComes self.now (scheduler_left self.now (stage.Dismissal index) (Slots (Some generation ∷ [])))
             task.old result task.new }
     {
-        // There are few initiators.
+        // Reading a field makes the facts of the spool known here.
         let _ = &self.initiators;
         self.hand_over(rt, task, NO_JOB, index, generation)?;
         Ok(self.dismiss(index + 1))

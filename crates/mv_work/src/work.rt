@@ -1,10 +1,10 @@
 //! The work of a task of the spool, from one wait to the next: each task plays one role. Clauses cite `specs/Works.antt`.
 //!
 //! ```text
-//!   new ── begin ──> a wait ── go_on, with its answer ──> a wait ── go_on ──> ... ──> no wait: done, or lost
+//!   new ── begin ──> a wait ── go_on, with its answer ──> a wait ── go_on ──> ... ──> Ok(None): done, or Err(Lost)
 //! ```
 //!
-//! Whoever runs the task meets the waits. At which stages a role waits is in the file of that role.
+//! The runner of the task makes the waits. At which stages a role waits is in the file of that role.
 
 ghost use Rattle.std.specs.Prelude.{◌<◌, ◌≤◌, ◌+◌, IfOk};
 ghost use Rattle.mv_board.specs.Faces.{CallerFace, IsFresh};
@@ -13,6 +13,7 @@ ghost use Rattle.mv_deck.specs.Weight.{most_initiators};
 ghost use Rattle.mv_work.specs.Works.{HasCome, IsNew, IsNewRole, WasTold};
 
 use crate::initiator::Initiator;
+use crate::lost::Lost;
 use crate::need::{Got, Need};
 use crate::spool::Spool;
 use crate::stage::{InitiatorStage, SchedulerStage};
@@ -24,7 +25,7 @@ use mv_wait::Task;
 use std::alloc::Global;
 use std::sync::Wait;
 
-/// What a task is in the spool, with all that it has of its own: where it waits, once it has begun, and what it brings back.
+/// The role of a task, with the fields of that role: where the task waits, once it has begun, and what it brings back.
 #[derive(Drop)]
 pub(crate) enum Role {
     /// Enters the jobs. It never waits.
@@ -75,7 +76,7 @@ impl SpoolWork {
     ///
     /// # Errors
     ///
-    /// `NoMemory` if there is not enough.
+    /// `NoMemory` if memory runs out.
     pub fn new(
         alloc: Global,
         deck: &Deck,
@@ -89,13 +90,17 @@ impl SpoolWork {
         Ok(SpoolWork { role })
     }
 
-    /// Begins the work of the task, and returns what it waits for. `None` says that the task makes no more events.
+    /// Begins the work of the task, and returns what it waits for, or `None` if its program is done.
+    ///
+    /// # Errors
+    ///
+    /// `Lost` if the task read a reply that its program does not foresee, which happens in no run. It makes no more events then.
     pub fn begin<R: Wait, G: Gate>(
         &mut self,
         rt: &R,
         spool: &Spool<'_, G>,
         task: &mut Task,
-    ) -> Option<Need>
+    ) -> Result<Option<Need>, Lost>
         requires number { task.old.number < spool.now.initiators + 3 }
         requires fresh { IsFresh spool.now.board task.old.number task.old }
         requires new { IsNew spool.now.jobs spool.now.initiators task.old.number self.old }
@@ -104,7 +109,7 @@ impl SpoolWork {
         match &mut self.role {
             Role::Reader => {
                 spool.read(rt, task);
-                None
+                Ok(None)
             }
             Role::Scheduler(stage) => spool.begin_scheduler(stage),
             Role::Initiator { me, stage } => spool.begin_initiator(rt, task, me, stage),
@@ -112,15 +117,18 @@ impl SpoolWork {
         }
     }
 
-    /// Resumes the task with the answer to its last wait, and returns what it waits for next. `None` says that the task makes no
-    /// more events: its program is done, or it met a reply that nothing foresees (`Lost`), which happens in no run.
+    /// Resumes the task with the answer to its last wait, and returns what it waits for next, or `None` if its program is done.
+    ///
+    /// # Errors
+    ///
+    /// As `begin`.
     pub fn go_on<R: Wait, G: Gate>(
         &mut self,
         rt: &R,
         spool: &Spool<'_, G>,
         task: &mut Task,
         got: Got,
-    ) -> Option<Need>
+    ) -> Result<Option<Need>, Lost>
         requires told { (t : CallerFace) × WasTold spool.now self.old t got task.old }
         ensures { (t : CallerFace) → WasTold spool.now self.old t got task.old → HasCome spool.now self.new t result task.new }
     {

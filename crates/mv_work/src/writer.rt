@@ -24,7 +24,7 @@ use std::sync::Wait;
 
 impl<G: Gate> Spool<'_, G> {
     /// Begins the writer, which has no end yet and room for all, and returns what it waits for.
-    pub(crate) fn begin_writer(&self, job: &mut Option<u32>) -> Option<Need>
+    pub(crate) fn begin_writer(&self, job: &mut Option<u32>) -> Result<Option<Need>, Lost>
         ensures { (t : CallerFace) (ends : _) → IsFresh self.now.board (writer self.now.initiators) t → ends.items ≡ []
             → length self.now.jobs ≤ vec_capacity ends → HasComeAs self.now (role.Writer ends job.new) t result t }
     {
@@ -42,7 +42,7 @@ impl<G: Gate> Spool<'_, G> {
         ends: &mut Vec<u32>,
         job: &mut Option<u32>,
         got: Got,
-    ) -> Option<Need>
+    ) -> Result<Option<Need>, Lost>
         requires told { (t : CallerFace) × ToldAs self.now (role.Writer ends.old job.old) t got task.old }
         ensures { (t : CallerFace) → ToldAs self.now (role.Writer ends.old job.old) t got task.old
             → HasComeAs self.now (role.Writer ends.new job.new) t result task.new }
@@ -64,7 +64,7 @@ impl<G: Gate> Spool<'_, G> {
         Next::Wait(job, Need::Block(self.end_for_writer(job)))
     }
 
-    // The end of this job was told: it is kept, and the next job follows.
+    // The end of this job was found: keeps it. The next job follows.
     fn on_end<R: Wait>(
         &self,
         rt: &R,

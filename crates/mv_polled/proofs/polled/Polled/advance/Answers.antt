@@ -65,15 +65,15 @@ told g c k is =
     let met = rw c.in-Ready-Ok.field-0-is at (turn at.need at.began at.meeting) in
     at.ready.told c.in-Ready-Ok.got c.poll.new.task met.0 met.1 met.2
 
-pub go_on-need-requires : goal.go_on-need-requires
-go_on-need-requires g c =
-    let p = c.requires.polled in record { told = (p.2.new, told g (goal.at.go_on-need-requires g c).In-Ready-Ok p.0 p.2) }
+pub go_on-next-requires : goal.go_on-next-requires
+go_on-next-requires g c =
+    let p = c.requires.polled in record { told = (p.2.new, told g (goal.at.go_on-next-requires g c).In-Ready-Ok p.0 p.2) }
 
 pub take_up-requires-clause-need : goal.take_up-requires-clause-need
 take_up-requires-clause-need g c =
     let p = c.requires.polled in
-    fits c.args.spool.now c.requires.spool.config c.go_on-need.new.self c.go_on-need.result p.2.new c.go_on-need.new.task
-    (c.go_on-need.ensures p.2.new (told g (goal.at.take_up-requires-clause-need g c).In-Ready-Ok p.0 p.2))
+    fits c.args.spool.now c.requires.spool.config c.go_on-next.new.self c.go_on-next.result p.2.new c.go_on-next.new.task
+    (c.go_on-next.ensures p.2.new (told g (goal.at.take_up-requires-clause-need g c).In-Ready-Ok p.0 p.2))
 
 pub returns-in-Ready-Ok : goal.returns-in-Ready-Ok
 returns-in-Ready-Ok g c = record {
@@ -81,8 +81,8 @@ returns-in-Ready-Ok g c = record {
     new = old.new;
     fresh = old.fresh;
     room = c.take_up.ensures.room;
-    stands = stands_next c.args.spool.now c.requires.spool.config k old.new c.take_up.new.self c.go_on-need.result
-        c.take_up.ensures.same (c.go_on-need.ensures old.new (told g (goal.at.returns-in-Ready-Ok g c).In-Ready-Ok k old))
+    stands = stands_next c.args.spool.now c.requires.spool.config k old.new c.take_up.new.self c.go_on-next.result
+        c.take_up.ensures.same (c.go_on-next.ensures old.new (told g (goal.at.returns-in-Ready-Ok g c).In-Ready-Ok k old))
         c.take_up.ensures.taken;
   };
 }

@@ -4,22 +4,22 @@ use Rattle.mv_polled.proofs.Polling.{fits, new_stands, stands_next}
 use Rattle.mv_work.specs.Works.{HasCome}
 use Rattle.mv_polled.proofs.polled.Polled.begin.Goals as goal
 
-pub begin-need-requires-clause-number : goal.begin-need-requires-clause-number
-begin-need-requires-clause-number g c =
+pub begin-next-requires-clause-number : goal.begin-next-requires-clause-number
+begin-next-requires-clause-number g c =
     let p = c.requires.polled in
     let was = new_stands c.args.spool.now c.requires.spool.config p.0 c.args.self.now p.2 c.requires.new in
     rw (was.0, p.2.fresh.number) p.1
 
-pub begin-need-requires-clause-fresh : goal.begin-need-requires-clause-fresh
-begin-need-requires-clause-fresh g c =
+pub begin-next-requires-clause-fresh : goal.begin-next-requires-clause-fresh
+begin-next-requires-clause-fresh g c =
     let p = c.requires.polled in
     let b = c.args.spool.now.board in
     let was = new_stands c.args.spool.now c.requires.spool.config p.0 c.args.self.now p.2 c.requires.new in
     subst (λ (t : CallerFace). IsFresh b t.number t) (sym was.0)
     (subst (λ m. IsFresh b m p.2.new) (sym p.2.fresh.number) p.2.fresh)
 
-pub begin-need-requires-clause-new : goal.begin-need-requires-clause-new
-begin-need-requires-clause-new g c =
+pub begin-next-requires-clause-new : goal.begin-next-requires-clause-new
+begin-next-requires-clause-new g c =
     let p = c.requires.polled in
     let was = new_stands c.args.spool.now c.requires.spool.config p.0 c.args.self.now p.2 c.requires.new in
     rw (was.0, p.2.fresh.number) was.1
@@ -29,8 +29,8 @@ take_up-requires-clause-room g c = c.requires.polled.2.room
 
 pub take_up-requires-clause-need : goal.take_up-requires-clause-need
 take_up-requires-clause-need g c =
-    fits c.args.spool.now c.requires.spool.config c.begin-need.new.self c.begin-need.result c.args.self.now.task
-    c.begin-need.new.task c.begin-need.ensures
+    fits c.args.spool.now c.requires.spool.config c.begin-next.new.self c.begin-next.result c.args.self.now.task
+    c.begin-next.new.task c.begin-next.ensures
 
 pub returns : goal.returns
 returns g c = record {
@@ -42,8 +42,8 @@ returns g c = record {
         new = old.new;
         fresh = old.fresh;
         room = c.take_up.ensures.room;
-        stands = stands_next s config k old.new c.take_up.new.self c.begin-need.result c.take_up.ensures.same
-            (subst (λ (t : CallerFace). HasCome s c.begin-need.new.self t c.begin-need.result c.begin-need.new.task) was.0
-            c.begin-need.ensures) c.take_up.ensures.taken;
+        stands = stands_next s config k old.new c.take_up.new.self c.begin-next.result c.take_up.ensures.same
+            (subst (λ (t : CallerFace). HasCome s c.begin-next.new.self t c.begin-next.result c.begin-next.new.task) was.0
+            c.begin-next.ensures) c.take_up.ensures.taken;
       };
 }

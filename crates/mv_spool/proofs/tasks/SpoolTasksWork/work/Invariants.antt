@@ -4,4 +4,4 @@ use Rattle.mv_work.specs.Works.{HasCome}
 use Rattle.mv_spool.proofs.tasks.SpoolTasksWork.work.Given as goal
 
 abbrev pub invariant-loop : goal.invariant-loop
-invariant-loop g l = HasCome (spool_of l.station (deck_data l.self.deck.now) l.self.initiators) l.room l.fn.task l.needed l.task
+invariant-loop g l = HasCome (spool_of l.station (deck_data l.self.deck.now) l.self.initiators) l.room l.fn.task l.next l.task

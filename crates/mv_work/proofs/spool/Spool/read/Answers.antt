@@ -1,13 +1,13 @@
 use Rattle.std.proofs.Common.{◌≡◌, ◌-◌, [], ap, length, subst, arith}
 use Rattle.std.specs.List.{range_with_len}
 use Rattle.mv_calls.specs.Posts.{post}
-use Rattle.mv_calls.specs.Program.{finished, for_each}
+use Rattle.mv_calls.specs.Program.{Done, finished, for_each}
 use Rattle.mv_plan.specs.SpoolSetup.{entered, reader}
 use Rattle.mv_plan.specs.SpoolTasks.{reading}
-use Rattle.mv_work.specs.Ran.{Leads, RanOut}
+use Rattle.mv_work.specs.Ran.{Leads, Ran}
 use Rattle.mv_work.specs.Spool.{SpoolFace}
 use Rattle.mv_work.proofs.Ranges.{next_done, last_left}
-use Rattle.mv_work.proofs.Runs.{leads_all, leads_done, out_done, served_few, served_ran, still_of}
+use Rattle.mv_work.proofs.Runs.{leads_all, leads_done, served_few, served_ran, still_of}
 use Rattle.mv_work.proofs.Spools.{fresh_rests}
 use Rattle.mv_work.proofs.spool.Spool.read.Goals as goal
 
@@ -44,6 +44,6 @@ pub returns : goal.returns
 returns g c =
     let s = c.args.self.now in
     let since = c.loop-job.invariant in
-    let out : RanOut (reading s.board.config (length s.jobs)) [] c.args.task.now c.loop-job.task =
-    out_done (leads_done (last_left (λ j. post s.board.config (entered j) 0) (finished []) c.loop-job.job (length s.jobs)
-    since.leads (omega arith)) since.quiet) in (out.ran.went.same, (c.requires.fresh.number, out))
+    let ran : Ran (reading s.board.config (length s.jobs)) (Done []) c.args.task.now c.loop-job.task =
+    leads_done (last_left (λ j. post s.board.config (entered j) 0) (finished []) c.loop-job.job (length s.jobs)
+    since.leads (omega arith)) since.quiet in (ran.went.same, (c.requires.fresh.number, ran))
