@@ -17,7 +17,7 @@ use mv_wait::WaitSlot;
 pub const MOST_BLOCKS: usize = 8;
 
 /// Blocks to wait for: until so many of the first `len` are complete.
-#[derive(Clone, Copy, Debug)]
+#[derive(Clone, Copy)]
 pub struct Blocks {
     pub count: u32,
     pub len: usize,
@@ -25,7 +25,7 @@ pub struct Blocks {
 }
 
 /// What a task waits for. Its wait is not refused in any run.
-#[derive(Clone, Copy, Debug)]
+#[derive(Clone, Copy)]
 pub enum Need {
     /// Some of these blocks are complete.
     Blocks(Blocks),
@@ -38,14 +38,14 @@ pub enum Need {
 }
 
 /// How the first `len` blocks were found.
-#[derive(Clone, Copy, Debug)]
+#[derive(Clone, Copy)]
 pub struct Slots {
     pub len: usize,
     pub of: [WaitSlot; MOST_BLOCKS],
 }
 
 /// What a task is told once its need is met.
-#[derive(Clone, Copy, Debug)]
+#[derive(Clone, Copy)]
 pub enum Got {
     Slots(Slots),
     /// The code of the block.
