@@ -41,7 +41,7 @@ use Rattle.mv_work.specs.Waiting.{Comes, Stages}
 abbrev pub jobs_of_records : List JobRecord → List ℕ
 jobs_of_records records = map (λ r. r.job) records
 
--- what follows a code that names a job, where so many more may be given
+-- what follows a code that names a job, if this many more may be given
 abbrev pub job_then : Setup → List JobData → ℕ → ℕ → List JobRecord → Token → Named → Call (List JobRecord)
 job_then c deck me more records next named =
     followed (job_noted c deck named) (λ r. rounds_noted c deck me more (records ++ r ∷ []) next)
@@ -70,7 +70,7 @@ abbrev pub steps_from : SpoolFace → Initiator → Running → ℕ → (ℕ →
 steps_from s me r place requests =
     followed (steps_noted s.board.config r.job requests place me.noted.notes (drop place (job_at s.jobs r.job).steps)) (steps_then s me r)
 
--- what is left to do behind the answer
+-- what is left to do after the answer
 abbrev pub initiator_left : SpoolFace → Initiator → InitiatorStage → Answer → Call (List JobRecord)
 initiator_left s me (Pause round) = on_gift (given_then s me (length s.jobs - round))
 initiator_left s me (Latch r) = on_grant (λ id. steps_from s me r r.step (with_at (requests_of r.requests) r.latch (Some id)))
@@ -91,13 +91,13 @@ steps_marks steps = sum_by step_marks steps
 abbrev pub steps_events : List Step → ℕ
 steps_events steps = sum_by step_events steps
 
--- so much of each job that was not given yet
+-- the sum over the jobs that were not given yet
 abbrev pub left_of : (JobData → ℕ) → List Bool → List JobData → ℕ
 left_of f (false ∷ given) (job ∷ jobs) = f job + left_of f given jobs
 left_of f (true ∷ given) (job ∷ jobs) = left_of f given jobs
 left_of f given jobs = 0
 
--- the events of the steps
+-- the events of the steps of the jobs that were not given yet
 abbrev pub events_left : List Bool → List JobData → ℕ
 events_left = left_of (λ job. steps_events job.steps)
 
@@ -113,7 +113,7 @@ marks_left = left_of job_marks
 abbrev pub rounds_due : SpoolFace → Initiator → ℕ → ℕ
 rounds_due s me round = 4 + 7 * (length s.jobs - round) + events_left me.given.items s.jobs
 
--- and behind the answer
+-- the events after the answer
 abbrev pub initiator_due : SpoolFace → Initiator → InitiatorStage → ℕ
 initiator_due s me (Pause round) = 1 + 7 * (length s.jobs - round) + events_left me.given.items s.jobs
 initiator_due s me (Latch r) = steps_events (drop r.step (job_at s.jobs r.job).steps) + 4 + rounds_due s me (r.round.number + 1)
@@ -167,13 +167,13 @@ IsInitiatorNeed s me (Pause round) (need.Pause token) = IsInitiating s me (Pause
 IsInitiatorNeed s me (Latch r) (need.Latch latch requestor mode) = IsInitiating s me (Latch r) × (latch ≡ r.latch)
 IsInitiatorNeed s me stage n = ⊥
 
--- and is told that
+-- the initiator was given the answer that its stage says
 abbrev pub IsInitiatorAnswer : SpoolFace → Initiator → InitiatorStage → Got → Type 0
 IsInitiatorAnswer s me (Pause round) (got.Given given) = IsInitiating s me (Pause round) × IsOwn me given.next
 IsInitiatorAnswer s me (Latch r) (got.Granted token) = IsInitiating s me (Latch r) × (token.latch ≡ r.latch)
 IsInitiatorAnswer s me stage g = ⊥
 
--- it came to its next wait, or to its end, as this initiator
+-- the initiator came to its next wait or to its end
 abbrev pub InitiatorComes : SpoolFace → Initiator → Call (List JobRecord) → CallerFace → Result (Next InitiatorStage) Lost → CallerFace
     → Type 0
 InitiatorComes s me whole t next u =

@@ -38,11 +38,11 @@ idles s = map (idle (length s.jobs)) (range_with_len 0 s.initiators)
 abbrev pub first_idle : SpoolFace → ℕ → Bool → Call (Unit {0})
 first_idle s j skipped = first_of s.board.config (idles s) (hand_over s.board.config (length s.jobs) (code_of j skipped))
 
--- and once its ends are known
+-- job j once the ends that it waits for are known: its exit is set
 abbrev pub exit_set : SpoolFace → ℕ → Bool → Call (Unit {0})
 exit_set s j skipped = accepted (extend s.board.config (done (length s.jobs) j) (j + 1)) (λ linked. first_idle s j skipped)
 
--- and once it was entered
+-- job j once it was entered
 abbrev pub entry_found : SpoolFace → ℕ → ℕ → ℕ → Call (Unit {0})
 entry_found s j position zero_code = ends_awaited s.board.config (length s.jobs) (job_at s.jobs j).after (exit_set s j)
 
@@ -50,11 +50,11 @@ entry_found s j position zero_code = ends_awaited s.board.config (length s.jobs)
 abbrev pub dismissal_found : SpoolFace → ℕ → ℕ → ℕ → Call (Unit {0})
 dismissal_found s m position generation = hand_over s.board.config (length s.jobs) 0 m generation
 
--- a job that is begun, and then those behind it
+-- job j, of which this is left, and then the jobs after it
 abbrev pub then_jobs : SpoolFace → ℕ → Call (Unit {0}) → Call (List ℕ)
 then_jobs s j call = followed call (λ handed. jobs_from s (j + 1))
 
--- what is left to do behind the answer
+-- what is left to do after the answer
 abbrev pub scheduler_left : SpoolFace → SchedulerStage → Answer → Call (List ℕ)
 scheduler_left s (Entry j) = on_slots (λ slots. then_jobs s j (lowest (entry_found s j) 0 slots))
 scheduler_left s (Ends j) = on_slots (λ slots. then_jobs s j (exit_set s j (some_end_above (job_at s.jobs j).after slots)))
@@ -67,7 +67,7 @@ scheduler_left s (Dismissal m) =
 abbrev pub jobs_due : SpoolFace → ℕ → ℕ
 jobs_due s j = 5 * (length s.jobs - j) + 2 * ((length s.jobs - j) * s.initiators) + 2 * after_parts (drop j s.jobs) + 4 * s.initiators
 
--- and behind the answer
+-- the events after the answer
 abbrev pub scheduler_due : SpoolFace → SchedulerStage → ℕ
 scheduler_due s (Entry j) = 3 + 2 * length (job_at s.jobs j).after + 2 * s.initiators + jobs_due s (j + 1)
 scheduler_due s (Ends j) = 3 + 2 * s.initiators + jobs_due s (j + 1)
@@ -92,13 +92,13 @@ block_count s (Ends j) = Some (length (job_at s.jobs j).after)
 block_count s (Idle j skipped) = Some s.initiators
 block_count s (Dismissal m) = None
 
--- so many blocks are needed
+-- the task waits for this many blocks, or for one
 abbrev pub AreBlocks : Option ℕ → Need → Type 0
 AreBlocks None (need.Block e) = Unit {0}
 AreBlocks (Some count) (need.Blocks b) = b.len ≡ count
 AreBlocks count n = ⊥
 
--- and told of
+-- this many blocks were found, or the code of one
 abbrev pub AreSlots : Option ℕ → Got → Type 0
 AreSlots None (got.Code code) = Unit {0}
 AreSlots (Some count) (got.Slots s) = (s.len ≡ count) × (s.len ≤ most_blocks)
@@ -110,15 +110,15 @@ pub record IsSchedulerNeed (s : SpoolFace) (stage : SchedulerStage) (n : Need) :
   pub blocks : AreBlocks (block_count s stage) n
   pub may : MayMeet s.board.config scheduler n
 
--- and is told that
+-- the scheduler was given the answer that its stage says
 pub record IsSchedulerAnswer (s : SpoolFace) (stage : SchedulerStage) (g : Got) : Type 0 where
   pub numbers : IsScheduled s stage
   pub slots : AreSlots (block_count s stage) g
 
--- it came to its next wait, or to its end
+-- the scheduler came to its next wait or to its end
 abbrev pub SchedulerComes : SpoolFace → Call (List ℕ) → CallerFace → Result (Next SchedulerStage) Lost → CallerFace → Type 0
 SchedulerComes s whole t next u = Comes s.board (scheduler_stages s) (IsSchedulerNeed s) [] whole t next u
 
--- this is what it asks for
+-- the scheduler asks for this
 abbrev pub SchedulerAsks : SpoolFace → Call (List ℕ) → ℕ → Next SchedulerStage → Type 0
 SchedulerAsks s later most next = Asks s.board.config (scheduler_stages s) (IsSchedulerNeed s) [] later most next

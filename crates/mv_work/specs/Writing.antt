@@ -20,7 +20,7 @@ use Rattle.mv_work.specs.Waiting.{Asks, Comes, Stages}
 abbrev pub room_in : Vec ℕ Global → ℕ
 room_in ends = vec_capacity ends - length ends.items
 
--- the ends of the jobs from j on, behind those that are kept
+-- the ends of the jobs from j on, after those that are kept
 abbrev pub ends_from : SpoolFace → List ℕ → ℕ → Call (List ℕ)
 ends_from s ends j = ends_kept s.board.config (length s.jobs) ends (range_with_len j (length s.jobs - j))
 
@@ -28,11 +28,11 @@ ends_from s ends j = ends_kept s.board.config (length s.jobs) ends (range_with_l
 abbrev pub end_found : SpoolFace → List ℕ → ℕ → ℕ → ℕ → Call (List ℕ)
 end_found s ends j position end = ends_from s (ends ++ end ∷ []) (j + 1)
 
--- what is left to do behind the answer
+-- what is left to do after the answer
 abbrev pub writer_left : SpoolFace → List ℕ → ℕ → Answer → Call (List ℕ)
 writer_left s ends j = on_slots (lowest (end_found s ends j) 0)
 
--- and how many events that may need
+-- the events after the answer
 abbrev pub writer_due : SpoolFace → ℕ → ℕ
 writer_due s j = 2 * (length s.jobs - (j + 1))
 
@@ -47,18 +47,18 @@ pub record IsWriterNeed (s : SpoolFace) (most j : ℕ) (need : Need) : Type 0 wh
   pub block : AreBlocks None need
   pub may : MayMeet s.board.config (writer s.initiators) need
 
--- and is told its code
+-- the writer was given the code of the block
 pub record IsWriterAnswer (s : SpoolFace) (most j : ℕ) (g : Got) : Type 0 where
   pub number : j < length s.jobs
   pub room : length s.jobs - j ≤ most
   pub slot : AreSlots None g
 
--- this is what it asks for, where it has these ends
+-- the writer, which has these ends, asks for this
 abbrev pub WriterAsks : SpoolFace → Vec ℕ Global → Call (List ℕ) → ℕ → Next ℕ → Type 0
 WriterAsks s ends later most next =
     Asks s.board.config (writer_stages s ends.items) (IsWriterNeed s (room_in ends)) ends.items later most next
 
--- it came to its next wait, or to its end, and has these ends
+-- the writer came to its next wait or to its end, and has these ends
 abbrev pub WriterComes : SpoolFace → Vec ℕ Global → Call (List ℕ) → CallerFace → Result (Next ℕ) Lost → CallerFace → Type 0
 WriterComes s ends whole t next u =
     Comes s.board (writer_stages s ends.items) (IsWriterNeed s (room_in ends)) ends.items whole t next u

@@ -1,4 +1,8 @@
-//! What a run came to, made of what its tasks brought back, and of what its board left. Clauses cite `specs/Recording.antt`.
+//! The outcome of a run, made of what its board and its tasks left. Clauses cite `specs/Recording.antt`.
+//!
+//! ```text
+//!   RunResults { closed, records, ends } ── the lines, made of the records ──> SpoolRun { history, records, ends, lines, volumes }
+//! ```
 
 ghost use Rattle.std.specs.Prelude.{◌≡◌, ◌≤◌, map, slice_index, IfOk};
 ghost use Rattle.std.specs.List.{range_with_len};
@@ -22,10 +26,10 @@ use mv_machine::History;
 use mv_report::Lines;
 use std::alloc::Global;
 
-/// What a run of a deck came to; what is said job by job stands in the order of the deck.
+/// The outcome of a run of a deck. Ends and lines are in the order of the deck's jobs.
 #[derive(Drop)]
 pub struct SpoolRun {
-    /// Its events, in order, with the configuration that it ran with.
+    /// The events of the run, in order, with the configuration that it ran with.
     pub history: History,
     /// What each initiator noted of the jobs that it ran.
     pub records: Vec<InitiatorRecord>,
@@ -48,13 +52,12 @@ fn volumes_of(alloc: Global, held: &[u32; VOLUME_COUNT]) -> Result<Vec<u32>, NoM
     Ok(volumes)
 }
 
-/// What a run of this deck came to, of what its board left and of what its tasks brought back: the
-/// ends are those that the writer waited for, and the lines are made of what the initiators noted. They are the deck's ends, lines
-/// and totals. Linear in the deck and in what was noted.
+/// The outcome of a run of this deck that left these results. The ends are those that the writer waited for, and the lines are made of
+/// what the initiators noted. They are the deck's ends, lines and totals. Linear in the deck and in the notes.
 ///
 /// # Errors
 ///
-/// `NoMemory` where there is no room for lines and volumes; what was handed over is dropped then.
+/// `NoMemory` if there is no room for lines and volumes. The results are dropped then.
 pub fn spool_run(
     alloc: Global,
     deck: &Deck,

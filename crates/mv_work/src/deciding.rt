@@ -1,5 +1,10 @@
-//! What the scheduler decides: the blocks of a wait, whether a job is to be run, and its code. Clauses cite the plan's
-//! `SpoolTasks.antt`, and `specs/Needs.antt`, `Parts.antt`.
+//! What the scheduler decides: the blocks of its waits, whether a job is to be run, and the job's code. Clauses cite the plan's
+//! `SpoolTasks.antt` and `specs/Parts.antt`.
+//!
+//! ```text
+//!   the jobs that AFTER names ── end_blocks ──> a wait ── some_above ──> whether the job is skipped ── job_code ──> its code
+//!   the initiators ───────────── idle_blocks ─> a wait ── first_in (finding.rt) ──> the initiator that is given the code
+//! ```
 
 ghost use Rattle.std.specs.Prelude.{◌≡◌, ◌<◌, ◌≤◌, length, map, take};
 ghost use Rattle.std.specs.List.{AllByRecursion, range_with_len};
@@ -55,7 +60,7 @@ fn is_above(part: After, slot: WaitSlot) -> bool
     }
 }
 
-/// The code that hands out a job, or tells that it is not to be run.
+/// The code that gives a job to an initiator, and says whether the job is to be run.
 pub(crate) fn job_code(job: u32, skipped: bool) -> u32
     requires { job ≤ jobs_limit }
     ensures code { result ≡ code_of job skipped }

@@ -1,4 +1,8 @@
 //! What a wait for the first of some blocks found. Clauses cite `specs/Parts.antt`.
+//!
+//! ```text
+//!   Open  Open  Complete(code)  Complete(..) ── first_in ──> Found { position: 2, code }
+//! ```
 
 ghost use Rattle.std.specs.Prelude.{◌≡◌, ◌<◌, length, IfOk, MatchResult};
 ghost use Rattle.mv_calls.specs.Program.{finished, wrong};

@@ -1,4 +1,9 @@
-//! What holds of the tasks that note, and of what the initiators of a run bring back (`specs/Noting.antt`, `Recording.antt`).
+//! Laws about initiators that note what they do, and about what the initiators of a run bring back (`specs/Noting.antt`,
+//! `specs/Recording.antt`).
+//!
+//! ```text
+//!   a run ── runs_record_each_job ──> one right record of each job ── records_give_the_lines ──> the lines of the deck
+//! ```
 
 ghost use Rattle.std.specs.Prelude.{◌≡◌, ◌≤◌, ◌↔◌, ℕ, List, []};
 ghost use Rattle.mv_calls.specs.Keeping.{Kept};
@@ -14,7 +19,7 @@ ghost use Rattle.mv_work.specs.Noting.{initiating_noted};
 ghost use Rattle.mv_work.specs.Recording.{AreBrought, AreRecorded, all_records, lines_recorded};
 ghost use Rattle.mv_work.specs.Records.{JobRecord};
 
-/// An initiator that notes makes the calls of the plan's initiator: it says the same events, and is done where the other is.
+/// An initiator that notes makes the calls of the plan's initiator: their traces are the same, and each is done exactly if the other is.
 pub fn initiators_note_what_they_do()
     ensures says { (c : Setup) (deck : List JobData) (i : ℕ) (kept : Kept) (hs : List Heard)
         → Says (initiating_noted c deck i kept) hs ↔ Says (initiating c deck i kept) hs }

@@ -1,4 +1,9 @@
 //! What an initiator notes of the jobs that it runs, in room that is taken before it starts. Clauses cite `specs/Records.antt`.
+//!
+//! ```text
+//!   marks:   Step   Step   Ended    Step   Ended    Step
+//!            └── one job ──────┘    └ the next ┘    └ the job that runs
+//! ```
 
 ghost use Rattle.std.specs.Prelude.{◌≡◌, ◌<◌, ◌≤◌, ◌-◌, ◌++◌, ◌∷◌, [], IfOk};
 
@@ -6,12 +11,12 @@ use mv_io::NoMemory;
 use std::alloc::Global;
 use std::marker::Model;
 
-/// What is noted of a step of a job, which is told by its place among the steps, from 0.
+/// A note of a step of a job. The steps are counted from 0.
 #[derive(Clone, Copy, Debug, PartialEq, Eq)]
 pub enum Noted {
-    /// A PRINT.
+    /// The step of this place printed.
     Printed(usize),
-    /// A SCAN, and the two numbers that it read.
+    /// The step scanned, and read these two numbers.
     Scanned {
         step: usize,
         first: u32,
@@ -19,7 +24,7 @@ pub enum Noted {
     },
 }
 
-/// A note, or the end of the job that the notes before it are of.
+/// A note, or the end of the job that the notes since the last end are of.
 #[derive(Clone, Copy, Debug)]
 pub(crate) enum Mark {
     Step(Noted),
@@ -45,11 +50,11 @@ impl Model for InitiatorRecord {
 }
 
 impl InitiatorRecord {
-    /// Room for so many notes and ends.
+    /// A record of no job, with room for this many notes and ends.
     ///
     /// # Errors
     ///
-    /// `NoMemory` where there is none.
+    /// `NoMemory` if memory runs out.
     pub fn with_room(alloc: Global, room: usize) -> Result<InitiatorRecord, NoMemory>
         ensures none { IfOk result (λ r. (r.jobs ≡ []) × (r.notes ≡ [])) }
         ensures room { IfOk result (λ r. room ≤ r.room) }
@@ -67,7 +72,7 @@ impl InitiatorRecord {
         self.marks.push_reserved(Mark::Step(noted));
     }
 
-    /// Notes the end of the job that runs: the notes since the last are its own.
+    /// Notes the end of the job that runs. The notes since the last end are its own.
     pub fn end(&mut self, job: u32, end: u32)
         requires room { 0 < self.old.room }
         ensures ended { self.new ≡ record {

@@ -1,4 +1,8 @@
 //! The lines of a run's jobs, made of what its initiators noted. Clauses cite `specs/Recording.antt`.
+//!
+//! ```text
+//!   the records ── each job that ended ── each of its notes ──> the line of the step, in the job's place
+//! ```
 
 ghost use Rattle.std.specs.Prelude.{◌≡◌, ◌++◌, [], fold, length, map, replicate, set, Some, IfOk};
 ghost use Rattle.mv_deck.specs.Deck.{deck_data, job_data};
@@ -12,7 +16,7 @@ use mv_io::NoMemory;
 use mv_report::{Lines, print_line, scan_line};
 use std::alloc::Global;
 
-// Adds the line of a PRINT, where the step is one.
+// Adds the line of a PRINT, if the step is one.
 fn push_printed(alloc: Global, texts: &mut Vec<Text>, step: &Step) -> Result<(), NoMemory>
     ensures { IfOk result (λ _. texts.new.items ≡ texts.old.items ++ lines_printed (Some step.now)) }
 {
@@ -22,7 +26,7 @@ fn push_printed(alloc: Global, texts: &mut Vec<Text>, step: &Step) -> Result<(),
     Ok(())
 }
 
-// Adds the line of a SCAN, where the step is one, by whether it read one number twice.
+// Adds the line of a SCAN, if the step is one. The line says whether it read one number twice.
 fn push_scanned(
     alloc: Global,
     texts: &mut Vec<Text>,
@@ -62,7 +66,7 @@ fn push_line(
     }
 }
 
-// The lines of what is noted of these steps.
+// The lines of the notes of these steps.
 fn lines_of_notes(alloc: Global, steps: &[Step], notes: &[Noted]) -> Result<Lines, NoMemory>
     ensures { IfOk result (λ lines. lines ≡ lines_of_notes steps.now notes.now) }
 {
@@ -73,7 +77,7 @@ fn lines_of_notes(alloc: Global, steps: &[Step], notes: &[Noted]) -> Result<Line
     Ok(Lines { texts })
 }
 
-// Puts the lines of a job of which this is noted in the job's place.
+// Puts the lines of a job with these notes in the job's place.
 fn put_lines(
     alloc: Global,
     jobs: &[Job],
@@ -117,7 +121,7 @@ fn put_all_lines(
     Ok(())
 }
 
-// No line of any of so many jobs.
+// One list for each job, all empty: no line has been made yet.
 fn no_lines(alloc: Global, jobs: usize) -> Result<Vec<Lines>, NoMemory>
     ensures { IfOk result (λ lines. lines.items ≡ replicate jobs []) }
 {
@@ -131,12 +135,12 @@ fn no_lines(alloc: Global, jobs: usize) -> Result<Vec<Lines>, NoMemory>
 }
 
 /// The lines of each job of a deck, in the order of the deck, made of what the initiators noted: a job's are those of its PRINT and
-/// SCAN steps that were noted, and a SCAN's line says whether it read one number twice. A job of which nobody noted the end has
-/// none. Linear in the deck and in what was noted.
+/// SCAN steps that were noted, and a SCAN's line says whether it read one number twice. A job whose end was not noted has none.
+/// Linear in the deck and in the notes.
 ///
 /// # Errors
 ///
-/// `NoMemory` where there is no room for the lines.
+/// `NoMemory` if there is no room for the lines.
 pub fn lines_recorded(
     alloc: Global,
     deck: &Deck,

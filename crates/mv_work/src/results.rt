@@ -1,4 +1,4 @@
-//! What a finished run leaves: its history, and what its tasks bring back. Clauses cite `specs/Works.antt`.
+//! The results of a finished run: its history, and what its tasks bring back. Clauses cite `specs/Works.antt`.
 //!
 //! ```text
 //!   the works of      reader   scheduler   initiator 0 .. i - 1   writer
@@ -13,7 +13,7 @@ use crate::records::InitiatorRecord;
 use crate::work::{Role, SpoolWork};
 use mv_board::Closed;
 
-/// What a finished run leaves.
+/// The results of a finished run.
 #[derive(Drop)]
 pub struct RunResults {
     /// What its board held when it was closed.
@@ -24,8 +24,8 @@ pub struct RunResults {
     pub ends: Vec<u32>,
 }
 
-/// The results of a run that was closed so, with what the initiators and the writer bring back. The works are those of all tasks, in
-/// the order of their numbers; the room is for the records.
+/// The results of a run whose board was closed so, with what the initiators and the writer bring back. The works are those of all
+/// tasks, in the order of their numbers. The records are put into `room`.
 pub fn results_of(closed: Closed, works: Vec<SpoolWork>, room: Vec<InitiatorRecord>) -> RunResults
     requires some { 0 < length works.items }
     requires writer { (d : _) → IsWriter (slice_index_or works.items (length works.items - 1) d).role }

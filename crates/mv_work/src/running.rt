@@ -44,7 +44,7 @@ pub(crate) struct Named {
     pub skipped: bool,
 }
 
-/// What a step came to.
+/// The outcome of a step.
 #[derive(Clone, Copy)]
 pub(crate) enum Did {
     /// It was done.
@@ -56,7 +56,7 @@ pub(crate) enum Did {
 }
 
 impl<G: Gate> Spool<'_, G> {
-    /// Does the steps of a job from the next on, up to one that obtains a latch; behind the last, ends the job.
+    /// Does the steps of a job from the next on, up to one that obtains a latch. After the last, ends the job.
     pub(crate) fn run_on<R: Wait>(
         &self,
         rt: &R,
@@ -148,7 +148,7 @@ impl<G: Gate> Spool<'_, G> {
         }
     }
 
-    /// The latch was granted: the steps behind the one that obtains it follow.
+    /// The latch was granted: does the steps after the USE that obtained it.
     pub(crate) fn on_granted<R: Wait>(
         &self,
         rt: &R,

@@ -1,5 +1,15 @@
-//! Where the scheduler and an initiator wait. Jobs and initiators are counted from 0. The writer waits for the end of a job, and the
+//! Where the scheduler and an initiator wait. Jobs and initiators are counted from 0. The writer's stage is the number of a job, and the
 //! reader never waits.
+//!
+//! ```text
+//!   stage                the task waits for                       need
+//!   Entry(job)           the entry of the job                     Block
+//!   Ends(job)            the ends of the jobs that AFTER names    Blocks
+//!   Idle(job, skipped)   the first initiator that is idle         Blocks
+//!   Dismissal(index)     this initiator, to be idle               Block
+//!   Pause(round)         a code                                   Pause
+//!   Latch(running)       the latch that a USE obtains             Latch
+//! ```
 
 ghost use Rattle.std.specs.Prelude.{◌≡◌, ◌+◌, ◌<◌, replicate, None};
 ghost use Rattle.mv_deck.specs.Operand.{volume_count};
