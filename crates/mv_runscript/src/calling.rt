@@ -1,57 +1,22 @@
 //! One call of a script, whichever it is (`specs/Making.antt`).
 
-ghost use Rattle.std.specs.Prelude.{◌≡◌, ◌<◌, ◌≤◌, ◌+◌, true, length, count_by, vec_capacity, IfSome, [], ◌∷◌, Option};
+ghost use Rattle.std.specs.Prelude.{◌≡◌, ◌<◌, ◌≤◌, ◌+◌, true, length, count_by, vec_capacity, [], ◌∷◌};
 ghost use Rattle.mv_board.specs.Faces.{IsOf};
-ghost use Rattle.mv_calls.specs.declared.table.Table.{Table};
 ghost use Rattle.mv_calls.specs.Rest.{IsAtRest};
 ghost use Rattle.mv_calls.specs.Table.{IsSoundTable};
 ghost use Rattle.mv_script.specs.Costs.{cost};
 ghost use Rattle.mv_script.specs.Fault.{obtain_meant};
 ghost use Rattle.mv_script.specs.Script.{is_obtain};
 ghost use Rattle.mv_script.specs.Sound.{IfThere};
-ghost use Rattle.mv_script.specs.declared.call.Call.TheVariants as call;
-ghost use Rattle.mv_latch.specs.Request.{posted_ecb};
-ghost use Rattle.mv_calls.specs.Services.{obtain_events};
 ghost use Rattle.mv_runscript.specs.Making.{MakesCall, AreOfLatches, HaveSlots, IsForScripts, is_wait, token_in, AreGoodIn};
 
 use crate::answered::obtained;
 use crate::serving::{serve, wait_in};
 use mv_calls::ValidTable;
-use mv_latch::{LatchForm, Mode};
 use mv_latchset::{LatchToken, ObtainRefusal, Obtained, obtain};
 use mv_script::{Answer, Call, Slots};
 use mv_wait::{Station, Task};
 use std::sync::Wait;
-use std::time::Clock;
-
-/// OBTAIN: the request that it gets, or none, stands behind those of the task's OBTAINs before.
-fn ask<R: Wait + Clock>(
-    rt: &R,
-    station: &Station,
-    task: &mut Task,
-    latch: u32,
-    requestor: u64,
-    mode: Mode,
-    form: LatchForm,
-    requests: &mut Vec<Option<LatchToken>>,
-) -> Answer
-    requires config { IsForScripts station.now.config }
-    requires task { IsOf station.now task.old }
-    requires rest { IsAtRest task.old.log }
-    requires block { IfSome (posted_ecb form) (λ e. e < length station.now.config.owners) }
-    requires left { obtain_events form ≤ task.old.left }
-    requires requests { AreOfLatches requests.old.items }
-    requires room { length requests.old.items < vec_capacity requests.old }
-    ensures makes { (table : Option Table) → MakesCall station.now.config table (call.Obtain latch requestor mode form) result
-        requests.old.items requests.new.items task.old task.new }
-    ensures requests { AreOfLatches requests.new.items }
-    ensures count { length requests.new.items ≡ length requests.old.items + 1 }
-    ensures capacity { vec_capacity requests.new ≡ vec_capacity requests.old }
-{
-    let outcome = obtain(station, rt, task, latch, requestor, mode, form);
-    requests.push_reserved(request_in(outcome));
-    obtained(outcome)
-}
 
 // The request that an obtain got, if it got one.
 fn request_in(outcome: Result<Obtained, ObtainRefusal>) -> Option<LatchToken>
@@ -64,8 +29,9 @@ fn request_in(outcome: Result<Obtained, ObtainRefusal>) -> Option<LatchToken>
     }
 }
 
-/// Makes a call of a task whose OBTAINs got these requests, and takes one of the rooms where it is a WAIT.
-pub(crate) fn make<R: Wait + Clock>(
+/// Makes a call of a task whose OBTAINs got these requests. A WAIT takes one of the rooms; an OBTAIN appends the request that it got,
+/// or `None`, to the requests.
+pub(crate) fn make<R: Wait>(
     rt: &R,
     station: &Station,
     task: &mut Task,
@@ -104,9 +70,11 @@ pub(crate) fn make<R: Wait + Clock>(
             requestor,
             mode,
             form,
-        } => ask(
-            rt, station, task, *latch, *requestor, *mode, *form, requests,
-        ),
+        } => {
+            let outcome = obtain(station, rt, task, *latch, *requestor, *mode, *form);
+            requests.push_reserved(request_in(outcome));
+            obtained(outcome)
+        }
         _ => serve(rt, station, task, table, call, requests),
     }
 }

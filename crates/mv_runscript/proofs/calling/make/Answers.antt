@@ -9,10 +9,10 @@ use Rattle.mv_script.specs.declared.call.Call.TheVariants as call
 use Rattle.mv_script.specs.Costs.{cost}
 use Rattle.mv_script.specs.Limits.{most_waited}
 use Rattle.mv_script.specs.Script.{is_obtain}
-use Rattle.mv_runscript.specs.Making.{AreGoodIn, HaveSlots, is_wait}
+use Rattle.mv_runscript.specs.Making.{AreGoodIn, HaveSlots, MakesCall, is_wait}
 use Rattle.mv_runscript.specs.Served.{Serves}
-use Rattle.mv_runscript.proofs.Makes.{plain_makes}
-use Rattle.mv_runscript.proofs.Obtains.{posts_there}
+use Rattle.mv_runscript.proofs.Makes.{known_makes, plain_makes}
+use Rattle.mv_runscript.proofs.Obtains.{latch_low, posts_there, requests_more, tokens_more}
 use Rattle.mv_runscript.proofs.calling.make.Goals as goal
 
 -- a WAIT
@@ -59,21 +59,40 @@ returns-in-Some-clause-rooms g c =
     omega arith
 
 -- an OBTAIN
-pub ask-requires-clause-block : goal.ask-requires-clause-block
-ask-requires-clause-block g c =
+pub obtain-outcome-requires-clause-block : goal.obtain-outcome-requires-clause-block
+obtain-outcome-requires-clause-block g c =
     let config = c.args.station.now.config in
     posts_there config c.args.table.now c.in-Obtain.form
     (subst (AreGoodIn config c.args.table.now) c.in-Obtain.is c.requires.numbers).1
 
-pub ask-requires-clause-left : goal.ask-requires-clause-left
-ask-requires-clause-left g c =
+pub obtain-outcome-requires-clause-left : goal.obtain-outcome-requires-clause-left
+obtain-outcome-requires-clause-left g c =
     subst (λ (d : Call). cost c.args.station.now.config d ≤ c.args.task.now.left) c.in-Obtain.is c.requires.left
 
-pub ask-requires-clause-room : goal.ask-requires-clause-room
-ask-requires-clause-room g c = c.requires.room (ap is_obtain c.in-Obtain.is)
+pub push_reserved-requires : goal.push_reserved-requires
+push_reserved-requires g c =
+    let room = c.requires.room (ap is_obtain c.in-Obtain.is) in omega arith
+
+pub returns-in-Obtain-clause-makes : goal.returns-in-Obtain-clause-makes
+returns-in-Obtain-clause-makes g c =
+    subst (λ (d : Call). MakesCall c.args.station.now.config c.args.table.now d c.obtained.result c.args.requests.now.items
+    c.push_reserved.new.self.items c.args.task.now c.obtain-outcome.new.task) (sym c.in-Obtain.is)
+    (known_makes refl c.obtained.ensures c.obtain-outcome.ensures.served
+    (requests_more c.in-Obtain.latch c.obtain-outcome.result c.request_in.result c.args.requests.now.items c.push_reserved.new.self.items
+    c.obtain-outcome.ensures.latch c.request_in.ensures c.push_reserved.ensures.items))
+
+pub returns-in-Obtain-clause-requests : goal.returns-in-Obtain-clause-requests
+returns-in-Obtain-clause-requests g c =
+    let asked = c.in-Obtain in
+    tokens_more asked.latch c.obtain-outcome.result c.request_in.result c.args.requests.now.items c.push_reserved.new.self.items
+    c.obtain-outcome.ensures.latch c.request_in.ensures c.push_reserved.ensures.items
+    (latch_low c.args.station.now.config asked.latch asked.requestor asked.mode asked.form c.args.task.now c.obtain-outcome.new.task
+    c.obtain-outcome.result c.requires.config c.obtain-outcome.ensures.causes)
+    c.requires.requests
 
 pub returns-in-Obtain-clause-count : goal.returns-in-Obtain-clause-count
 returns-in-Obtain-clause-count g c =
     let one = ap (λ (d : Call). count_by is_obtain (d ∷ [])) c.in-Obtain.is in
-    let count = c.ask.ensures.count in
+    let put = ap length c.push_reserved.ensures.items in
+    let more = length-append c.args.requests.now.items (c.request_in.result ∷ []) in
     omega arith
