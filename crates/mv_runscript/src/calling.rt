@@ -17,6 +17,7 @@ use mv_latchset::{LatchToken, ObtainRefusal, Obtained, obtain};
 use mv_script::{Answer, Call, Slots};
 use mv_wait::{Station, Task};
 use std::sync::Wait;
+use std::time::Clock;
 
 // The request that an obtain got, if it got one.
 fn request_in(outcome: Result<Obtained, ObtainRefusal>) -> Option<LatchToken>
@@ -31,7 +32,7 @@ fn request_in(outcome: Result<Obtained, ObtainRefusal>) -> Option<LatchToken>
 
 /// Makes a call of a task whose OBTAINs got these requests. A WAIT takes one of the rooms; an OBTAIN appends the request that it got,
 /// or `None`, to the requests.
-pub(crate) fn make<R: Wait>(
+pub(crate) fn make<R: Wait + Clock>(
     rt: &R,
     station: &Station,
     task: &mut Task,
