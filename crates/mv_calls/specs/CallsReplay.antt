@@ -14,7 +14,7 @@ use Rattle.mv_calls.specs.declared.judge.Judge.{Judge}
 use Rattle.mv_calls.specs.Judge.{HasJudged}
 use Rattle.mv_calls.specs.Numbers.{calls}
 
--- two lists are one up to a place, and have other numbers there
+-- Two lists agree before `index`; there the first has x, and the second has y, another number.
 pub record IsFirstOther (xs ys : List ℕ) (index x y : ℕ) : Type 0 where
   pub same : take index xs ≡ take index ys
   pub one : slice_get xs index ≡ Some x

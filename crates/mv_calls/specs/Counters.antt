@@ -8,18 +8,19 @@ use Rattle.mv_machine.specs.Setup.{Setup}
 use Rattle.mv_machine.specs.Told.{last_wakes}
 use Rattle.mv_calls.specs.declared.counters.CallCounters.{CallCounters}
 use Rattle.mv_calls.specs.declared.counting.Counter.{Counter}
-use Rattle.mv_calls.specs.Numbers.{Numbering, unnumbered, kept_after, calls}
+use Rattle.mv_calls.specs.Numbers.{Numbering, unnumbered, numbering_after, calls}
 
 -- the pending blocks lie with the first on top
 abbrev pub numbering_of : Counter → Numbering
 numbering_of x = record { group = x.group; pending = reverse x.pending.items; last = x.last }
 
--- what is kept of each caller
-abbrev pub counted : List Counter → ℕ → Numbering
-counted xs k = slice_index_or (map numbering_of xs) k unnumbered
+-- what is kept of caller k
+abbrev pub numbering_at : List Counter → ℕ → Numbering
+numbering_at xs k = slice_index_or (map numbering_of xs) k unnumbered
 
--- No more blocks are ever pending of a caller: one that was posted, those of the wakes of one event, and for each exit the seven by which
--- its targets may be more than its source
+-- How many blocks may be pending of a caller: one that was posted, those of the wakes of one event, and the targets of exits that lie
+-- within one another. The sources of such exits rise, so each exit is among them once: of the innermost up to eight targets are left, of
+-- each other up to seven.
 abbrev pub pending_room : Setup → ℕ
 pending_room c = 1 + c.callers * c.posted_quota + 7 * length c.exits
 
@@ -30,7 +31,7 @@ HasRoom c x = pending_room c ≤ vec_capacity x.pending
 -- the counters stand behind these entries: of each caller is kept what its numbering keeps, with room for what may be pending
 pub record HasCounted (c : Setup) (es : List Entry) (x : CallCounters) : Type 0 where
   pub valid : IsValid c
-  pub kept : counted x.counters.items ≡ kept_after c es
+  pub kept : numbering_at x.counters.items ≡ numbering_after c es
   pub callers : length x.counters.items ≡ c.callers
   pub room : All (HasRoom c) x.counters.items
 

@@ -122,14 +122,14 @@ wakes_at s k object op = []
 abbrev pub numbered_at : Setup → System → (ℕ → Numbering) → Entry → Numbering
 numbered_at c s table e = numbered c (table e.caller) e (wakes_at s e.caller e.object e.op)
 
--- what is kept of each caller after these
-abbrev pub kept_from : Setup → System → (ℕ → Numbering) → List Entry → ℕ → Numbering
-kept_from c s table [] = table
-kept_from c s table (e ∷ es) = kept_from c (next s e) (with_at table e.caller (numbered_at c s table e)) es
+-- the numbering of each caller after these entries, from this one of each on
+abbrev pub numbering_from : Setup → System → (ℕ → Numbering) → List Entry → ℕ → Numbering
+numbering_from c s table [] = table
+numbering_from c s table (e ∷ es) = numbering_from c (next s e) (with_at table e.caller (numbered_at c s table e)) es
 
--- and after a history
-abbrev pub kept_after : Setup → List Entry → ℕ → Numbering
-kept_after c es = kept_from c (opening c) (λ k. unnumbered) es
+-- the numbering of each caller after a history
+abbrev pub numbering_after : Setup → List Entry → ℕ → Numbering
+numbering_after c es = numbering_from c (opening c) (λ k. unnumbered) es
 
 -- each entry's number, where this is kept of each caller
 abbrev pub calls_from : Setup → System → (ℕ → Numbering) → List Entry → List ℕ

@@ -48,7 +48,7 @@ abbrev pub IsGuarded : (Op → Bool) → ℕ → Object → List Entry → Type 
 IsGuarded kind latch o es = (before later : List Entry) (e : Entry) → es ≡ before ++ e ∷ later → e.object ≡ o → kind e.op ≡ true
     → HoldsAlone latch e.caller before
 
--- the events of this kind on the object are caller k's, and made under a request that holds its latch alone
+-- Each event of this kind on the object is caller k's. If the request is a shared one, there is none.
 abbrev pub AreOwn : (Op → Bool) → Object → ℕ → StandingRequest → List Entry → Type 0
 AreOwn kind o k t es =
     AllByRecursion (λ e. e.object ≡ o → kind e.op ≡ true → (e.caller ≡ k) × (t.request.mode ≡ Exclusive)) es

@@ -3,7 +3,7 @@
 
 ghost use Rattle.std.specs.Prelude.{◌≡◌, ◌<◌, ◌≤◌, ◌-◌, ◌^◌, [], List, All, length, vec_capacity, IfOk};
 ghost use Rattle.mv_machine.specs.declared.entry.Entry.{Entry as AnyEntry};
-ghost use Rattle.mv_calls.specs.Counters.{counted, HasCounted, IsCountable, IsCountedNext};
+ghost use Rattle.mv_calls.specs.Counters.{numbering_at, HasCounted, IsCountable, IsCountedNext};
 ghost use Rattle.mv_calls.specs.Numbers.{unnumbered};
 
 use crate::counting::{Counter, pending_room};
@@ -22,7 +22,7 @@ pub struct CallCounters {
 // What is kept of each caller before its first entry.
 fn new_counters(alloc: Global, callers: u32, room: usize) -> Result<Vec<Counter>, NoMemory>
     ensures callers { IfOk result (λ xs. length xs.items ≡ callers) }
-    ensures start { IfOk result (λ xs. counted xs.items ≡ (λ _. unnumbered)) }
+    ensures start { IfOk result (λ xs. numbering_at xs.items ≡ (λ _. unnumbered)) }
     ensures room { IfOk result (λ xs. All (λ x. room ≤ vec_capacity x.pending) xs.items) }
 {
     let mut counters = Vec::new(alloc);

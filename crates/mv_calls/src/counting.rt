@@ -83,8 +83,7 @@ fn push_wakes(stack: &mut Vec<u32>, wakes: &[Wake])
     }
 }
 
-// How many blocks may be pending of a caller: that of a post, those of the wakes of one event, and seven more for each exit, which has at
-// most eight targets, all above its source.
+// How many blocks may be pending of a caller: that of a post, those of the wakes of one event, and seven for each exit (`pending_room`).
 pub(crate) fn pending_room(config: &ValidConfig) -> usize
     ensures { result ≡ pending_room config.now }
 {

@@ -14,9 +14,10 @@ ghost use Rattle.mv_machine.specs.Owned.{IsGranted};
 ghost use Rattle.mv_machine.specs.Setup.{Setup};
 ghost use Rattle.mv_calls.specs.Sections.{IsHolder, IsSection, IsGuarded, AreOwn, is_write, tells_grant};
 
-/// Mutual exclusion. Who by its own entries holds a latch, and was purged by nobody, holds it, and so throughout its section; two
-/// that hold one latch at a moment, of which one holds it alone, are one; and while a caller holds a latch alone no other caller's
-/// request of it is told granted. A request was not purged where no other caller's entry takes it out.
+/// Mutual exclusion. A caller whose own entries show a granted request holds the latch, unless another caller purged the request, and
+/// holds it throughout its section (`holds`). If two callers hold one latch at one moment, one of them exclusively, they are one caller,
+/// with one request (`one`). While a caller holds a latch exclusively, no other caller's entry shows a grant of it (`alone`). A request
+/// that no other caller's entry takes out was not purged (`kept`).
 pub fn holders_exclude()
     ensures holds { (c : Setup) (k : ℕ) (t : StandingRequest) (before inside : List Entry) → Legal c (before ++ inside)
         → IsSection k t before inside → IsGranted k t.latch t.request.id (after c (before ++ inside)) }

@@ -17,8 +17,8 @@ use Rattle.mv_machine.proofs.Merged.{caller_there}
 use Rattle.mv_machine.proofs.Replays.{last_wakes_from-append, shown_is}
 use Rattle.mv_calls.specs.declared.counters.CallCounters.{CallCounters}
 use Rattle.mv_calls.specs.declared.counting.Counter.{Counter}
-use Rattle.mv_calls.specs.Counters.{numbering_of, counted, HasRoom, IsCountable, IsCountedNext}
-use Rattle.mv_calls.specs.Numbers.{Numbering, unnumbered, numbered, numbered_at, kept_from, kept_after, calls, calls_from}
+use Rattle.mv_calls.specs.Counters.{numbering_of, numbering_at, HasRoom, IsCountable, IsCountedNext}
+use Rattle.mv_calls.specs.Numbers.{Numbering, unnumbered, numbered, numbered_at, numbering_from, numbering_after, calls, calls_from}
 use Rattle.mv_calls.proofs.call_numbers.Kept.{counted-read, numbered_so, one_counted, round_low}
 use Rattle.mv_calls.proofs.call_numbers.Pending.{pending_fit}
 
@@ -44,15 +44,15 @@ stepped_wakes c es e s shown ws n was showed is =
 
 -- what is kept with one entry more
 kept_more : (c : Setup) (s : System) (table : ℕ → Numbering) (es : List Entry) (e : Entry)
-    → kept_from c s table (es ++ e ∷ []) ≡ with_at (kept_from c s table es) e.caller
-    (numbered_at c (after_from s es) (kept_from c s table es) e)
+    → numbering_from c s table (es ++ e ∷ []) ≡ with_at (numbering_from c s table es) e.caller
+    (numbered_at c (after_from s es) (numbering_from c s table es) e)
 kept_more c s table [] e = refl
 kept_more c s table (x ∷ es) e = kept_more c (next s x) (with_at table x.caller (numbered_at c s table x)) es e
 
 -- its number comes behind the others
 pub calls_more : (c : Setup) (s : System) (table : ℕ → Numbering) (es : List Entry) (e : Entry)
     → calls_from c s table (es ++ e ∷ []) ≡ calls_from c s table es
-    ++ (numbered_at c (after_from s es) (kept_from c s table es) e).group ∷ []
+    ++ (numbered_at c (after_from s es) (numbering_from c s table es) e).group ∷ []
 calls_more c s table [] e = refl
 calls_more c s table (x ∷ es) e =
     ap (λ ns. (numbered_at c s table x).group ∷ ns)
@@ -60,7 +60,7 @@ calls_more c s table (x ∷ es) e =
 
 -- no group number is above the number of entries
 kept_low : (c : Setup) (s : System) (table : ℕ → Numbering) (es : List Entry) (i : ℕ) → ((k : ℕ) → (table k).group ≤ i) → (k : ℕ)
-    → (kept_from c s table es k).group ≤ i + length es
+    → (numbering_from c s table es k).group ≤ i + length es
 kept_low c s table [] i low k = omega (arith, low k)
 kept_low c s table (e ∷ es) i low k =
     omega (arith, kept_low c (next s e) (with_at table e.caller (numbered_at c s table e)) es (i + 1) (round_low c s table e i low) k)
@@ -75,7 +75,7 @@ module _ (c : Setup) (es : List Entry) (e : Entry) (ws : List Wake) (x : CallCou
   pub countable_low : length es < 2 ^ 32 - 1 → (old : Counter) → old ≡ get_or x.counters.items e.caller old → old.group < 2 ^ 32 - 1
   countable_low few old is =
       let low = kept_low c (opening c) (λ k. unnumbered) es 0 (λ k. omega arith) e.caller in
-      let here : (counted x.counters.items e.caller).group < 2 ^ 32 - 1 =
+      let here : (numbering_at x.counters.items e.caller).group < 2 ^ 32 - 1 =
       subst (λ (t : ℕ → Numbering). (t e.caller).group < 2 ^ 32 - 1) (sym h.counted.kept) (omega (arith, low, few)) in
       subst (λ (t : Numbering). t.group < 2 ^ 32 - 1) (counted-read x.counters.items e.caller old countable_there is) here
 
@@ -86,16 +86,16 @@ module _ (c : Setup) (es : List Entry) (e : Entry) (ws : List Wake) (x : CallCou
 
   -- so its caller's counter becomes what its numbering becomes
   numbered_there : (old : Counter) → old ≡ get_or x.counters.items e.caller old
-      → numbered c (numbering_of old) e ws ≡ numbered_at c (after c es) (kept_after c es) e
+      → numbered c (numbering_of old) e ws ≡ numbered_at c (after c es) (numbering_after c es) e
   numbered_there old is =
       numbered_so c (after c es) (last_wakes c es) ws x.counters.items e old (last_is_next c es e h.legal) countable_there is told
       ∙ ap (λ (t : ℕ → Numbering). numbered_at c (after c es) t e) h.counted.kept
 
   -- which is kept of it then
-  kept_there : kept_after c (es ++ e ∷ []) e.caller ≡ numbered_at c (after c es) (kept_after c es) e
+  kept_there : numbering_after c (es ++ e ∷ []) e.caller ≡ numbered_at c (after c es) (numbering_after c es) e
   kept_there =
       ap (λ (t : ℕ → Numbering). t e.caller) (kept_more c (opening c) (λ k. unnumbered) es e)
-      ∙ ap (λ b. if b then numbered_at c (after c es) (kept_after c es) e else kept_after c es e.caller) (eq-eqb e.caller e.caller refl)
+      ∙ ap (λ b. if b then numbered_at c (after c es) (numbering_after c es) e else numbering_after c es e.caller) (eq-eqb e.caller e.caller refl)
 
   has_room : (old : Counter) → old ≡ get_or x.counters.items e.caller old → HasRoom c old
   has_room old is =
@@ -114,12 +114,12 @@ module _ (c : Setup) (es : List Entry) (e : Entry) (ws : List Wake) (x : CallCou
       → numbering_of new ≡ numbered c (numbering_of old) e ws → vec_capacity new.pending ≡ vec_capacity old.pending
       → IsCountedNext c es e n y
   counted_more y old new n is written number becomes room =
-      let same : n ≡ (numbered_at c (after c es) (kept_after c es) e).group =
+      let same : n ≡ (numbered_at c (after c es) (numbering_after c es) e).group =
       number ∙ ap (λ (t : Numbering). t.group) (numbered_there old is) in
       record {
         counted = record {
           valid = h.counted.valid;
-          kept = ap (λ (xs : List Counter). counted xs) written
+          kept = ap (λ (xs : List Counter). numbering_at xs) written
               ∙ one_counted c (after c es) (last_wakes c es) ws x.counters.items e old new (last_is_next c es e h.legal) countable_there is
               told becomes
               ∙ ap (λ (t : ℕ → Numbering). with_at t e.caller (numbered_at c (after c es) t e)) h.counted.kept

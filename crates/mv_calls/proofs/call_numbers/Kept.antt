@@ -15,18 +15,18 @@ use Rattle.mv_machine.specs.State.{table}
 use Rattle.mv_machine.specs.System.{System, admitted, wakes_after, with_at}
 use Rattle.mv_machine.proofs.Tables.{table-set}
 use Rattle.mv_calls.specs.declared.counting.Counter.{Counter}
-use Rattle.mv_calls.specs.Counters.{numbering_of, counted}
+use Rattle.mv_calls.specs.Counters.{numbering_of, numbering_at}
 use Rattle.mv_calls.specs.declared.counting.Last.{Last}
 use Rattle.mv_calls.specs.Numbers.{Numbering, unnumbered, numbered, numbered_at, wakes_at, asked, kept_pending, continues, group_after}
 
 -- a counter that is written
-pub counted-set : (xs : List Counter) (n : ℕ) (x : Counter) → n < length xs → counted (set xs n x) ≡ with_at (counted xs) n (numbering_of x)
+pub counted-set : (xs : List Counter) (n : ℕ) (x : Counter) → n < length xs → numbering_at (set xs n x) ≡ with_at (numbering_at xs) n (numbering_of x)
 counted-set xs n x lt =
     ap (λ ys. table (λ (t : Numbering). t) unnumbered ys) (map-set numbering_of xs n x)
     ∙ table-set (λ (t : Numbering). t) unnumbered (map numbering_of xs) n (numbering_of x) (rw (length-map xs numbering_of) lt)
 
 -- a counter that is read
-pub counted-read : (xs : List Counter) (n : ℕ) (x : Counter) → n < length xs → x ≡ get_or xs n x → counted xs n ≡ numbering_of x
+pub counted-read : (xs : List Counter) (n : ℕ) (x : Counter) → n < length xs → x ≡ get_or xs n x → numbering_at xs n ≡ numbering_of x
 counted-read xs n x lt at = get_or-map numbering_of xs n x unnumbered lt ∙ ap numbering_of (sym at)
 
 -- the wakes are asked of events on the latch set alone
@@ -46,13 +46,13 @@ asked_same c s shown k (Volume e) op reply a = refl
 -- what is kept of the caller with one more entry
 pub numbered_so : (c : Setup) (s : System) (shown ws : List Wake) (xs : List Counter) (e : Entry) (old : Counter) → IsNext c s e
     → e.caller < length xs → old ≡ get_or xs e.caller old → ws ≡ wakes_after c s shown e.caller e.object e.op
-    → numbered c (numbering_of old) e ws ≡ numbered_at c s (counted xs) e
+    → numbered c (numbering_of old) e ws ≡ numbered_at c s (numbering_at xs) e
 numbered_so c s shown ws xs e old n lt at told =
     ap (λ t. numbered c t e ws) (sym (counted-read xs e.caller old lt at))
-    ∙ (ap (λ x. numbered c (counted xs e.caller) e x) told
-    ∙ ap (λ ps. record (numbered c (counted xs e.caller) e []) {
+    ∙ (ap (λ x. numbered c (numbering_at xs e.caller) e x) told
+    ∙ ap (λ ps. record (numbered c (numbering_at xs e.caller) e []) {
       pending = ps ++ kept_pending
-          (counted xs e.caller).pending e.object e.op;
+          (numbering_at xs e.caller).pending e.object e.op;
     }) (asked_same c s shown e.caller e.object e.op e.reply n.admits))
 
 -- and of all
@@ -60,10 +60,10 @@ pub one_counted : (c : Setup) (s : System) (shown ws : List Wake) (xs : List Cou
     → e.caller < length xs
     → old ≡ get_or xs e.caller old → ws ≡ wakes_after c s shown e.caller e.object e.op
     → numbering_of new ≡ numbered c (numbering_of old) e ws
-    → counted (set xs e.caller new) ≡ with_at (counted xs) e.caller (numbered_at c s (counted xs) e)
+    → numbering_at (set xs e.caller new) ≡ with_at (numbering_at xs) e.caller (numbered_at c s (numbering_at xs) e)
 one_counted c s shown ws xs e old new n lt at told is =
     counted-set xs e.caller new lt
-    ∙ ap (λ t. with_at (counted xs) e.caller t) (is ∙ numbered_so c s shown ws xs e old n lt at told)
+    ∙ ap (λ t. with_at (numbering_at xs) e.caller t) (is ∙ numbered_so c s shown ws xs e old n lt at told)
 
 -- ---- how high the numbers are
 

@@ -31,7 +31,7 @@ use Rattle.mv_machine.proofs.Reaches.{LeadsUp, all_good, all_lead_up}
 use Rattle.mv_machine.proofs.Replays.{legal_push}
 use Rattle.mv_calls.specs.Counters.{pending_room}
 use Rattle.mv_calls.specs.Exits.{NamesOwnExit}
-use Rattle.mv_calls.specs.Numbers.{Numbering, unnumbered, asked, kept_pending, numbered_at, wakes_at, kept_from, kept_after}
+use Rattle.mv_calls.specs.Numbers.{Numbering, unnumbered, asked, kept_pending, numbered_at, wakes_at, numbering_from, numbering_after}
 use Rattle.mv_calls.proofs.Posting.{exits_are_own, starts}
 use Rattle.mv_calls.proofs.Wakes.{few_wakes_post}
 
@@ -173,7 +173,7 @@ low_at c false t u lt lu = lu
 
 -- behind some entries, and as many more
 from_there : (c : Setup) (before es : List Entry) (table : ℕ → Numbering) → IsValid c → Legal c before → LegalFrom c (after c before) es
-    → ((k : ℕ) → AreLow c (table k).pending) → (k : ℕ) → AreLow c (kept_from c (after c before) table es k).pending
+    → ((k : ℕ) → AreLow c (table k).pending) → (k : ℕ) → AreLow c (numbering_from c (after c before) table es k).pending
 from_there c before [] table v l f low k = low k
 from_there c before (e ∷ es) table v l f low k =
     let now : Numbering = numbered_at c (after c before) table e in
@@ -181,14 +181,14 @@ from_there c before (e ∷ es) table v l f low k =
     let asks : AreLow c now.pending =
     entry_asks c (table e.caller).pending e.object e.op e.reply (wakes_at (after c before) e.caller e.object e.op) v
     (exits_are_own c before e l f.0) (few_wakes c before e.caller e.object e.op l) (low e.caller) in
-    subst (λ (s : System). AreLow c (kept_from c s (with_at table e.caller now) es k).pending) one
+    subst (λ (s : System). AreLow c (numbering_from c s (with_at table e.caller now) es k).pending) one
     (from_there c (before ++ e ∷ []) es (with_at table e.caller now) v (legal_push c (opening c) before e l f.0)
     (subst (λ (s : System). LegalFrom c s es) (sym one) f.1) (λ j. low_at c (j == e.caller) now (table j) asks (low j)) k)
 
 -- so those of each caller have room
-pub pending_fit : (c : Setup) (es : List Entry) (k : ℕ) → IsValid c → Legal c es → length (kept_after c es k).pending ≤ pending_room c
+pub pending_fit : (c : Setup) (es : List Entry) (k : ℕ) → IsValid c → Legal c es → length (numbering_after c es k).pending ≤ pending_room c
 pending_fit c es k v l =
-    low_fit c (kept_after c es k).pending (from_there c [] es (λ j. unnumbered) v tt l (λ j. tt) k)
+    low_fit c (numbering_after c es k).pending (from_there c [] es (λ j. unnumbered) v tt l (λ j. tt) k)
 
 -- ---- the blocks of wakes, from the last wake on
 
