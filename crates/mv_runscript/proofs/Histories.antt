@@ -21,7 +21,7 @@ use Rattle.mv_wait.specs.Run.{Went}
 use Rattle.mv_wait.proofs.Runs.{went_then, served_runs}
 use Rattle.mv_script.specs.declared.answer.Answer.{Answer}
 use Rattle.mv_script.specs.Costs.{costs_of}
-use Rattle.mv_script.specs.Run.{word_in, taken, entries_before, IsMet}
+use Rattle.mv_script.specs.Run.{word_in, taken_count, entries_before, IsMet}
 use Rattle.mv_script.specs.Script.{ScriptData}
 use Rattle.mv_script.specs.Tasks.{Moves, no_past, named_table, made_all, calls_at, task_program}
 use Rattle.mv_runscript.specs.Making.{past_with, MakesCalls}
@@ -34,8 +34,8 @@ new_at_rest = record { armed = λ n. refl; parked = λ n. refl; queued = λ latc
 
 -- a program that is done on some events takes just these
 pub taken_is : {A : Type 0} (p : Program A) (xs ys : List Heard) (a : A) → Says p xs → left p xs ≡ Done a
-    → taken p (xs ++ ys) ≡ length xs
-taken_is p [] ys a says done = ap (λ q. taken q ys) done
+    → taken_count p (xs ++ ys) ≡ length xs
+taken_is p [] ys a says done = ap (λ q. taken_count q ys) done
 taken_is (Do o op next) (x ∷ xs) ys a says done = omega (arith, taken_is (next x) xs ys a says.1 done)
 taken_is (Done b) (x ∷ xs) ys a says done = absurd (cc says.0)
 taken_is Early (x ∷ xs) ys a says done = absurd (cc says.0)
@@ -107,9 +107,9 @@ module _ (script : ScriptData) (moves : Moves) (es : List Entry) (k : ℕ) (answ
       heard_went (first.events ++ (own.0 ++ r.later))
       (went_then first.events (own.0 ++ r.later) t r.before u first.went later) in
       let entries_is : entries_before script moves es k i ≡ length first.events =
-      ap (λ hs. taken (made_all script.setup (named_table script.table) (moves k) no_past (take i (calls_at script k)) (nothing_kept k))
+      ap (λ hs. taken_count (made_all script.setup (named_table script.table) (moves k) no_past (take i (calls_at script k)) (nothing_kept k))
       hs) heard
-      ∙ ap (λ kept. taken (made_all script.setup (named_table script.table) (moves k) no_past (take i (calls_at script k)) kept)
+      ∙ ap (λ kept. taken_count (made_all script.setup (named_table script.table) (moves k) no_past (take i (calls_at script k)) kept)
       (first.events ++ (own.0 ++ r.later)))
       (sym begun)
       ∙ taken_is (made_all script.setup (named_table script.table) (moves k) no_past (take i (calls_at script k))

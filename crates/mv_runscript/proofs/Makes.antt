@@ -22,7 +22,7 @@ use Rattle.mv_script.specs.declared.call.Call.{Call}
 use Rattle.mv_script.specs.Answered.{answer_to}
 use Rattle.mv_script.specs.Costs.{Asked, service_of, cost}
 use Rattle.mv_script.specs.Fault.{obtain_meant}
-use Rattle.mv_script.specs.Run.{tried, word_in}
+use Rattle.mv_script.specs.Run.{try_target, word_in}
 use Rattle.mv_script.specs.Script.{is_obtain}
 use Rattle.mv_script.specs.Tasks.{Past, request_of, lacks_request, requests_with, served, named_table, made}
 use Rattle.mv_script.proofs.Suffices.{suffices}
@@ -145,7 +145,7 @@ module _ (c : Setup) (table : Option Table) (d : Call) (k : ℕ) (tokens : List 
 
 pub missed_makes : {c : Setup} {table : Option Table} {d : Call} {o : Object} {expected : ℕ} {moved : Moved}
     {tokens : List (Option LatchToken)} {t u : CallerFace}
-    → tried d ≡ Some (o, expected) → IsAtRest t.log → Missed t o expected moved u
+    → try_target d ≡ Some (o, expected) → IsAtRest t.log → Missed t o expected moved u
     → MakesCall c table d (answer.Moved moved.0) tokens tokens t u
 missed_makes {c} {table} {d} {o} {expected} {moved} {tokens} {t} {u} tries quiet missed = record {
   served = λ answers. serves (cost c d) (made c (named_table table) (Some moved.0) (past_with answers tokens) d)

@@ -17,7 +17,7 @@ use Rattle.mv_script.specs.declared.call.Call.{Call}
 use Rattle.mv_script.specs.declared.call.Call.TheVariants as call
 use Rattle.mv_script.specs.Costs.{Asked, cost}
 use Rattle.mv_script.specs.Limits.{elements_per_task, volumes, latches, most_waited}
-use Rattle.mv_script.specs.Run.{tried, word_in}
+use Rattle.mv_script.specs.Run.{try_target, word_in}
 use Rattle.mv_script.specs.Sound.{IfThere, HasGoodNumbers, IsSoundCall, AreSoundCalls}
 use Rattle.mv_script.specs.Tasks.{Past, named_table, made}
 
@@ -83,12 +83,12 @@ HaveSlots rooms = AllByRecursion (λ (slots : List WaitSlot). most_waited ≤ le
 pub record HasMet (call : Call) (w : ℕ) (t u : CallerFace) : Type 0 where
   pub object : Object
   pub expected : ℕ
-  pub tries : tried call ≡ Some (object, expected)
+  pub tries : try_target call ≡ Some (object, expected)
   pub other : w ≡ expected → ⊥
   pub met : u.met ≡ t.met ++ record { object = object; word = w; after = length t.log } ∷ []
 
--- The call was made and answered so, whatever was answered before: it did what a call of a script's task does, and if it shows a
--- word, then that one was met.
+-- After any earlier answers the task did what `made` says of this call, whether or not it met another word, and its past is longer by this
+-- answer and, for an OBTAIN, by its request. A word that the answer shows was met in this call.
 pub record MakesCall (c : Setup) (table : Option Table) (call : Call) (answer : Answer) (old new : List (Option LatchToken))
     (t u : CallerFace) : Type 0 where
   pub served : (answers : List Answer)

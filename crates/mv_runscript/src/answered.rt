@@ -184,7 +184,7 @@ pub(crate) fn entered(outcome: Result<EventAnswer, PostEventRefusal>) -> Answer
     }
 }
 
-/// An EVNEXT. Nor is a slot's code strange.
+/// An EVNEXT. No slot of a script's table has a code that is no index, so the last arm never comes.
 pub(crate) fn handed_out(outcome: Result<Event, NextRefusal>) -> Answer
     ensures { result ≡ done_or found (next_answer outcome) }
 {

@@ -21,7 +21,7 @@ use Rattle.mv_script.specs.declared.statement.Statement.{Statement}
 use Rattle.mv_script.specs.declared.statement.Statement.TheVariants as statement
 use Rattle.mv_script.specs.declared.words.Misread.TheVariants.{NoForm, BadNumber}
 use Rattle.mv_script.specs.Limits.{most_tasks, most_targets, most_waited, highest_count, highest_latch, elements_per_task, volumes}
-use Rattle.mv_script.specs.Operand.{passed, number, below, task_count, task, ecb, element, volume, latch, count, ecb_code}
+use Rattle.mv_script.specs.Operand.{passed, number, below, number_of_tasks, task, ecb, element, volume, latch, count, ecb_code}
 use Rattle.mv_script.specs.Operand.{release_code, place, any_number, requestor, is_point, parted, token, or_hyphen, mode, conditional}
 use Rattle.mv_script.specs.Operand.{event, event_position, event_count, position_count}
 use Rattle.mv_script.specs.Sound.{IsEcb, IsElement, IsToken, IfThere, HasEcb, HasGoodNumbers, IsGoodStatement}
@@ -141,9 +141,9 @@ some_tasks : (n : ℕ) → is_within 1 most_tasks n ≡ true → (1 ≤ n) × (n
 some_tasks n e = (grind arith, grind arith)
 
 -- one to eight tasks
-tasks_good : (word : List ℕ) → IfRead (λ t. (1 ≤ t) × (t ≤ most_tasks)) (task_count word)
+tasks_good : (word : List ℕ) → IfRead (λ t. (1 ≤ t) × (t ≤ most_tasks)) (number_of_tasks word)
 tasks_good word =
-    less (λ t. is_within 1 most_tasks t ≡ true) (λ t. (1 ≤ t) × (t ≤ most_tasks)) (task_count word) some_tasks
+    less (λ t. is_within 1 most_tasks t ≡ true) (λ t. (1 ≤ t) × (t ≤ most_tasks)) (number_of_tasks word) some_tasks
     (number_passes (is_within 1 most_tasks) word)
 
 module _ (z : Sizes) where
@@ -342,9 +342,9 @@ module _ (z : Sizes) where
 
   stated_good : (word : List ℕ) (words : List (List ℕ)) → IfRead GoodLine (stated z word words)
   stated_good word words =
-      chosen GoodLine (bytes_eq word (codes "SCRIPT")) (making (λ t. statement.Script t) (one task_count words)) _
-      (made GoodLine (λ t. statement.Script t) (one task_count words)
-      (of_one (λ t. (1 ≤ t) × (t ≤ most_tasks)) task_count tasks_good words))
+      chosen GoodLine (bytes_eq word (codes "SCRIPT")) (making (λ t. statement.Script t) (one number_of_tasks words)) _
+      (made GoodLine (λ t. statement.Script t) (one number_of_tasks words)
+      (of_one (λ t. (1 ≤ t) × (t ≤ most_tasks)) number_of_tasks tasks_good words))
       (chosen GoodLine (bytes_eq word (codes "ECB")) (making (λ k. statement.Ecb k) (one (task z) words)) _
       (made GoodLine (λ k. statement.Ecb k) (one (task z) words)
       (of_one (λ k. k < z.tasks) (task z) (λ word. below_limit z.tasks word) words))

@@ -40,10 +40,10 @@ use Rattle.mv_script.specs.declared.call.Call.TheVariants as call
 use Rattle.mv_script.specs.declared.operand.Sizes.{Sizes}
 use Rattle.mv_script.specs.Answered.{refused, answer_to}
 use Rattle.mv_script.specs.Costs.{Asked, service_of}
-use Rattle.mv_script.specs.Events.{IsEntered, IsHandedOut, IsToldInOrder, AreToldInOrder, AreHandedOut, EventsAreHandedOut}
+use Rattle.mv_script.specs.Events.{IsEntered, ReportsEvent, IsToldInOrder, AreToldInOrder, AreHandedOut, EventsAreHandedOut}
 use Rattle.mv_script.specs.Fault.{obtain_meant}
 use Rattle.mv_script.specs.Operand.{event_count}
-use Rattle.mv_script.specs.Run.{tried, IsScriptRun, past_in, task_answers, script_answers}
+use Rattle.mv_script.specs.Run.{try_target, IsScriptRun, past_in, task_answers, script_answers}
 use Rattle.mv_script.specs.Script.{ScriptData}
 use Rattle.mv_script.specs.Sound.{IfThere, HasGoodNumbers, AreSoundCalls, IsSound, sizes_of}
 use Rattle.mv_script.specs.Table.{is_block_if_any, posts_block, is_event_requestor, uses, uses_any}
@@ -144,7 +144,7 @@ module _ (done : List Completion) where
   refused_post index code (refusal.Broken count) m h = h
   refused_post index code why m h = absurd m
 
-  refused_next : (position : ℕ) (why : Refusal) → RefusesNext why → MayCome why → IsHandedOut done position (refused why)
+  refused_next : (position : ℕ) (why : Refusal) → RefusesNext why → MayCome why → ReportsEvent done position (refused why)
   refused_next position refusal.NotOwner m h = tt
   refused_next position refusal.Drained m h = tt
   refused_next position (refusal.Strange index) m h = h
@@ -167,7 +167,7 @@ module _ (done : List Completion) where
 
     taken_told : (position : ℕ) (a : Result Finding Refusal) → IsDoneOn (service.program c (service.NextEvent t position) kept) hs a
         → AllByRecursion (IsAnswered done) (deed_of t (service.NextEvent t position) a)
-        → IsHandedOut done position (answer_to (service.NextEvent t position) a)
+        → ReportsEvent done position (answer_to (service.NextEvent t position) a)
     taken_told position (Ok found) w h =
         let x : IsAnswered done (Takes position (Ok found)) = (own_deed (Takes position (Ok found)) h).0 in
         (x.0, x.1, x.2.index, x.2.word)
@@ -183,7 +183,7 @@ module _ (done : List Completion) where
     service_told asked d a w h = tt
 
   -- a call that asks no service is none on the table
-  try_told : (d : Call) (a : Answer) (x : Object × ℕ) → tried d ≡ Some x → IsToldInOrder done d a
+  try_told : (d : Call) (a : Answer) (x : Object × ℕ) → try_target d ≡ Some x → IsToldInOrder done d a
   try_told (call.PostEvent index code) a x is = absurd (cc is)
   try_told (call.NextEvent position) a x is = absurd (cc is)
   try_told d a x is = tt
@@ -221,7 +221,7 @@ module _ (done : List Completion) where
     }
 
     one_call : (m : Option ℕ) (past next : Past) (d : Call) (kept : Kept) (piece : List Heard) → uses t d ≡ false → IsOfTable t d
-        → ((w : ℕ) → m ≡ Some w → (x : Object × ℕ) × (tried d ≡ Some x)) → AreOthers t past.requests
+        → ((w : ℕ) → m ≡ Some w → (x : Object × ℕ) × (try_target d ≡ Some x)) → AreOthers t past.requests
         → IsDoneOn (made c t m past d kept) piece next → IsOne kept piece d past next
     one_call (Some w) past next d kept piece e own tries o is =
         let r = done_is (answered past (answer.Moved w)) piece next is in
@@ -294,7 +294,7 @@ module _ (done : List Completion) where
     -- a word was met by tries alone
     abbrev AreTries : (ℕ → Option ℕ) → ℕ → List Call → Type 0
     AreTries moved n calls = (j w : ℕ) → moved (n + j) ≡ Some w
-        → (d : Call) × (slice_get calls j ≡ Some d) × ((x : Object × ℕ) × (tried d ≡ Some x))
+        → (d : Call) × (slice_get calls j ≡ Some d) × ((x : Object × ℕ) × (try_target d ≡ Some x))
 
     all_calls : (z : Sizes) → z.table ≡ Some t → (moved : ℕ → Option ℕ) (before calls : List Call) (past end : Past) (kept : Kept)
         (k : ℕ) (hs : List Heard) → kept.caller ≡ k → AreOthers t past.requests → AreSoundCalls z before calls
@@ -336,9 +336,9 @@ module _ (done : List Completion) where
                 (subst (AllByRecursion (IsAnswered done)) (deeds_on one.served rest.served) h)),
           );
         } where
-          here : (e : Call) × (slice_get (d ∷ calls) 0 ≡ Some e) × ((x : Object × ℕ) × (tried e ≡ Some x))
-              → (x : Object × ℕ) × (tried d ≡ Some x)
-          here h = let same : d ≡ h.0 = cc h.1 in (h.2.0, ap tried same ∙ h.2.1)
+          here : (e : Call) × (slice_get (d ∷ calls) 0 ≡ Some e) × ((x : Object × ℕ) × (try_target e ≡ Some x))
+              → (x : Object × ℕ) × (try_target d ≡ Some x)
+          here h = let same : d ≡ h.0 = cc h.1 in (h.2.0, ap try_target same ∙ h.2.1)
 
 -- ---- one for each number below a limit
 
@@ -396,7 +396,7 @@ module _ (script : ScriptData) (moves : Moves) (es : List Entry) (sound : IsSoun
       sym a.adds ∙ sym (ap (λ (p : Program Past). (past_in p).answers) f.1) in
       (a.served, (a.goes, a.spare, λ h. subst (AreToldInOrder done (calls_at script k)) answers (a.told h))) where
         tries : (j w : ℕ) → moves k j ≡ Some w
-            → (d : Call) × (slice_get (calls_at script k) j ≡ Some d) × ((x : Object × ℕ) × (tried d ≡ Some x))
+            → (d : Call) × (slice_get (calls_at script k) j ≡ Some d) × ((x : Object × ℕ) × (try_target d ≡ Some x))
         tries j w met =
             let m = run.met k j w (omega (arith, lt, same_count)) met in (m.call, m.made, ((m.object, m.expected), m.tries))
 

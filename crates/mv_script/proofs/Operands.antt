@@ -5,7 +5,7 @@ use Rattle.std.specs.Prelude.{nat_lt}
 use Rattle.mv_line.specs.Byte.{is_within}
 use Rattle.mv_line.specs.Number.{is_digits, number_of, within}
 use Rattle.mv_script.specs.declared.words.Misread.TheVariants.{NoForm, BadNumber}
-use Rattle.mv_script.specs.Operand.{passed, below, task_count}
+use Rattle.mv_script.specs.Operand.{passed, below, number_of_tasks}
 use Rattle.mv_script.specs.Words.{Read}
 
 -- what is told of a number, where there is one
@@ -55,5 +55,5 @@ no_count : (n : ℕ) → nat_lt n 9 ≡ false → is_within 1 8 n ≡ false
 no_count n e = grind arith
 
 -- a number of tasks is one below 9 that is not 0
-pub counted_tasks : (word : List ℕ) → task_count word ≡ filtered (is_within 1 8) (below 9 word)
+pub counted_tasks : (word : List ℕ) → number_of_tasks word ≡ filtered (is_within 1 8) (below 9 word)
 counted_tasks word = stricter (λ n. nat_lt n 9) (is_within 1 8) no_count (is_digits word) (number_of word)

@@ -26,17 +26,17 @@ IsEntered done index code a = ⊥
 
 -- The next event at a position: where one is told, it is the completion there, with the complete word of its code. It may be refused
 -- since the task is not the table's owner, or the table has no such position, and is told nothing else.
-abbrev pub IsHandedOut : List Completion → (position : ℕ) → Answer → Type 0
-IsHandedOut done position (answer.Event index word) =
+abbrev pub ReportsEvent : List Completion → (position : ℕ) → Answer → Type 0
+ReportsEvent done position (answer.Event index word) =
     (x : Completion) × (slice_get done position ≡ Some x) × (index ≡ x.index) × (word ≡ completion_bit + x.code)
-IsHandedOut done position answer.NotOwner = Unit {0}
-IsHandedOut done position answer.Drained = Unit {0}
-IsHandedOut done position a = ⊥
+ReportsEvent done position answer.NotOwner = Unit {0}
+ReportsEvent done position answer.Drained = Unit {0}
+ReportsEvent done position a = ⊥
 
 -- what a call is told, if it is one on the table
 abbrev pub IsToldInOrder : List Completion → Call → Answer → Type 0
 IsToldInOrder done (call.PostEvent index code) a = IsEntered done index code a
-IsToldInOrder done (call.NextEvent position) a = IsHandedOut done position a
+IsToldInOrder done (call.NextEvent position) a = ReportsEvent done position a
 IsToldInOrder done c a = Unit {0}
 
 -- each of a task's calls is told one thing

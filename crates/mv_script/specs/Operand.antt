@@ -33,8 +33,8 @@ abbrev pub below : ℕ → List ℕ → Read ℕ
 below limit word = number (λ n. nat_lt n limit) word
 
 -- how many tasks a script has
-abbrev pub task_count : List ℕ → Read ℕ
-task_count word = number (is_within 1 most_tasks) word
+abbrev pub number_of_tasks : List ℕ → Read ℕ
+number_of_tasks word = number (is_within 1 most_tasks) word
 
 -- a task, an event control block and an element that the script has so far
 abbrev pub task : Sizes → List ℕ → Read ℕ

@@ -19,20 +19,20 @@ use Rattle.mv_script.specs.Tasks.{Past, no_past, made_all, named_table, calls_at
 -- ---- words that were met
 
 -- the object of a try, and the word that it expects there
-abbrev pub tried : Call → Option (Object × ℕ)
-tried (call.TryPost ecb place code) = Some (Ecb ecb, zero_at place)
-tried (call.TryRelease token place code) = Some (Element token.element, reset_at token.generation place)
-tried _ = None
+abbrev pub try_target : Call → Option (Object × ℕ)
+try_target (call.TryPost ecb place code) = Some (Ecb ecb, zero_at place)
+try_target (call.TryRelease token place code) = Some (Element token.element, reset_at token.generation place)
+try_target _ = None
 
 -- how many of the events that are heard a program takes until it is done
-abbrev pub taken : {A : Type 0} → Program A → List Heard → ℕ
-taken (Do o op next) (h ∷ hs) = 1 + taken (next h) hs
-taken p hs = 0
+abbrev pub taken_count : {A : Type 0} → Program A → List Heard → ℕ
+taken_count (Do o op next) (h ∷ hs) = 1 + taken_count (next h) hs
+taken_count p hs = 0
 
 -- how many entries of a task's part of a history its first i calls made
 abbrev pub entries_before : ScriptData → Moves → List Entry → ℕ → ℕ → ℕ
 entries_before script moves es k i =
-    taken (made_all script.setup (named_table script.table) (moves k) no_past (take i (calls_at script k)) (nothing_kept k))
+    taken_count (made_all script.setup (named_table script.table) (moves k) no_past (take i (calls_at script k)) (nothing_kept k))
     (heard_in script.setup k es)
 
 -- In this history, call i of task k tried an object and met this word there. It is not the word that was expected, and the object
@@ -42,7 +42,7 @@ pub record IsMet (script : ScriptData) (moves : Moves) (es : List Entry) (k i w 
   pub made : slice_get (calls_at script k) i ≡ Some call
   pub object : Object
   pub expected : ℕ
-  pub tries : tried call ≡ Some (object, expected)
+  pub tries : try_target call ≡ Some (object, expected)
   pub other : w ≡ expected → ⊥
   pub had : Had script.setup es k (entries_before script moves es k i) object w
 
@@ -82,7 +82,7 @@ word_in _ = None
 abbrev pub moves_in : List (List Answer) → Moves
 moves_in answers k i = option_and_then word_in (answer_at answers k i)
 
--- what a try answers: that another word was met, if one was, and this where the object had the word that it expected
+-- MOVED with the word that was met, if one was; otherwise this answer
 abbrev pub unless_moved : Option ℕ → Answer → Answer
 unless_moved None a = a
 unless_moved (Some w) a = Moved w

@@ -15,7 +15,7 @@ use Rattle.mv_script.specs.declared.statement.Statement.TheVariants as statement
 use Rattle.mv_script.specs.declared.words.Misread.TheVariants.{NoForm}
 use Rattle.mv_script.specs.declared.operand.Sizes.{Sizes}
 use Rattle.mv_script.specs.Limits.{most_targets, most_waited}
-use Rattle.mv_script.specs.Operand.{task_count, task, ecb, volume, latch, count, ecb_code, release_code, place, any_number, requestor}
+use Rattle.mv_script.specs.Operand.{number_of_tasks, task, ecb, volume, latch, count, ecb_code, release_code, place, any_number, requestor}
 use Rattle.mv_script.specs.Operand.{element, token, or_hyphen, mode, conditional, event, event_position, table_size, table_with}
 use Rattle.mv_script.specs.Words.{Read, making, both, each, none, one, two, three, led_by}
 
@@ -118,7 +118,7 @@ statement_behind_head z word words =
 -- a line by its first word
 abbrev pub stated : Sizes → List ℕ → List (List ℕ) → Read Statement
 stated z word words =
-    if bytes_eq word (codes "SCRIPT") then making (λ t. statement.Script t) (one task_count words)
+    if bytes_eq word (codes "SCRIPT") then making (λ t. statement.Script t) (one number_of_tasks words)
     else if bytes_eq word (codes "ECB") then making (λ k. statement.Ecb k) (one (task z) words)
     else if bytes_eq word (codes "EXIT") then exit z words
     else if bytes_eq word (codes "TABLE") then making (λ t. statement.Table t) (table z words)

@@ -62,7 +62,7 @@ abbrev pub served : Past → (s : Service) → service.Answer s → Past
 served past s a = record { answers = past.answers ++ answer_to s a ∷ []; requests = requests_with past.requests s a }
 
 -- A call. A try for which another word was met answers MOVED, and a CHECK or FREE whose OBTAIN got no request NOTOKEN: these two
--- make no event. Any other call is its service's.
+-- make no event. Any other call is its service's. `Some w` is given only for a try: `IsMet` of Run says so.
 abbrev pub made : Setup → Table → Option ℕ → Past → Call → program.Call Past
 made c t (Some w) past call = finished (answered past (Moved w))
 made c t None past call =

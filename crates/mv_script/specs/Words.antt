@@ -8,12 +8,12 @@ use Rattle.mv_script.specs.declared.words.Misread.TheVariants.{NoForm, BadNumber
 abbrev pub Read : Type 0 → Type 0
 Read A = Result A Misread
 
--- of two reasons it is that words fit no form, where one of them is
+-- of two reasons: no form, if one of them is that; otherwise a bad number
 abbrev pub worse : Misread → Misread → Misread
 worse NoForm other = NoForm
 worse BadNumber other = other
 
--- the reason so far, if there is one, and one more
+-- the reason so far, if any, joined with one more
 abbrev pub worsened : Option Misread → Misread → Misread
 worsened None why = why
 worsened (Some before) why = worse before why

@@ -2,7 +2,7 @@
 
 ghost use Rattle.std.specs.Prelude.{◌≡◌, ◌≤◌, ◌^◌};
 ghost use Rattle.mv_script.specs.Limits.{most_tasks};
-ghost use Rattle.mv_script.specs.Operand.{below as reads_below, task_count as reads_task_count, task as reads_task};
+ghost use Rattle.mv_script.specs.Operand.{below as reads_below, number_of_tasks as reads_task_count, task as reads_task};
 ghost use Rattle.mv_script.specs.Operand.{ecb as reads_ecb, element as reads_element, volume as reads_volume};
 ghost use Rattle.mv_script.specs.Operand.{latch as reads_latch, count as reads_count, ecb_code as reads_ecb_code};
 ghost use Rattle.mv_script.specs.Operand.{table_size as reads_table_size, event as reads_event, event_position as reads_event_position};

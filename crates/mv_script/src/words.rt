@@ -16,7 +16,7 @@ pub(crate) enum Misread {
     BadNumber,
 }
 
-/// Of two reasons it is that words fit no form, where one of them is.
+/// Of two reasons: no form, if one of them is that; otherwise a bad number.
 pub(crate) fn worse(why: Misread, other: Misread) -> Misread
     ensures { result ≡ worse_of why other }
 {
@@ -26,7 +26,7 @@ pub(crate) fn worse(why: Misread, other: Misread) -> Misread
     }
 }
 
-/// The reason so far, if there is one, and one more.
+/// The reason so far, if any, joined with one more.
 pub(crate) fn worsened(before: Option<Misread>, why: Misread) -> Misread
     ensures { result ≡ worsened before why }
 {
