@@ -1,4 +1,4 @@
--- Words for one request.
+-- Predicates on one request.
 use Rattle.std.specs.Prelude.{ℕ, ◌==◌, Bool, true, false, ◌&&◌, Option, Some, None}
 use Rattle.mv_latch.specs.declared.request.Mode.{Mode}
 use Rattle.mv_latch.specs.declared.request.Mode.TheVariants.{Shared, Exclusive}
@@ -7,53 +7,53 @@ use Rattle.mv_latch.specs.declared.request.LatchForm.TheVariants.{Conditional, W
 use Rattle.mv_latch.specs.declared.request.Request.{Request}
 use Rattle.mv_latch.specs.declared.operation.Wake.{Wake}
 
--- whether a mode is the shared one
+-- whether a mode is Shared
 abbrev pub is_shared : Mode → Bool
 is_shared Shared = true
 is_shared Exclusive = false
 
--- whether a request that is not granted at once is queued
+-- whether a request of this form is queued if it is not granted at once
 abbrev pub queues : LatchForm → Bool
 queues Conditional = false
 queues Waiting = true
 queues (Posted ecb) = true
 
--- whether an ECB is posted at the grant
+-- whether a request of this form has an ECB posted at its grant
 abbrev pub is_posted : LatchForm → Bool
 is_posted Conditional = false
 is_posted Waiting = false
 is_posted (Posted ecb) = true
 
--- the ECB that is posted at the grant
+-- the ECB that a request of this form has posted at its grant, if any
 abbrev pub posted_ecb : LatchForm → Option ℕ
 posted_ecb Conditional = None
 posted_ecb Waiting = None
 posted_ecb (Posted ecb) = Some ecb
 
--- a request that shares its latch
+-- whether a request is a shared one
 abbrev pub shared_request : Request → Bool
 shared_request q = is_shared q.mode
 
--- the request of this number
+-- whether a request has this number
 abbrev pub has_id : ℕ → Request → Bool
 has_id id q = q.id == id
 
--- a request of this caller
+-- whether a request was made by this caller
 abbrev pub of_caller : ℕ → Request → Bool
 of_caller caller q = q.caller == caller
 
--- a request of this caller in the Posted form
+-- whether a request was made by this caller in the Posted form
 abbrev pub posted_of : ℕ → Request → Bool
 posted_of caller q = (q.caller == caller) && is_posted q.form
 
--- the request of this number, where this caller made it
+-- whether a request has this number and was made by this caller
 abbrev pub is_own : ℕ → ℕ → Request → Bool
 is_own caller id q = (q.id == id) && (q.caller == caller)
 
--- a request of this requestor
+-- whether a request is for this requestor
 abbrev pub of_requestor : ℕ → Request → Bool
 of_requestor requestor q = q.requestor == requestor
 
--- the wake that tells of a request, with this code
+-- the wake for a request, with this code
 abbrev pub wake_of : ℕ → Request → Wake
 wake_of code q = record { caller = q.caller; id = q.id; ecb = posted_ecb q.form; code = code }

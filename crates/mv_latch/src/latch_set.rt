@@ -1,5 +1,5 @@
-//! A latch set and its operations. Clauses cite `specs/LatchSet.antt` and `specs/Latch.antt`; what is kept between calls is
-//! `specs/Inside.antt`.
+//! A latch set and its operations. Clauses cite `specs/LatchSet.antt` and `specs/Latch.antt`; `specs/Inside.antt` has the
+//! invariant and what contracts see of a set.
 
 ghost use Rattle.std.specs.Prelude.{◌≡◌, ◌<◌, ◌≤◌, ◌*◌, ◌+◌, ◌^◌, ◌↔◌, ◌++◌, map, length, vec_len, vec_capacity};
 ghost use Rattle.std.specs.Prelude.{IsTrue, IsSome, IfSome, OnSome, IfNone, IfOk};
@@ -18,7 +18,9 @@ use crate::selection::Selection;
 use std::alloc::{AllocError, Global};
 use std::marker::Model;
 
-/// The lists of requests of a set of latches. Contracts see them with the quotas of the callers. A new set is what ISGLCRT makes.
+/// A set of latches: a list of requests for each latch, and the quotas of the callers.
+///
+/// Contracts see all of these as `LatchLists`. A new set is what ISGLCRT makes.
 #[derive(Drop)]
 pub struct LatchSet {
     lists: Vec<Vec<Request>>,
@@ -40,9 +42,11 @@ impl Model for LatchSet {
 }
 
 impl LatchSet {
-    /// A set of latches, numbered from 0, that nobody asks for, with all room that its later calls use: each
-    /// list takes `callers * quota` requests. Callers are numbered from 0. Each has at most `quota` requests in
-    /// all lists together, and at most `posted` of them in the Posted form.
+    /// Makes a set of latches without a request.
+    ///
+    /// Latches and callers are numbered from 0. A caller has at most `quota` requests in all lists together, at most `posted` of
+    /// them in the Posted form. All memory is taken here: each list has room for `callers * quota` requests, so no later call can
+    /// run out of it.
     ///
     /// # Errors
     ///
@@ -70,8 +74,10 @@ impl LatchSet {
         })
     }
 
-    /// The requests of a latch, in the order of their arrival. Those that hold it come first: the first alone where it is
-    /// exclusive, else the longest front of shared ones. That order is this project's own.
+    /// Returns the requests of a latch, in the order of their arrival.
+    ///
+    /// Those that hold the latch come first: only the first request if it is exclusive, otherwise the longest prefix of shared
+    /// ones. That order is this project's own.
     pub fn requests(&self, latch: u32) -> &[Request]
         requires { latch < length self.now.lists }
         ensures { result.now ≡ list_of self.now.lists latch }
@@ -79,7 +85,7 @@ impl LatchSet {
         &self.lists[latch as usize]
     }
 
-    /// How a caller's request of this number stands, as the operation Confirm answers it: Granted, Waiting, or Gone. Nothing
+    /// Returns the state of a caller's request of this number, as the operation Confirm does: Granted, Waiting, or Gone. Nothing
     /// changes.
     pub fn confirm(&self, caller: u32, latch: u32, id: u32) -> LatchReply
         requires { latch < length self.now.lists }
@@ -88,7 +94,7 @@ impl LatchSet {
         confirm(self.requests(latch), caller, id)
     }
 
-    // An obtain within the quotas.
+    // Obtains a latch for a caller that is within its quotas.
     fn obtain(&mut self, latch: u32, request: Request) -> LatchReply
         requires latch { latch < length self.old.lists }
         requires caller { request.caller < self.old.callers }
@@ -103,7 +109,7 @@ impl LatchSet {
         obtain(list, request)
     }
 
-    // A release, with its wakes behind those that are there.
+    // Releases a request, and appends its wakes to `wakes`.
     fn release(
         &mut self,
         latch: u32,
@@ -125,7 +131,7 @@ impl LatchSet {
         release(list, caller, id, conditional, wakes)
     }
 
-    // A purge, with its wakes behind those that are there.
+    // Purges a requestor, and appends the wakes to `wakes`.
     fn purge(&mut self, requestor: u64, wakes: &mut Vec<Wake>) -> LatchReply
         requires { vec_len wakes.old + self.old.callers * self.old.quota ≤ vec_capacity wakes.old }
         ensures lists { self.new ≡ record self.old { lists = map (purged requestor) self.old.lists } }
@@ -150,7 +156,7 @@ impl LatchSet {
         count_in_all(&self.lists, selection)
     }
 
-    // Whether a caller may make one more request of this form.
+    // Whether the quotas allow a caller one more request of this form.
     fn is_within_quotas(&self, caller: u32, form: LatchForm) -> bool
         ensures { result ≡ is_within_quotas caller form self.now }
     {
@@ -165,7 +171,7 @@ impl LatchSet {
         }
     }
 
-    // Whether an operation of a caller is admitted.
+    // Whether a caller's operation is admitted: its latch exists, and an obtain is within the quotas.
     fn admits(&self, caller: u32, op: LatchOp) -> bool
         ensures { result ≡ latch_admitted caller op self.now }
     {
@@ -180,7 +186,7 @@ impl LatchSet {
         }
     }
 
-    // An admitted operation, with its wakes behind those that are there.
+    // Makes an admitted operation, and appends its wakes to `wakes`.
     fn step(&mut self, caller: u32, id: u32, op: LatchOp, wakes: &mut Vec<Wake>) -> LatchReply
         requires caller { caller < self.old.callers }
         requires new_id { IsNewId id self.old.lists }
@@ -217,17 +223,19 @@ impl LatchSet {
         }
     }
 
-    /// One operation of a caller, its reply, and in `wakes` who is to be told of what it did, after the latch
-    /// services ISGLOBT, ISGLREL and ISGLPRG of *z/OS MVS Programming: Authorized Assembler Services Guide*. A new request has the
-    /// number `id`. `None` where the operation is not admitted: its latch does not exist, or an obtain's caller has used up its
-    /// quota of requests, or of requests in the Posted form. It never waits and needs no memory: `wakes` comes with room for
-    /// `callers * quota` of them. A purge goes over all lists, any other operation over one.
+    /// Makes one operation of a caller, returns its reply, and lists in `wakes` the callers to notify of what it did.
+    ///
+    /// Returns `None`, and changes nothing, if the operation is not admitted: its latch does not exist, or an obtain's caller has
+    /// used up its quota of requests, or of requests in the Posted form. A new request gets the number `id`. The call never waits
+    /// and takes no memory: the caller gives `wakes` room for `callers * quota` entries. A purge goes over all lists, any other
+    /// operation over one. The operations are modelled on the latch services ISGLOBT, ISGLREL and ISGLPRG of *z/OS MVS
+    /// Programming: Authorized Assembler Services Guide*.
     ///
     /// # Example
     ///
     /// ```
     /// let reply = set.apply(0, 7, op, &mut wakes);
-    /// // an exclusive obtain of a free latch: Some(Granted(7)), and nobody is told
+    /// // an exclusive obtain of a free latch: Some(Granted(7)), and `wakes` is empty
     /// ```
     pub fn apply(
         &mut self,
@@ -248,7 +256,7 @@ impl LatchSet {
         ensures kept { IfNone result (self.new ≡ self.old) }
         ensures wakes_kept { IfNone result (wakes.new.items ≡ wakes.old.items) }
 
-        // The quotas, and the room for wakes, stay.
+        // The quotas, and the capacity of `wakes`, do not change.
         ensures quotas { self.new ≡ record self.old { lists = self.new.lists } }
         ensures capacity { vec_capacity wakes.new ≡ vec_capacity wakes.old }
     {

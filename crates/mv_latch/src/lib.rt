@@ -1,4 +1,4 @@
-//! Latch sets: lists of shared and exclusive requests, which are granted in the order of their arrival.
+//! Latch sets for one thread: lists of shared and exclusive requests, which are granted in the order of their arrival.
 #![tactic(auto)]
 
 mod latch_set;

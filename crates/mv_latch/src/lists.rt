@@ -1,4 +1,4 @@
-//! The lists of a latch set: `specs/LatchSet.antt`, and in memory `specs/Queues.antt`.
+//! All lists of a latch set together: `specs/LatchSet.antt`, and in memory `specs/Queues.antt`.
 
 ghost use Rattle.std.specs.Prelude.{◌≡◌, ◌+◌, ◌<◌, ◌≤◌, ◌^◌, ◌++◌, length, map, vec_len, vec_capacity};
 ghost use Rattle.std.specs.List.{flat_map, AllByRecursion};
@@ -13,7 +13,7 @@ use crate::queue::{count, remove, wake_waiting};
 use crate::request::Request;
 use crate::selection::Selection;
 
-/// How many requests in the lists are selected.
+/// Returns how many requests in all lists are selected.
 pub(crate) fn count_in_all(lists: &[Vec<Request>], selection: Selection) -> usize
     requires { count_in (selects selection) (items_of lists.now) < 2 ^ 64 }
     ensures { result ≡ count_in (selects selection) (items_of lists.now) }
@@ -25,7 +25,7 @@ pub(crate) fn count_in_all(lists: &[Vec<Request>], selection: Selection) -> usiz
     total
 }
 
-/// Tells of each request of a requestor that waits, by latch and then by list order.
+/// Appends a wake with code 1 for each waiting request of a requestor, in the order of latches and of each list.
 pub(crate) fn wake_all_waiting(lists: &[Vec<Request>], requestor: u64, wakes: &mut Vec<Wake>)
     requires { vec_len wakes.old + length (flat_map (waiting_of requestor) (items_of lists.now)) ≤ vec_capacity wakes.old }
     ensures items { wakes.new.items ≡ wakes.old.items ++ map (wake_of 1) (flat_map (waiting_of requestor) (items_of lists.now)) }
@@ -36,7 +36,7 @@ pub(crate) fn wake_all_waiting(lists: &[Vec<Request>], requestor: u64, wakes: &m
     }
 }
 
-/// Takes the requests of a requestor out of all lists, tells of those that are granted by it, and answers
+/// Takes the requests of a requestor out of all lists, appends a wake with code 0 for each request that this grants, and returns
 /// how many these are.
 pub(crate) fn remove_from_all(
     lists: &mut [Vec<Request>],

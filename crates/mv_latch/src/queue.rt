@@ -1,4 +1,4 @@
-//! One latch's list of requests: `specs/Latch.antt`.
+//! The list of requests of one latch: `specs/Latch.antt`.
 
 ghost use Rattle.std.specs.Prelude.{◌≡◌, ◌+◌, ◌<◌, ◌≤◌, ◌^◌, ◌++◌, not, length, map, filter, take, drop, vec_len, vec_capacity};
 ghost use Rattle.std.specs.List.{list_all, list_any};
@@ -19,14 +19,14 @@ fn all_shared(list: &[Request]) -> bool
     list.iter().all(|request| request.mode == Mode::Shared)
 }
 
-// Whether a new request at the list's end is granted at once.
+// Whether a new request is granted at once when it is appended.
 fn is_granted_at_end(list: &[Request], request: Request) -> bool
     ensures { result ≡ grants list.now request }
 {
     list.is_empty() || (request.mode == Mode::Shared && all_shared(list))
 }
 
-// The number of the first exclusive request.
+// The number of the first exclusive request, or 0 if there is none.
 fn first_exclusive(list: &[Request]) -> u32
     ensures { result ≡ first_id (filter (λ q. not (shared_request q)) list.now) }
 {
@@ -38,7 +38,7 @@ fn first_exclusive(list: &[Request]) -> u32
     0
 }
 
-// The number of the request that stands in the way.
+// The number of the request that blocks a new one, or 0 if there is none.
 fn blocker(list: &[Request], request: Request) -> u32
     ensures { result ≡ blocker_of request list.now }
 {
@@ -51,7 +51,7 @@ fn blocker(list: &[Request], request: Request) -> u32
     }
 }
 
-/// An obtain at a list that has room for it.
+/// Obtains the latch at a list that has room for one more request.
 pub(crate) fn obtain(list: &mut Vec<Request>, request: Request) -> LatchReply
     requires { vec_len list.old < vec_capacity list.old }
     ensures step { (list.new.items, result) ≡ obtain_step request list.old.items }
@@ -68,7 +68,7 @@ pub(crate) fn obtain(list: &mut Vec<Request>, request: Request) -> LatchReply
     LatchReply::Queued(request.id)
 }
 
-// How many requests the longest front of shared ones has.
+// The length of the longest prefix of shared requests.
 fn shared_len(list: &[Request]) -> usize
     ensures within { result ≤ length list.now }
     ensures front { take result list.now ≡ shared_front list.now }
@@ -99,7 +99,7 @@ fn granted(list: &[Request]) -> &[Request]
     &list[..granted_len(list)]
 }
 
-// The requests that hold the latch behind the first ones.
+// The requests that hold the latch, without the first `first`.
 fn granted_behind(list: &[Request], first: usize) -> &[Request]
     requires { first ≤ length (granted_of list.now) }
     ensures { result.now ≡ drop first (granted_of list.now) }
@@ -107,7 +107,7 @@ fn granted_behind(list: &[Request], first: usize) -> &[Request]
     &granted(list)[first..]
 }
 
-// The requests behind those that hold the latch.
+// The requests after those that hold the latch.
 fn waiting(list: &[Request]) -> &[Request]
     ensures { result.now ≡ waiting_in list.now }
 {
@@ -122,7 +122,7 @@ fn has_own(list: &[Request], caller: u32, id: u32) -> bool
         .any(|request| request.id == id && request.caller == caller)
 }
 
-/// Whether the caller's request is granted, waits, or is gone.
+/// Returns whether the caller's request is granted, waits, or is gone.
 pub(crate) fn confirm(list: &[Request], caller: u32, id: u32) -> LatchReply
     ensures { result ≡ confirm_reply caller id list.now }
 {
@@ -135,7 +135,7 @@ pub(crate) fn confirm(list: &[Request], caller: u32, id: u32) -> LatchReply
     LatchReply::Gone
 }
 
-/// How many requests are selected.
+/// Returns how many requests are selected.
 pub(crate) fn count(requests: &[Request], selection: Selection) -> usize
     ensures value { result ≡ length (filter (selects selection) requests.now) }
     ensures within { result ≤ length requests.now }
@@ -154,7 +154,7 @@ fn granted_left(list: &[Request], selection: Selection) -> usize
     held.len() - count(held, selection)
 }
 
-// Takes requests out, and keeps the others in their order.
+// Takes the selected requests out, and keeps the others in their order.
 fn take_out(list: &mut Vec<Request>, selection: Selection)
     ensures items { list.new.items ≡ left_without (selects selection) list.old.items }
     ensures capacity { vec_capacity list.new ≡ vec_capacity list.old }
@@ -162,7 +162,7 @@ fn take_out(list: &mut Vec<Request>, selection: Selection)
     list.retain(|request| !selection.selects(request));
 }
 
-// Tells of each request, with this code.
+// Appends a wake with this code for each request.
 fn wake_each(requests: &[Request], code: u32, wakes: &mut Vec<Wake>)
     requires { vec_len wakes.old + length requests.now ≤ vec_capacity wakes.old }
     ensures items { wakes.new.items ≡ wakes.old.items ++ map (wake_of code) requests.now }
@@ -173,7 +173,7 @@ fn wake_each(requests: &[Request], code: u32, wakes: &mut Vec<Wake>)
     }
 }
 
-/// Tells of each request of a requestor that waits, with code 1.
+/// Appends a wake with code 1 for each waiting request of a requestor.
 pub(crate) fn wake_waiting(list: &[Request], requestor: u64, wakes: &mut Vec<Wake>)
     requires { vec_len wakes.old + length (waiting_of requestor list.now) ≤ vec_capacity wakes.old }
     ensures items { wakes.new.items ≡ wakes.old.items ++ map (wake_of 1) (waiting_of requestor list.now) }
@@ -186,7 +186,7 @@ pub(crate) fn wake_waiting(list: &[Request], requestor: u64, wakes: &mut Vec<Wak
     }
 }
 
-/// Takes requests out, tells of those that are granted by it, and answers how many these are.
+/// Takes the selected requests out, appends a wake with code 0 for each request that this grants, and returns how many these are.
 pub(crate) fn remove(list: &mut Vec<Request>, selection: Selection, wakes: &mut Vec<Wake>) -> u32
     requires distinct { HasDistinctIds list.old.items }
     requires fits { vec_len list.old < 2 ^ 32 }
@@ -198,7 +198,7 @@ pub(crate) fn remove(list: &mut Vec<Request>, selection: Selection, wakes: &mut 
     ensures capacity { vec_capacity list.new ≡ vec_capacity list.old }
     ensures wakes_capacity { vec_capacity wakes.new ≡ vec_capacity wakes.old }
 {
-    // A purge asks this of each latch, of which few have requests.
+    // A purge calls this for each latch, and most latches have no request.
     if list.is_empty() {
         return 0;
     }
@@ -209,7 +209,7 @@ pub(crate) fn remove(list: &mut Vec<Request>, selection: Selection, wakes: &mut 
     newly.len() as u32
 }
 
-/// A release at a list.
+/// Releases a caller's request at a list, and appends the wakes for the requests that this grants.
 pub(crate) fn release(
     list: &mut Vec<Request>,
     caller: u32,

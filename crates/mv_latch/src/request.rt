@@ -1,36 +1,37 @@
-//! What a task asks of a latch. `specs/Request.antt` has words for it.
+//! One request for a latch: its mode, its form and its requestor. `specs/Request.antt` defines predicates on it.
 
-/// How a requestor holds a latch, after ISGLOBT.
+/// The mode in which a requestor holds a latch, as for ISGLOBT.
 #[derive(Clone, Copy, Debug, PartialEq, Eq)]
 pub enum Mode {
-    /// Beside other shared holders.
+    /// The holder shares the latch with other shared holders.
     Shared,
-    /// Alone.
+    /// The holder is the only one.
     Exclusive,
 }
 
-/// What becomes of a request that is not granted at once, as the obtain service ISGLOBT offers it.
+/// What happens to a request that is not granted at once, as the obtain service ISGLOBT offers it.
 #[derive(Clone, Copy, Debug, PartialEq, Eq)]
 pub enum LatchForm {
-    /// It is dropped, and no number is used.
+    /// The request is dropped, and its number is not used.
     Conditional,
-    /// It is queued, and its task is woken at the grant, or when the request is purged.
+    /// The request is queued, and its task is woken when the request is granted, or when it is purged while it waits.
     Waiting,
-    /// It is queued, and the ECB of this number is posted with 0 at the grant, or with 1 when the request is purged.
+    /// The request is queued, and the ECB of this number is posted with 0 when the request is granted, or with 1 when it is
+    /// purged while it waits.
     Posted(u32),
 }
 
 /// One request in a latch's list.
 #[derive(Clone, Copy, Debug, PartialEq, Eq)]
 pub struct Request {
-    /// Its number, which no other request in the lists has.
+    /// The request's number, which no other request in the lists has.
     pub id: u32,
-    /// The task that made it.
+    /// The caller that made it.
     pub caller: u32,
-    /// The eight bytes that a purge names it by.
+    /// The eight bytes by which a purge names it.
     pub requestor: u64,
-    /// How it holds the latch, once granted.
+    /// The mode in which it holds the latch once it is granted.
     pub mode: Mode,
-    /// Who was to be told of its grant, had it to wait.
+    /// What happens if it is not granted at once.
     pub form: LatchForm,
 }

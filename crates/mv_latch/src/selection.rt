@@ -1,19 +1,19 @@
-//! Which requests of a list are meant: `specs/Selection.antt`.
+//! A choice among the requests of a list: `specs/Selection.antt`.
 
 ghost use Rattle.std.specs.Prelude.{◌≡◌};
 
 use crate::request::{LatchForm, Request};
 
-/// Which requests of a list are meant.
+/// Says which requests of a list are selected.
 #[derive(Clone, Copy)]
 pub(crate) enum Selection {
     /// The caller's request of this number.
     Own { caller: u32, id: u32 },
-    /// All of a requestor.
+    /// All requests of a requestor.
     Of { requestor: u64 },
-    /// All of a caller.
+    /// All requests of a caller.
     By { caller: u32 },
-    /// All of a caller in the Posted form.
+    /// All requests of a caller in the Posted form.
     PostedBy { caller: u32 },
 }
 
