@@ -10,7 +10,7 @@ pub mod Fields
 pub mod Parts
 -- wide_number_within
 pub mod Numbers
--- texts whose faults are listed by line, here and in the crates above
+-- texts whose faults are listed by line, in this crate and in those above
 pub mod Faults
--- passes over the lines of a text that end elsewhere than read_lines, in the crates above
+-- passes over the lines of a text that do not end as those of read_lines, in the crates above
 pub mod Passes

@@ -1,4 +1,4 @@
-//! The faults of a text, and why it or a line of it was not read (`specs/Fault.antt`).
+//! The faults of a text, and why a text or a line was refused (`specs/Fault.antt`).
 
 ghost use Rattle.std.specs.Prelude.{◌≡◌, ℕ, MatchResult};
 ghost use Rattle.mv_line.specs.Fault.{fault_at, refusal_at};
@@ -9,14 +9,14 @@ use mv_io::NoMemory;
 use std::alloc::{AllocError, AllocFailed};
 use thiserror::Error;
 
-/// What is wrong with a text: the number of a line, counted from 1, and that of the kind of fault that it has.
+/// A fault of a text: the number of a line, counted from 1, and the number of the kind of fault that it has.
 ///
-/// Lines that are ignored are counted too. The kinds are this project's own, and each sort of texts has its own.
+/// Ignored lines are counted too. The kinds are this project's own, and each text format has its own kinds.
 #[derive(Clone, Copy, Debug, PartialEq, Eq, Error)]
 #[error("line {line} has a fault of kind {kind}")]
 pub struct TextFault {
     pub line: u32,
-    /// As `FaultKind::number` tells it.
+    /// The number of the kind, as `FaultKind::number` returns it.
     pub kind: u32,
 }
 
@@ -26,17 +26,17 @@ pub enum TextRefusal {
     /// The first fault of the text: that of the lowest line, and there the first of the kinds that the rules of its lines list.
     #[error("{0}")]
     Fault(TextFault),
-    /// There was no memory for what the text states; it may have a fault or none.
+    /// There was not enough memory for what the text states. The text may have a fault or none.
     #[error("there is not enough memory for the text")]
     NoMemory,
 }
 
 impl TextRefusal {
-    /// The fault, of a text that was refused for one.
+    /// Returns the fault, if the text was refused for one.
     ///
     /// # Errors
     ///
-    /// `NoMemory` if there was no memory instead. So `refusal.fault()?` hands that on.
+    /// `NoMemory` if the text was refused because memory ran out, so that `refusal.fault()?` passes that on.
     pub fn fault(self) -> Result<TextFault, NoMemory>
         ensures { MatchResult result (λ fault. self ≡ of_text.Fault fault) (λ _. self ≡ of_text.NoMemory) }
     {
@@ -72,16 +72,16 @@ impl<T: Drop> From<AllocFailed<T>> for TextRefusal {
     }
 }
 
-/// The kinds of fault that the lines of one sort of texts can have.
+/// The kinds of fault that a line of one text format can have.
 pub trait FaultKind: Copy {
-    /// The number of a kind.
+    /// The number of a kind, in contracts.
     ghost number_of: { Self → ℕ };
 
-    /// The number of the kind, as it is told.
+    /// Returns the number of the kind, as `TextFault` has it.
     fn number(self) -> u32
         ensures { result ≡ number_of self };
 
-    /// The fault of this kind in the line of this number.
+    /// Returns the fault of this kind in the line of this number.
     fn at(self, line: u32) -> TextFault
         ensures { result ≡ fault_at line (number_of self) }
     {
@@ -92,16 +92,16 @@ pub trait FaultKind: Copy {
     }
 }
 
-/// Why a line was not taken.
+/// Why a line was refused.
 #[derive(Clone, Copy)]
 pub enum LineRefusal<K> {
-    /// The lowest kind of its faults.
+    /// The line has a fault; this is the lowest of its kinds.
     Has(K),
     NoMemory,
 }
 
 impl<K: FaultKind> LineRefusal<K> {
-    /// The refusal of a text that has it at the line of this number.
+    /// Returns the refusal of a text that is refused at the line of this number.
     pub fn at(self, line: u32) -> TextRefusal
         ensures { result ≡ refusal_at K.number_of line self }
     {

@@ -1,5 +1,5 @@
-//! Texts in lines and fields: how bytes are cut into lines, a line into fields, and which number digits show; and the reader of texts
-//! by lines, to their first fault.
+//! Texts in lines and fields: how bytes are cut into lines, a line into fields, and which number digits show. `read_lines` reads
+//! a text by lines, to its first fault.
 #![tactic(auto)]
 
 mod byte;

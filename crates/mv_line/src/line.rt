@@ -1,4 +1,4 @@
-//! Lines of a text, a pass over them, and what of a line counts (`specs/Line.antt`; `IsPassed` of `specs/Fault.antt`).
+//! The lines of a text, a pass over them, and which bytes of a line count (`specs/Line.antt`; `IsPassed` of `specs/Fault.antt`).
 
 ghost use Rattle.std.specs.Prelude.{◌≡◌, ◌+◌, ◌-◌, ◌^◌, ◌<◌, [], ◌∷◌, length, MatchOption};
 ghost use Rattle.mv_line.specs.Line.{lines_of, without_cr as text_without_cr, without_first_spaces as from_first_field};
@@ -8,10 +8,10 @@ ghost use Rattle.mv_line.specs.Line.{ended_part, cut_off};
 
 use crate::byte::{end_at, has_foreign_byte};
 
-/// The longest line, in bytes without the CR that is dropped at its end: a card of the reader.
+/// The longest line, in bytes, without one CR at its end: a card of the reader.
 pub const LONGEST_LINE: usize = 80;
 
-// The first line of a text and what follows it. The text has a byte.
+// The first line of a text and what follows it. The text is not empty.
 fn split_line(text: &[u8]) -> (&[u8], &[u8])
     requires { 0 < length text.now }
     ensures lines { lines_of text.now ≡ result.0.now ∷ lines_of result.1.now }
@@ -24,19 +24,19 @@ fn split_line(text: &[u8]) -> (&[u8], &[u8])
     (&text[..end], &text[end + 1..])
 }
 
-/// Where a pass over a text stands: the lines that are left, and the number of the next, counted from 1.
+/// A pass over the lines of a text: what is left of the text, and the number of the next line, counted from 1.
 #[derive(Clone, Copy)]
 pub struct Lines<'a> {
     pub left: &'a [u8],
     pub number: u32,
-    // So the line behind the last has a number too.
+    // The line after the last one has a number, too.
     pub ghost counted: { number + length left.now < 2 ^ 32 },
 }
 
 impl<'a> Lines<'a> {
     ghost use Rattle.mv_line.specs.Fault.{IsPassed};
 
-    /// All lines of a text.
+    /// Returns a pass that begins with the first line of a text.
     pub fn of(text: &'a [u8]) -> Self
         requires { length text.now < 2 ^ 32 - 1 }
         ensures { (result.left.now ≡ text.now) × (result.number ≡ 1) }
@@ -47,7 +47,7 @@ impl<'a> Lines<'a> {
         }
     }
 
-    /// Passes the next line, behind which this is left.
+    /// Passes the next line; `left` is what follows it.
     pub fn pass(&mut self, left: &'a [u8])
         requires { length left.now < length self.old.left.now }
         ensures { (self.new.left.now ≡ left.now) × (self.new.number ≡ self.old.number + 1) }
@@ -56,7 +56,7 @@ impl<'a> Lines<'a> {
         self.number += 1;
     }
 
-    /// The next line with its number, where one is left. In time linear in the line.
+    /// Returns the next line with its number, or `None` if no line is left. Its time is linear in the line.
     pub fn next(&mut self) -> Option<(u32, &'a [u8])>
         ensures { MatchOption result
             ((self.new ≡ self.old) × (lines_of self.old.left.now ≡ []))
@@ -72,7 +72,7 @@ impl<'a> Lines<'a> {
     }
 }
 
-/// A text up to its last LF, and what stands behind that, in time linear in the latter.
+/// Returns a text up to its last LF, and what follows that. Its time is linear in what follows.
 pub fn split_cut_off(text: &[u8]) -> (&[u8], &[u8])
     ensures ended { result.0.now ≡ ended_part text.now }
     ensures cut { result.1.now ≡ cut_off text.now }
@@ -84,7 +84,7 @@ pub fn split_cut_off(text: &[u8]) -> (&[u8], &[u8])
     text.split_at(end)
 }
 
-/// A line without one CR at its end; a second CR stays, and is no printable byte.
+/// Returns a line without one CR at its end. A second CR stays, and is not a printable byte.
 pub fn without_cr(line: &[u8]) -> &[u8]
     ensures { result.now ≡ text_without_cr line.now }
 {
@@ -94,7 +94,7 @@ pub fn without_cr(line: &[u8]) -> &[u8]
     }
 }
 
-/// A text without the spaces at its end.
+/// Returns a text without the spaces at its end.
 pub fn without_last_spaces(text: &[u8]) -> &[u8]
     ensures { result.now ≡ to_last_field text.now }
 {
@@ -105,7 +105,7 @@ pub fn without_last_spaces(text: &[u8]) -> &[u8]
     &text[..end]
 }
 
-/// A text without the spaces at its front.
+/// Returns a text without the spaces at its front.
 pub fn without_first_spaces(text: &[u8]) -> &[u8]
     ensures { result.now ≡ from_first_field text.now }
 {
@@ -116,28 +116,28 @@ pub fn without_first_spaces(text: &[u8]) -> &[u8]
     &text[start..]
 }
 
-/// Whether a text begins with a space.
+/// Returns whether a text begins with a space.
 pub fn begins_with_space(text: &[u8]) -> bool
     ensures { result ≡ begins_so text.now }
 {
     matches!(text, [b' ', ..])
 }
 
-/// What counts of a line: not one CR at its end, and then no spaces at its end.
+/// Returns the part of a line that counts: without one CR at its end, and then without the spaces at its end.
 pub fn shown(line: &[u8]) -> &[u8]
     ensures { result.now ≡ what_counts line.now }
 {
     without_last_spaces(without_cr(line))
 }
 
-/// Whether a line has a byte that is no printable ASCII, the one CR at its end not counted.
+/// Returns whether a line has a byte that is not printable ASCII. One CR at its end does not count.
 pub fn is_foreign(line: &[u8]) -> bool
     ensures { result ≡ has_foreign line.now }
 {
     has_foreign_byte(without_cr(line))
 }
 
-/// Whether a line is longer than a card, the one CR at its end not counted.
+/// Returns whether a line is longer than a card, `LONGEST_LINE` bytes. One CR at its end does not count.
 pub fn is_too_long(line: &[u8]) -> bool
     ensures { result ≡ exceeds_card line.now }
 {

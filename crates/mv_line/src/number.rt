@@ -8,8 +8,9 @@ ghost use Rattle.mv_line.specs.Number.{is_digits as shows_digits, is_number as s
 use itoa::Buffer;
 use mv_io::NoMemory;
 
-/// The number that a text shows in one or more digits, without a zero in front of others, where it is within these. It may
-/// have any number of digits.
+/// Returns the number that a text shows, if it is from `low` to `high`.
+///
+/// A text shows a number if it is one or more decimal digits, however many, without a zero before other digits.
 pub fn number_within(low: u32, high: u32, text: &[u8]) -> Option<u32>
     ensures number { result ≡ within low high (number_of text.now) }
     ensures bound { IfSome result (λ n. n ≤ high) }
@@ -18,7 +19,7 @@ pub fn number_within(low: u32, high: u32, text: &[u8]) -> Option<u32>
     Some(number as u32)
 }
 
-/// The same of a number of eight bytes.
+/// Returns the number that a text shows, if it is from `low` to `high`, as `number_within` does, but in eight bytes.
 pub fn wide_number_within(low: u64, high: u64, text: &[u8]) -> Option<u64>
     ensures number { result ≡ within low high (number_of text.now) }
     ensures bound { IfSome result (λ n. n ≤ high) }
@@ -36,7 +37,7 @@ pub fn wide_number_within(low: u64, high: u64, text: &[u8]) -> Option<u64>
     (low <= value).then_some(value)
 }
 
-// A number with one more digit behind it, where it is at most so high.
+// The number with one more digit appended, if that is at most `high`.
 fn with_digit(high: u64, value: u64, digit: u8) -> Option<u64>
     requires { shows_digit digit ≡ true }
     ensures { SomeIff result (10 * value + (digit - 48) ≤ high) (10 * value + (digit - 48)) }
@@ -55,7 +56,7 @@ fn is_number(text: &[u8]) -> bool
     }
 }
 
-/// Whether a text has one or more bytes, each a decimal digit.
+/// Returns whether a text is one or more decimal digits.
 pub fn is_digits(text: &[u8]) -> bool
     ensures { result ≡ shows_digits text.now }
 {
@@ -71,7 +72,11 @@ fn are_digits(text: &[u8]) -> bool
     text.iter().all(|b| b.is_ascii_digit())
 }
 
-/// Appends a label and a number.
+/// Appends a label and then a number in decimal.
+///
+/// # Errors
+///
+/// `NoMemory` if the vector cannot grow. It may have a part of this then.
 pub fn push_number(out: &mut Vec<u8>, label: &[u8], number: u64) -> Result<(), NoMemory>
     ensures { OnOk result (out.new.items ≡ out.old.items ++ (label.now ++ decimal number)) }
 {
