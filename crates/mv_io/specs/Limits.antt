@@ -1,6 +1,6 @@
--- What one call of a stream of std hands on.
+-- How much one call on a stream of std moves.
 use Rattle.std.specs.Prelude.{ℕ}
 
--- the most bytes, 64 KiB
+-- the most bytes of one call, 64 KiB
 abbrev pub piece_limit : ℕ
 piece_limit = 65536

@@ -1,15 +1,16 @@
-//! What a failure of a stream, and want of memory, answer.
+//! The errors of a stream that failed, and of running out of memory.
 
 use std::alloc::{AllocError, AllocFailed};
 use std::io::{self, ErrorKind};
 use thiserror::Error;
 
-/// A stream failed. Its count of faults says that it was the stream. The cause is not told, and a later call may go through.
+/// The error of a stream that failed. The stream has counted the fault. The error does not say why the stream failed, and a later
+/// call may succeed.
 #[derive(Clone, Copy, Debug, PartialEq, Eq, Error)]
 #[error("the stream failed")]
 pub struct Failed;
 
-/// There was no memory. A later call may find some.
+/// The error of running out of memory. A later call may succeed.
 #[derive(Clone, Copy, Debug, PartialEq, Eq, Error)]
 #[error("there is not enough memory")]
 pub struct NoMemory;

@@ -1,5 +1,5 @@
-//! Byte streams that may fail: sources and sinks that count their faults, so that a contract can say that a failure was the
-//! stream's own.
+//! Byte streams that may fail: sources and sinks. Each counts its faults, so that a contract can say that a failure was the
+//! stream's.
 #![tactic(auto)]
 
 mod failed;

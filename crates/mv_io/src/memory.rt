@@ -1,5 +1,5 @@
-//! Streams in memory, which fail at the calls that they are told. Their clauses cite specs/MemSource and specs/MemSink for
-//! what a call makes of them, beside those of the traits.
+//! Sources and sinks in memory, which fail at chosen calls. Their clauses cite specs/MemSource and specs/MemSink for the exact
+//! effect of a call, beside those of the traits.
 
 ghost use Rattle.std.specs.Prelude.{◌≡◌, ◌↔◌, ◌≤◌, length, Some, IfOk, IsErr, Contains};
 ghost use Rattle.mv_io.specs.Fault.{HasCause, HasWriteCause};
@@ -12,7 +12,7 @@ use crate::{Failed, NoMemory, Sink, Source};
 use std::alloc::Global;
 use std::marker::Model;
 
-/// A source of given bytes, for tests. The calls of `read` are numbered from 0, and those that it was told fail.
+/// A source of given bytes, for tests. Calls of `read` are numbered from 0, and those with chosen numbers fail.
 #[derive(Drop)]
 pub struct MemSource {
     bytes: Vec<u8>,
@@ -41,11 +41,12 @@ impl Model for MemSource {
 }
 
 impl MemSource {
-    /// A source that gives these bytes, at most `step` of them a call. The calls with the numbers in `fail` fail, in any order.
+    /// Makes a source that gives these bytes, at most `step` of them in one call. The calls whose numbers are in `fail`, in any
+    /// order, fail.
     ///
     /// # Errors
     ///
-    /// `NoMemory` where there is no room for a copy of both.
+    /// `NoMemory` if there is not enough memory for a copy of both.
     pub fn new(
         alloc: Global,
         bytes: &[u8],
@@ -94,8 +95,8 @@ impl Source for MemSource {
     }
 }
 
-/// A sink with room for so many bytes, for tests. The calls of `write` are numbered from 0, and those that it
-/// was told fail, as does one that has bytes to hand over and finds no room.
+/// A sink with room for a fixed number of bytes, for tests. Calls of `write` are numbered from 0. Those with chosen numbers fail,
+/// and so does one that has bytes to write and finds no room.
 #[derive(Drop)]
 pub struct MemSink {
     bytes: Vec<u8>,
@@ -125,23 +126,23 @@ impl Model for MemSink {
 }
 
 impl MemSink {
-    /// An empty sink that takes at once all that it has room for. All its memory is taken here, so `write` can't fail for want of
-    /// it.
+    /// Makes an empty sink that takes as many bytes in one call as it has room for. All its memory is taken here, so `write`
+    /// cannot run out of it.
     ///
     /// # Errors
     ///
-    /// `NoMemory` where there is no room for so many bytes.
+    /// `NoMemory` if there is not enough memory for `room` bytes and a copy of `fail`.
     pub fn new(alloc: Global, room: usize, fail: &[u64]) -> Result<MemSink, NoMemory>
         ensures { IfOk result (λ sink. sink ≡ fresh_sink room any_step fail.now) }
     {
         MemSink::stepped(alloc, room, usize::MAX, fail)
     }
 
-    /// An empty sink that takes at most `step` bytes a call, of one or more. All its memory is taken here.
+    /// Makes an empty sink that takes at most `step` bytes in one call; `step` is at least 1. All its memory is taken here.
     ///
     /// # Errors
     ///
-    /// `NoMemory` where there is no room for so many bytes.
+    /// `NoMemory` if there is not enough memory for `room` bytes and a copy of `fail`.
     pub fn stepped(
         alloc: Global,
         room: usize,
@@ -161,7 +162,7 @@ impl MemSink {
         })
     }
 
-    /// What it has taken, in the order in which it came.
+    /// Returns the bytes that the sink has taken, in their order.
     pub fn bytes(&self) -> &[u8]
         ensures { result.now ≡ self.now.taken }
     {
@@ -191,7 +192,7 @@ impl Sink for MemSink {
             return Err(Failed);
         }
         let count = self.step.min(piece.len()).min(room);
-        // `new` took the room, so this cannot be refused.
+        // The room was taken when the sink was made, so this cannot be refused.
         let Ok(()) = self.bytes.extend_from_slice(&piece[..count]) else {
             unreachable!()
         };

@@ -1,4 +1,5 @@
-//! The reading of a whole input. Its clauses cite specs/Source for what a source loses and gives, and specs/Fault for its cause.
+//! Reading a whole input. Clauses cite specs/Source for what a source loses and gives, and specs/Fault for the cause of a
+//! failure.
 
 ghost use Rattle.std.specs.Prelude.{◌≡◌, ◌⊎◌, ◌+◌, ◌<◌, ◌≤◌, ℕ, [], length, drop, vec_len, vec_capacity, Some};
 ghost use Rattle.std.specs.Prelude.{IfSome, IfOk, OnErr, IsErrOf};
@@ -13,13 +14,13 @@ use thiserror::Error;
 /// Why an input was not read.
 #[derive(Clone, Copy, Debug, PartialEq, Eq, Error)]
 pub enum ReadRefusal {
-    /// The source failed. What was taken off it before is lost.
+    /// The source failed. The bytes that were taken off it before are lost.
     #[error("the input failed")]
     Failed,
-    /// The input has more bytes than the limit, of which so many and one were taken off.
+    /// The input has more bytes than the limit. The limit and one byte more were taken off the source.
     #[error("the input is too long")]
     TooLong,
-    /// There was no memory for the limit and one byte. Nothing was read.
+    /// There was not enough memory for the limit and one byte more. Nothing was read.
     #[error("there is not enough memory for the input")]
     NoMemory,
 }
@@ -40,17 +41,19 @@ impl From<Failed> for ReadRefusal {
     }
 }
 
-/// The most bytes by which the room is opened at once.
+/// The most bytes by which the buffer is lengthened at once.
 const PIECE: usize = 64 * 1024;
 
-/// Reads a whole input of at most `limit` bytes. Room for `limit` and one byte is taken before the
-/// first read, and no memory after it. No more bytes than that are taken off the source, and where
-/// it fails at most `limit`. Only as much of the room is touched as bytes came, to the next piece. It waits as long as
-/// the source's reads do.
+/// Reads a whole input of at most `limit` bytes.
+///
+/// Memory for `limit` and one byte more is taken before the first read, and none after it. At most that many bytes are taken off
+/// the source, and at most `limit` if it fails. The buffer is lengthened by pieces of 64 KiB as bytes arrive, so the rest of its
+/// memory is not touched. The call waits as long as the source's reads do.
 ///
 /// # Errors
 ///
-/// Those of `ReadRefusal`. A fault is not tried again.
+/// `Failed` if the source failed, which is not tried again; `TooLong` if the input has more than `limit` bytes; `NoMemory` if
+/// there was not enough memory.
 ///
 /// # Example
 ///
@@ -67,12 +70,12 @@ pub fn read_limited<S: Source>(
     ensures whole { IfOk result (λ bytes. IfSome (S.left src.old)
         (λ xs. (bytes.items ≡ xs) × (S.left src.new ≡ Some []))) }
 
-    // A fault is the source's own. What came before it is lost.
+    // The source itself failed. The bytes that came before are lost.
     ensures failed { IsErrOf result ReadRefusal.Failed → Rose (S.faults src.old) (S.faults src.new) }
     ensures failed_left { IsErrOf result ReadRefusal.Failed → IfSome (S.left src.old)
         (λ xs. (k : ℕ) × (k ≤ limit) × LosesFront xs (S.left src.new) k) }
 
-    // An input is too long exactly where it is, unless something failed before that was seen.
+    // `TooLong` is returned only if the input is too long, and always then, unless the source fails or memory runs out first.
     ensures too_long { IsErrOf result ReadRefusal.TooLong → IfSome (S.left src.old)
         (λ xs. (limit < length xs) × (S.left src.new ≡ Some (drop (limit + 1) xs))) }
     ensures long_is_told { IfSome (S.left src.old) (λ xs. limit < length xs
@@ -92,8 +95,8 @@ pub fn read_limited<S: Source>(
     Ok(bytes)
 }
 
-// Reads until so many bytes have come or the input has ended, and answers how many came. The empty
-// vector has room for them, and is lengthened inside it as they come.
+// Reads until `room` bytes have come or the input has ended, and returns how many came. The empty vector has room for them, and
+// is lengthened within its capacity as they come.
 fn fill_room<S: Source>(src: &mut S, bytes: &mut Vec<u8>, room: usize) -> Result<usize, Failed>
     requires empty { vec_len bytes.old ≡ 0 }
     requires fits { room ≤ vec_capacity bytes.old }
@@ -106,7 +109,7 @@ fn fill_room<S: Source>(src: &mut S, bytes: &mut Vec<u8>, room: usize) -> Result
     ensures count { S.faults src.old ≤ S.faults src.new }
 {
     let mut filled = 0;
-    // The input has ended where a piece was not filled.
+    // The input has ended if a piece was not filled.
     while filled == bytes.len() && filled < room {
         // The room was taken before, so this cannot be refused.
         let Ok(()) = bytes.resize(filled + PIECE.min(room - filled), 0) else {
@@ -118,7 +121,7 @@ fn fill_room<S: Source>(src: &mut S, bytes: &mut Vec<u8>, room: usize) -> Result
     Ok(filled)
 }
 
-// Reads until the buffer is full or the input has ended, and answers how many bytes came.
+// Reads until the buffer is full or the input has ended, and returns how many bytes came.
 fn fill<S: Source>(src: &mut S, buf: &mut [u8]) -> Result<usize, Failed>
     ensures bound { IfOk result (λ n. n ≤ length buf.new) }
     ensures bytes { IfOk result (λ n. IfSome (S.left src.old) (λ xs. GivesFront xs (S.left src.new) buf.new n)) }

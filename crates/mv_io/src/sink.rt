@@ -1,4 +1,4 @@
-//! The trait of sinks, whose clauses cite specs/Sink and specs/Fault.
+//! The trait of sinks. Its clauses cite specs/Sink and specs/Fault.
 
 ghost use Rattle.std.specs.Prelude.{◌≤◌, ℕ, List, length, IfOk};
 ghost use Rattle.std.specs.declared.option.Option.{Option};
@@ -7,20 +7,21 @@ ghost use Rattle.mv_io.specs.Sink.{Writes};
 
 use crate::Failed;
 
-/// Where bytes go. `write_all` hands a whole text to one.
+/// A sink of bytes. `write_all` writes a whole text to one.
 pub trait Sink {
-    /// The bytes taken so far, where the sink tells them.
+    /// The bytes taken so far, if the sink reports them.
     ghost taken: { Self → Option (List ℕ) };
 
-    /// How often the sink has failed. The count does not fall, and stands still at 2^64 - 1.
+    /// How often the sink has failed. The count never falls, and stops at 2^64 - 1.
     ghost faults: { Self → ℕ };
 
-    /// Takes bytes from the front of the piece, and answers how many: maybe fewer than it has. It may take none of a piece
-    /// that has bytes only where it counted a fault.
+    /// Takes bytes from the front of `piece`, and returns how many: maybe fewer than it has.
+    ///
+    /// If it takes none of a piece that has bytes, it has counted a fault.
     ///
     /// # Errors
     ///
-    /// `Failed` where the sink failed. Then it took nothing of the piece.
+    /// `Failed` if the sink failed. Then it took no byte of the piece.
     fn write(&mut self, piece: &[u8]) -> Result<usize, Failed>
         ensures bound { IfOk result (λ k. k ≤ length piece.now) }
         ensures bytes { Writes (taken self.old) (taken self.new) result piece.now }

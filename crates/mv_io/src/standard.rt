@@ -1,10 +1,10 @@
-//! Streams of std with a count of their faults. They tell as much of their bytes as std does: nothing
-//! where the bytes are those of a file or of a standard stream. Their clauses cite specs/StdSource and
-//! specs/StdSink for the stream inside and its count, beside those of the traits.
+//! Streams over std's readers and writers, which count their faults.
 //!
-//! An interrupted call is an error like any other: nothing here handles signals, so the standard
-//! streams are not interrupted. No clause can name what the stream inside answered: that each of its
-//! errors is one failure is tested.
+//! They report as much of their bytes as std does: nothing for a file or a standard stream. Their clauses cite specs/StdSource
+//! and specs/StdSink for the stream inside and its count, beside those of the traits.
+//!
+//! An interrupted call is an error like any other: nothing here handles signals, so the standard streams are not interrupted. No
+//! clause can name what the stream inside returned. That each of its errors is one failure is tested.
 
 ghost use Rattle.std.specs.Prelude.{◌≡◌, ◌<◌, ◌≤◌, length, IfOk, OnOk, OnErr};
 ghost use Rattle.mv_io.specs.Fault.{one_more, HasCause, HasWriteCause};
@@ -15,11 +15,12 @@ ghost use Rattle.mv_io.specs.Sink.{Writes};
 use crate::{Failed, Sink, Source};
 use std::io::{Read, Write};
 
-// The most bytes that one call hands on.
+// The most bytes that one call reads or writes.
 const PIECE: usize = 64 * 1024;
 
-/// A source over a reader of std. Each error of the reader is a counted fault. A call asks for 65,536 bytes at most, and waits as
-/// long as the reader does.
+/// A source over a reader of std.
+///
+/// Each error of the reader is a counted fault. A call asks for at most 65,536 bytes, and waits as long as the reader does.
 #[derive(Drop)]
 pub struct StdSource<R> {
     inner: R,
@@ -29,7 +30,7 @@ pub struct StdSource<R> {
 impl<R: Read> StdSource<R> {
     ghost use Rattle.mv_io.specs.StdSource.{std_source_reader, std_source_faults};
 
-    /// A source over this reader, with no faults yet.
+    /// Makes a source over this reader, without faults so far.
     pub fn new(inner: R) -> StdSource<R>
         ensures reader { std_source_reader result ≡ inner }
         ensures faults { std_source_faults result ≡ 0 }
@@ -37,7 +38,7 @@ impl<R: Read> StdSource<R> {
         StdSource { inner, faults: 0 }
     }
 
-    /// How often the reader has failed, up to 2^64 - 1.
+    /// Returns how often the reader has failed, up to 2^64 - 1.
     pub fn faults(&self) -> u64
         ensures { result ≡ std_source_faults self.now }
     {
@@ -72,8 +73,10 @@ impl<R: Read> Source for StdSource<R> {
     }
 }
 
-/// A sink over a writer of std. Each error of the writer is a counted fault, and so is a write that
-/// takes no byte of a piece that has some. A call hands on 65,536 bytes at most, and waits as long as the writer does.
+/// A sink over a writer of std.
+///
+/// Each error of the writer is a counted fault, and so is a write that takes no byte of a piece that has some. A call writes at
+/// most 65,536 bytes, and waits as long as the writer does.
 #[derive(Drop)]
 pub struct StdSink<W> {
     inner: W,
@@ -83,7 +86,7 @@ pub struct StdSink<W> {
 impl<W: Write> StdSink<W> {
     ghost use Rattle.mv_io.specs.StdSink.{std_sink_writer, std_sink_faults};
 
-    /// A sink over this writer, which is never flushed: the standard streams of std do not buffer.
+    /// Makes a sink over this writer, without faults so far. It is never flushed: the standard streams of std do not buffer.
     pub fn new(inner: W) -> StdSink<W>
         ensures writer { std_sink_writer result ≡ inner }
         ensures faults { std_sink_faults result ≡ 0 }
@@ -91,7 +94,7 @@ impl<W: Write> StdSink<W> {
         StdSink { inner, faults: 0 }
     }
 
-    /// How often the writer has failed, up to 2^64 - 1.
+    /// Returns how often a write has failed, up to 2^64 - 1.
     pub fn faults(&self) -> u64
         ensures { result ≡ std_sink_faults self.now }
     {

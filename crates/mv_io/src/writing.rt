@@ -1,4 +1,4 @@
-//! The writing of a whole text. Its clauses cite specs/Sink for what a sink takes, and specs/Fault for its cause.
+//! Writing a whole text. Clauses cite specs/Sink for what a sink takes, and specs/Fault for the cause of a failure.
 
 ghost use Rattle.std.specs.Prelude.{◌<◌, ◌≤◌, length, take, IfErr, OnErr, OnOk};
 ghost use Rattle.mv_io.specs.Fault.{Rose};
@@ -7,15 +7,15 @@ ghost use Rattle.mv_io.specs.Sink.{Appends, AppendsFront};
 use crate::Sink;
 use thiserror::Error;
 
-/// A sink failed before it had all bytes.
+/// The error of a sink that failed before it had all bytes.
 #[derive(Clone, Copy, Debug, PartialEq, Eq, Error)]
 #[error("the stream failed behind {taken} bytes")]
 pub struct Partial {
-    /// How many bytes of the text it took, from its front.
+    /// How many bytes of the text the sink took, from the front.
     pub taken: usize,
 }
 
-/// Writes all bytes, a piece after the other as the sink takes them. It waits as long as the sink's writes do.
+/// Writes all bytes, piece by piece as the sink takes them. It waits as long as the sink's writes do.
 ///
 /// # Errors
 ///
