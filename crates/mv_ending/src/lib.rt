@@ -1,4 +1,4 @@
-//! How a command ends: the one line that it may tell on its notes, and what its streams hold then.
+//! How a command ends: the one line that it may write to its notes, and how much its streams have then.
 #![tactic(auto)]
 
 mod line;

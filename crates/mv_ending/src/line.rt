@@ -1,4 +1,4 @@
-//! A line that is made in room of its own, with no allocator.
+//! A short line in a fixed buffer, made without an allocator.
 
 ghost use Rattle.std.specs.Prelude.{◌≡◌, ◌+◌, ◌≤◌, ◌++◌, [], length, decimal};
 
@@ -6,10 +6,10 @@ use arrayvec::ArrayVec;
 use itoa::Buffer;
 use std::marker::Model;
 
-/// The most bytes of a line. That of a journal's fault, the longest, has 20 bytes of words and LF, and two numbers.
+/// The most bytes of a line. The longest is that of a journal's fault: 20 bytes of words and LF, and two numbers of ten digits.
 pub const LONGEST_LINE: usize = 48;
 
-/// A short line in the making.
+/// A line under construction, of at most `LONGEST_LINE` bytes.
 #[derive(Drop)]
 pub struct Line {
     bytes: ArrayVec<u8, LONGEST_LINE>,
@@ -26,7 +26,7 @@ impl Model for Line {
 }
 
 impl Line {
-    /// A line without a byte.
+    /// Makes an empty line.
     pub fn new() -> Line
         ensures { result ≡ [] }
     {
@@ -35,7 +35,7 @@ impl Line {
         }
     }
 
-    /// Appends these bytes, for which there is room.
+    /// Appends a text, for which there is room.
     pub fn push_text(&mut self, text: &[u8])
         requires { length self.old + length text.now ≤ LONGEST_LINE }
         ensures text { self.new ≡ self.old ++ text.now }
@@ -44,7 +44,7 @@ impl Line {
         let _fits = self.bytes.try_extend_from_slice(text);
     }
 
-    /// Appends a number, which has at most ten digits.
+    /// Appends a number in decimal, at most ten digits.
     pub fn push_number(&mut self, number: u32)
         requires { length self.old + 10 ≤ LONGEST_LINE }
         ensures text { self.new ≡ self.old ++ decimal number }
@@ -53,7 +53,7 @@ impl Line {
         self.push_text(Buffer::new().format(number).as_bytes());
     }
 
-    /// The line.
+    /// Returns the bytes of the line.
     pub fn as_bytes(&self) -> &[u8]
         ensures { result.now ≡ self.now }
     {

@@ -1,4 +1,4 @@
-//! What is told on the notes. Clauses cite `specs/Note.antt`.
+//! The line that a command writes to its notes. Clauses cite `specs/Note.antt`.
 
 ghost use Rattle.std.specs.Prelude.{◌≡◌, ◌≤◌, ◌⊎◌, length, None};
 ghost use Rattle.mv_io.specs.Fault.{Rose};
@@ -8,12 +8,12 @@ ghost use Rattle.mv_ending.specs.Note.{fault_text, note_text, NotesAfter};
 use crate::line::Line;
 use mv_io::{Sink, write_all};
 
-/// A line that may stand on the notes. Lines of the input are counted from 1.
+/// A line that a command may write to its notes. Lines of the input are counted from 1.
 #[derive(Clone, Copy, Debug, PartialEq, Eq)]
 pub enum Note {
-    /// The words are no command.
+    /// The arguments are not a command.
     Usage,
-    /// The deck has this fault.
+    /// The deck has this fault, of the kind of this number.
     DeckFault { line: u32, kind: u32 },
     /// The input has more bytes than the limit.
     InputTooLong,
@@ -25,15 +25,15 @@ pub enum Note {
     JournalFailed,
     /// Memory ran out.
     NoMemory,
-    /// The entry on this line of the journal is not the machine's, or is not numbered as its call is.
+    /// The entry on this line of the journal is the first that is not the machine's, or that has a wrong call number.
     Illegal { line: u32 },
-    /// The journal's text has this fault.
+    /// The journal's text has this fault, of the kind of this number.
     JournalFault { line: u32, kind: u32 },
-    /// The script has this fault.
+    /// The script has this fault, of the kind of this number.
     ScriptFault { line: u32, kind: u32 },
 }
 
-// The line of a fault, by the word before it.
+// The line of a fault; `word` names the input.
 #[tactic(auto, unfolding(crate::specs::Note::fault_text))]
 fn fault_line(word: &[u8], line: u32, kind: u32) -> Line
     requires { length word.now ≤ 8 }
@@ -59,7 +59,7 @@ fn illegal_line(line: u32) -> Line
     text
 }
 
-// Writes a line. That it could not be written is not told anywhere else.
+// Writes a line. Nothing reports a failure to write it.
 fn write_line<N: Sink>(notes: &mut N, line: &[u8])
     ensures written { Appends (N.taken notes.old) (N.taken notes.new) line.now
         ⊎ (Rose (N.faults notes.old) (N.faults notes.new) × AppendsFront (N.taken notes.old) (N.taken notes.new) line.now) }
@@ -68,7 +68,10 @@ fn write_line<N: Sink>(notes: &mut N, line: &[u8])
     let _told = write_all(notes, line);
 }
 
-/// Writes the note's line. A failure of the notes changes nothing else, and is not told anywhere.
+/// Writes the line of a note, if there is one.
+///
+/// It waits as long as the notes' writes do, and takes no memory. A failure of the notes changes nothing else, and nothing
+/// reports it.
 pub fn tell<N: Sink>(notes: &mut N, note: Option<Note>)
     ensures written { NotesAfter note (N.faults notes.old) (N.faults notes.new) (N.taken notes.old) (N.taken notes.new) }
     ensures quiet { note ≡ None → notes.new ≡ notes.old }
