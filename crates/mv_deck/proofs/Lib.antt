@@ -1,6 +1,6 @@
 -- held latches
 pub mod Latches
--- one more statement behind those that were read
+-- one more statement after those that were read
 pub mod Mapped
 pub mod Jobs
 pub mod Steps

@@ -1,4 +1,4 @@
--- What a deck is, and the deck that a text without fault states.
+-- The deck, and the deck that a text without fault states.
 use Rattle.std.specs.Prelude.{ℕ, List, [], ◌∷◌, ◌++◌, map, fold, Option, Some, None, option_map, option_and_then, unwrap_or}
 use Rattle.std.specs.List.{position_from}
 use Rattle.std.specs.Str.{bytes_eq}
@@ -12,36 +12,36 @@ use Rattle.mv_deck.specs.Operand.{latch_of, amount_of, code_of, end_code_of}
 use Rattle.mv_deck.specs.Statement.{Statement, Null, DeckOf, JobOf, PrintOf, UseOf, FreeOf, CountOf, ScanOf, AbendOf, ReturnOf, AfterPart}
 use Rattle.mv_deck.specs.Statement.{statements_of, version_of}
 
--- a job without where it lies in memory
+-- a job as contracts see it, independent of where it is in memory
 pub record JobData : Type 0 where
   pub name : List ℕ
   pub after : List After
   pub steps : List Step
 
--- a job without where it lies in memory
+-- what contracts see of a job
 abbrev pub job_data : Job → JobData
 job_data j = record { name = j.name; after = j.after.items; steps = j.steps.items }
 
--- the jobs of a deck, so
+-- what contracts see of a deck: its jobs
 abbrev pub deck_data : Deck → List JobData
 deck_data d = map job_data d.jobs.items
 
 -- ---- what a statement adds to the jobs before it
 
--- the place of the job of this name, from 0
+-- the place of the first job of this name, counted from 0
 abbrev pub place_of : List JobData → List ℕ → Option ℕ
 place_of jobs name = position_from (λ (j : JobData). bytes_eq j.name name) 0 jobs
 
--- the highest end code that a part accepts: 0 where it has none
+-- the highest end code that a part accepts, given the text of its code: 0 if it has none
 abbrev pub most_of : Option (List ℕ) → ℕ
 most_of None = 0
 most_of (Some code) = unwrap_or (code_of code) 0
 
--- the job that a part names, behind these jobs
+-- the job that a part names among these earlier jobs, and the end code that the part accepts
 abbrev pub after_of : List JobData → AfterPart → After
 after_of jobs part = record { job = unwrap_or (place_of jobs part.name) 0; most = most_of part.most }
 
--- the step that a statement is, where its numbers and codes are good
+-- the step that a statement states, if its numbers and codes are valid
 abbrev pub step_of : Statement → Option Step
 step_of Null = None
 step_of (DeckOf version) = None
@@ -54,22 +54,22 @@ step_of (ScanOf volume) = option_map Scan (latch_of volume)
 step_of (AbendOf code) = option_map Abend (end_code_of code)
 step_of (ReturnOf code) = option_map Return (code_of code)
 
--- the last job with one more step
+-- the jobs, the last of which has one more step
 abbrev pub with_step : List JobData → Step → List JobData
 with_step [] step = []
 with_step (j ∷ []) step = record j { steps = j.steps ++ step ∷ [] } ∷ []
 with_step (j ∷ k ∷ jobs) step = j ∷ with_step (k ∷ jobs) step
 
--- the same, where there is a step
+-- the jobs, the last of which has one more step if there is one
 abbrev pub with_steps : List JobData → Option Step → List JobData
 with_steps jobs None = jobs
 with_steps jobs (Some step) = with_step jobs step
 
--- a job as its JOB statement begins it
+-- a job as its JOB statement begins it, after these earlier jobs
 abbrev pub fresh_job : List JobData → List ℕ → List AfterPart → JobData
 fresh_job jobs name after = record { name = name; after = map (after_of jobs) after; steps = [] }
 
--- the jobs behind one more statement
+-- the jobs after one more statement
 abbrev pub jobs_behind : List JobData → Statement → List JobData
 jobs_behind jobs Null = jobs
 jobs_behind jobs (DeckOf version) = jobs
@@ -82,7 +82,7 @@ jobs_behind jobs (ScanOf volume) = with_steps jobs (step_of (ScanOf volume))
 jobs_behind jobs (AbendOf code) = with_steps jobs (step_of (AbendOf code))
 jobs_behind jobs (ReturnOf code) = with_steps jobs (step_of (ReturnOf code))
 
--- the jobs of statements, in order
+-- the jobs that these statements state, in order
 abbrev pub jobs_of : List Statement → List JobData
 jobs_of statements = fold jobs_behind [] statements
 

@@ -1,4 +1,4 @@
--- The faults of a text: one test for each kind of fault that a line can have, and which fault is the first.
+-- The faults of a text: a test for each kind of fault that a line can have, and the first fault.
 use Rattle.std.specs.Prelude.{ℕ, Bool, true, false, ◌&&◌, ◌||◌, not, nat_lt, List, [], ◌∷◌, ◌++◌, length, Option, Some}
 use Rattle.std.specs.Prelude.{None, is_none, is_some, option_to_list, codes}
 use Rattle.std.specs.List.{list_any}
@@ -42,13 +42,14 @@ kind_number LateDeck = 15
 
 -- ---- faults of a line by itself
 
--- an ignored line or a comment states nothing, and needs no form
+-- whether a line lacks a form; an ignored line and a comment need none
 abbrev pub has_no_form : Version → List ℕ → Bool
 has_no_form v line = not (is_passed line) && is_none (statement_of v line)
 
 -- ---- sorts of statements
 
--- what is said of the null statement, of a DECK by its word, of a JOB by its name and its list, and of a step
+-- a test by sort of statement: its results for the null statement, for a DECK by its word, for a JOB by its name and list, and
+-- for a step
 abbrev pub by_sort : Bool → (List ℕ → Bool) → (List ℕ → List AfterPart → Bool) → Bool → Statement → Bool
 by_sort null deck job step Null = null
 by_sort null deck job step (DeckOf version) = deck version
@@ -61,98 +62,98 @@ by_sort null deck job step (ScanOf volume) = step
 by_sort null deck job step (AbendOf code) = step
 by_sort null deck job step (ReturnOf code) = step
 
--- what is asked of a JOB alone
+-- whether a statement is a JOB for which the test is true
 abbrev pub is_job_that : (List ℕ → List AfterPart → Bool) → Statement → Bool
 is_job_that test s = by_sort false (λ version. false) test false s
 
--- the null statement
+-- whether a statement is the null statement
 abbrev pub is_null : Statement → Bool
 is_null s = by_sort true (λ version. false) (λ name after. false) false s
 
--- a DECK
+-- whether a statement is a DECK
 abbrev pub is_deck : Statement → Bool
 is_deck s = by_sort false (λ version. true) (λ name after. false) false s
 
--- a JOB
+-- whether a statement is a JOB
 abbrev pub is_job : Statement → Bool
 is_job s = is_job_that (λ name after. true) s
 
 -- ---- faults of a statement by itself
 
--- a job name, or one in an AFTER list, that is none
+-- whether a statement is a JOB of which the name, or a name in the AFTER list, is not the name of a job
 abbrev pub has_bad_name : Statement → Bool
 has_bad_name s = is_job_that (λ name after. not (is_name name) || list_any (λ (p : AfterPart). not (is_name p.name)) after) s
 
--- an accepted code that is none
+-- whether an accepted code is invalid
 abbrev pub accepts_no_code : Option (List ℕ) → Bool
 accepts_no_code None = false
 accepts_no_code (Some code) = is_none (code_of code)
 
--- a number, an amount or a code that is none, or a version other than 2
+-- whether a statement has an invalid number, amount or code, or is a DECK with another version than 2
 abbrev pub has_bad_number : Statement → Bool
 has_bad_number s =
     by_sort false (λ version. not (bytes_eq version (codes "2"))) (λ name after. list_any (λ (p : AfterPart). accepts_no_code p.most) after)
     (is_none (step_of s)) s
 
--- ---- where a statement stands
+-- ---- the place of a statement
 
--- before the first JOB and neither JOB, null nor DECK, or after the null statement
+-- whether a statement comes before the first JOB and is neither JOB, null nor DECK, or comes after the null statement
 abbrev pub is_misplaced : List Statement → Statement → Bool
 is_misplaced earlier s = list_any is_null earlier || (not (list_any is_job earlier) && not (is_job s || is_null s || is_deck s))
 
--- after an ABEND or a RETURN of its job, and neither JOB nor null
+-- whether a statement comes after an ABEND or a RETURN of its job, and is neither JOB nor null
 abbrev pub is_behind_end : List JobData → Statement → Bool
 is_behind_end jobs s = list_any is_end (last_steps jobs) && not (is_job s || is_null s)
 
--- a DECK that is not the first statement
+-- whether a statement is a DECK and not the first statement
 abbrev pub is_late_deck : List Statement → Statement → Bool
 is_late_deck earlier s = is_deck s && nat_lt 0 (length earlier)
 
--- ---- what a statement asks of the jobs before it
+-- ---- a statement and the jobs before it
 
--- a job with the name of an earlier one
+-- whether a statement is a JOB with the name of an earlier job
 abbrev pub repeats_name : List JobData → Statement → Bool
 repeats_name jobs s = is_job_that (λ name after. is_some (place_of jobs name)) s
 
--- an AFTER list with the name of no earlier job
+-- whether a statement is a JOB whose AFTER list names a job that is not an earlier one
 abbrev pub awaits_no_job : List JobData → Statement → Bool
 awaits_no_job jobs s = is_job_that (λ name after. list_any (λ (p : AfterPart). is_none (place_of jobs p.name)) after) s
 
--- whether the name of the first of these parts stands again behind it
+-- whether a later one of these parts has the name of the first
 abbrev pub repeats_first : List AfterPart → Bool
 repeats_first [] = false
 repeats_first (p ∷ parts) = list_any (λ (q : AfterPart). bytes_eq q.name p.name) parts
 
--- whether a name stands twice among those of these parts
+-- whether two of these parts have the same name
 abbrev pub has_double : List AfterPart → Bool
 has_double [] = false
 has_double (p ∷ parts) = repeats_first (p ∷ parts) || has_double parts
 
--- an AFTER list with a name twice, or with more than eight
+-- whether a statement is a JOB whose AFTER list has a name twice, or more than eight names
 abbrev pub is_crowded : Statement → Bool
 is_crowded s = is_job_that (λ name after. has_double after || nat_lt most_after (length after)) s
 
--- what a test says of the step that a statement is; where it is none, the test is not asked
+-- whether the test is true for a step, if there is one
 abbrev pub is_step_that : (Step → Bool) → Option Step → Bool
 is_step_that test None = false
 is_step_that test (Some step) = test step
 
--- a USE of a latch that is not above every latch that the job holds
+-- whether a statement is a USE of a latch that is not above every latch that the job holds
 abbrev pub uses_out_of_order : List JobData → Statement → Bool
 uses_out_of_order jobs s = is_step_that (is_out_of_order (last_steps jobs)) (step_of s)
 
--- a FREE, COUNT or SCAN without the latch that it needs
+-- whether a statement is a FREE, COUNT or SCAN without the latch that it needs
 abbrev pub needs_latch : List JobData → Statement → Bool
 needs_latch jobs s = is_step_that (lacks_latch (last_steps jobs)) (step_of s)
 
--- the deck with this statement is too heavy
+-- whether the deck with this statement is too heavy
 abbrev pub is_too_heavy : ℕ → List JobData → Statement → Bool
 is_too_heavy initiators jobs s = nat_lt heaviest (weight (jobs_behind jobs s) initiators)
 
 -- ---- all faults, and the first
 
--- The kinds of fault of a statement behind the earlier ones, which leave these jobs, rising. A misplaced statement and one
--- behind the end of its job are not asked all.
+-- The kinds of fault of a statement, rising, after the earlier statements, which state these jobs. A misplaced statement, and one
+-- after the end of its job, is checked only for some of the kinds.
 abbrev pub kinds_behind : ℕ → List Statement → List JobData → Statement → List ℕ
 kinds_behind initiators earlier jobs s =
     let placed = not (is_misplaced earlier s) in
@@ -169,12 +170,12 @@ kinds_behind initiators earlier jobs s =
     ++ (when kind_number (is_too_heavy initiators jobs s && asked) TooHeavy
     ++ when kind_number (is_late_deck earlier s && asked) LateDeck)))))))))
 
--- the same for a line that may state nothing
+-- the kinds of fault of a line's statement; none if the line states nothing
 abbrev pub kinds_of_statement : ℕ → List Statement → Option Statement → List ℕ
 kinds_of_statement initiators earlier None = []
 kinds_of_statement initiators earlier (Some s) = kinds_behind initiators earlier (jobs_of earlier) s
 
--- the kinds of fault of a line behind the earlier statements, rising
+-- the kinds of fault of a line after the earlier statements, rising
 abbrev pub kinds_of : ℕ → Version → List Statement → List ℕ → List ℕ
 kinds_of initiators v earlier line =
     when kind_number (is_foreign line) ForeignByte
@@ -191,11 +192,11 @@ line_rules initiators v = record {
   cut_short = kind_number NoNull;
 }
 
--- the first fault of a text for so many initiators: the one with the lowest line, and there with the lowest kind
+-- the first fault of a text for this many initiators: that of the lowest line, and there the lowest kind
 unfoldable pub first_fault : List ℕ → ℕ → Option TextFault
 first_fault bytes initiators = of_lines.first_fault (line_rules initiators (version_of (lines_of bytes))) [] (lines_of bytes)
 
--- The line of this number has a fault of this kind: by what it is and the statements before it, or, behind the last
--- line, for want of a null statement.
+-- The text has this fault: its line has a fault of this kind, by itself or because of the statements before it; or the line is
+-- one after the last, and the null statement is missing.
 abbrev pub HasFault : List ℕ → ℕ → TextFault → Type 0
 HasFault bytes initiators f = HasFaultAt (line_rules initiators (version_of (lines_of bytes))) 1 [] (lines_of bytes) f.line f.kind

@@ -1,4 +1,4 @@
--- What a form states.
+-- The statement of a form.
 use Rattle.std.specs.Prelude.{ℕ, List, map, Option, option_map}
 use Rattle.std.specs.Borrow.{Bor}
 use Rattle.mv_deck.specs.declared.form.Form.{Form}
@@ -10,19 +10,19 @@ use Rattle.mv_deck.specs.Line.{comma}
 use Rattle.mv_deck.specs.Statement.{Statement, Null, DeckOf, JobOf, PrintOf, UseOf, FreeOf, CountOf, ScanOf, AbendOf, ReturnOf, AfterPart}
 use Rattle.mv_deck.specs.Statement.{part_of}
 
--- the bytes behind a reference
+-- the bytes of a reference
 abbrev pub bytes_behind : Bor (List ℕ) → List ℕ
 bytes_behind text = text.now
 
--- a part without where it lies in memory
+-- what contracts see of a part of an AFTER list
 abbrev pub part_data : Part → AfterPart
 part_data p = record { name = p.name.now; most = option_map bytes_behind p.most }
 
--- the parts of an AFTER list, where there is one
+-- the parts of an AFTER list, none if there is no list
 abbrev pub listed : Version → Option (Bor (List ℕ)) → List AfterPart
 listed v list = map (part_of v) (parts_left comma list)
 
--- the statement that a form stands for
+-- the statement of a form
 abbrev pub stated : Version → Form → Statement
 stated v form.Null = Null
 stated v (form.Deck version) = DeckOf version.now

@@ -1,4 +1,4 @@
--- The latches that a job holds behind some of its steps, and where a step may stand by them.
+-- The latches that a job holds after some of its steps, and which step may follow.
 use Rattle.std.specs.Prelude.{ℕ, ◌≤◌, ◌==◌, Bool, true, false, not, List, [], ◌∷◌, drop, fold, Option, Some, None, is_none, is_some}
 use Rattle.std.specs.Prelude.{if◌then◌else◌}
 use Rattle.std.specs.List.{list_any}
@@ -8,7 +8,7 @@ use Rattle.mv_deck.specs.Operand.{highest_latch}
 use Rattle.mv_deck.specs.declared.deck.Step.{Step}
 use Rattle.mv_deck.specs.declared.deck.Step.TheVariants.{Print, Use, Free, Count, Scan, Abend, Return}
 
--- the number of the latch or volume that a step names, if it names one, is that of one of the eight
+-- if a step names a latch or a volume, that is one of the eight
 abbrev pub HasNumberInRange : Step → Type 0
 HasNumberInRange (Print text) = Unit {0}
 HasNumberInRange (Use latch mode) = latch ≤ highest_latch
@@ -18,7 +18,7 @@ HasNumberInRange (Scan volume) = volume ≤ highest_latch
 HasNumberInRange (Abend code) = Unit {0}
 HasNumberInRange (Return code) = Unit {0}
 
--- how a latch is held behind one more step, if it is
+-- the mode in which a latch is held after one more step, if it is held
 abbrev pub held_behind : ℕ → Option Mode → Step → Option Mode
 held_behind latch mode (Print text) = mode
 held_behind latch mode (Use used by) = if used == latch then Some by else mode
@@ -28,7 +28,7 @@ held_behind latch mode (Scan volume) = mode
 held_behind latch mode (Abend code) = mode
 held_behind latch mode (Return code) = mode
 
--- How a job holds a latch behind these steps: by its last USE, unless a FREE stands behind that.
+-- the mode in which a job holds a latch after these steps, if it does: that of its last USE, unless a FREE follows that
 abbrev pub held : List Step → ℕ → Option Mode
 held steps latch = fold (held_behind latch) None steps
 
@@ -40,13 +40,13 @@ latches = 0 ∷ 1 ∷ 2 ∷ 3 ∷ 4 ∷ 5 ∷ 6 ∷ 7 ∷ []
 abbrev pub holds_from : List Step → ℕ → Bool
 holds_from steps latch = list_any (λ l. is_some (held steps l)) (drop latch latches)
 
--- whether a latch is held exclusive
+-- whether a latch is held exclusively
 abbrev pub is_exclusive : Option Mode → Bool
 is_exclusive None = false
 is_exclusive (Some Shared) = false
 is_exclusive (Some Exclusive) = true
 
--- a USE of a latch that is not above every latch that the job holds
+-- whether a step is a USE of a latch that is not above every latch that the job holds after the steps `done`
 abbrev pub is_out_of_order : List Step → Step → Bool
 is_out_of_order done (Print text) = false
 is_out_of_order done (Use latch mode) = holds_from done latch
@@ -56,8 +56,8 @@ is_out_of_order done (Scan volume) = false
 is_out_of_order done (Abend code) = false
 is_out_of_order done (Return code) = false
 
--- a FREE of a latch that is not held, a COUNT of a volume whose latch is not held exclusive, or a SCAN of one whose latch is
--- not held
+-- whether a step lacks its latch after the steps `done`: a FREE of a latch that is not held, a COUNT of a volume whose latch is
+-- not held exclusively, or a SCAN of one whose latch is not held
 abbrev pub lacks_latch : List Step → Step → Bool
 lacks_latch done (Print text) = false
 lacks_latch done (Use latch mode) = false
@@ -67,7 +67,7 @@ lacks_latch done (Scan volume) = is_none (held done volume)
 lacks_latch done (Abend code) = false
 lacks_latch done (Return code) = false
 
--- whether a job ends by this step
+-- whether a job ends with this step
 abbrev pub is_end : Step → Bool
 is_end (Print text) = false
 is_end (Use latch mode) = false

@@ -1,4 +1,4 @@
--- What may stand in the places of names, numbers and codes.
+-- The valid names, numbers and codes of statements.
 use Rattle.std.specs.Prelude.{ℕ, ◌+◌, ◌-◌, ◌*◌, Bool, false, ◌==◌, ◌&&◌, ◌||◌, nat_le, nat_lt, List, [], ◌∷◌, length, Option, Some, None}
 use Rattle.std.specs.Prelude.{option_map, codes, if◌then◌else◌}
 use Rattle.std.specs.List.{list_all}
@@ -11,7 +11,7 @@ use Rattle.mv_deck.specs.EndCode.{highest_code, abended}
 
 -- ---- limits
 
--- how many volumes there are, each guarded by the latch of its number
+-- the number of volumes, each guarded by the latch of its number
 abbrev pub volume_count : ℕ
 volume_count = 8
 
@@ -23,7 +23,7 @@ highest_latch = 7
 abbrev pub highest_amount : ℕ
 highest_amount = 9999
 
--- how many jobs a job may wait for
+-- the most jobs that one job may wait for
 abbrev pub most_after : ℕ
 most_after = 8
 
@@ -33,15 +33,15 @@ longest_name = 8
 
 -- ---- names
 
--- `A` to `Z`, `@`, `#`, `$`
+-- whether a name may begin with this byte: `A` to `Z`, `@`, `#`, `$`
 abbrev pub is_name_start : ℕ → Bool
 is_name_start b = is_within 64 90 b || is_within 35 36 b
 
--- one of these, or a digit
+-- whether a name may have this byte: a byte that may begin it, or a digit
 abbrev pub is_name_byte : ℕ → Bool
 is_name_byte b = is_name_start b || is_digit b
 
--- one to eight bytes of a name, the first no digit
+-- whether a field is a name: one to eight bytes of names, the first not a digit
 abbrev pub is_name : List ℕ → Bool
 is_name [] = false
 is_name (b ∷ bs) = is_name_start b && list_all is_name_byte bs && nat_lt (length bs) longest_name
@@ -56,39 +56,39 @@ latch_of text = within 0 highest_latch (number_of text)
 abbrev pub amount_of : List ℕ → Option ℕ
 amount_of text = within 1 highest_amount (number_of text)
 
--- a return code, or an accepted one
+-- a return code, or an accepted end code
 abbrev pub code_of : List ℕ → Option ℕ
 code_of text = within 0 highest_code (number_of text)
 
--- `S` or `X`
+-- the mode of `S` (shared) or `X` (exclusive)
 abbrev pub mode_of : List ℕ → Option Mode
 mode_of text = if bytes_eq text (codes "S") then Some Shared else if bytes_eq text (codes "X") then Some Exclusive else None
 
 -- ---- codes of an ABEND
 
--- the value of a digit, 0 to 9 and A to F
+-- whether a byte is a hexadecimal digit: 0 to 9 and A to F
 abbrev pub is_hex : ℕ → Bool
 is_hex b = is_digit b || is_within 65 70 b
 
--- what such a digit counts
+-- the value of a hexadecimal digit
 abbrev pub hex_value : ℕ → ℕ
 hex_value b = if is_digit b then b - 48 else b - 55
 
--- four digits, up to the highest code
+-- a user code: four digits, at most the highest code
 abbrev pub user_code_of : List ℕ → Option ℕ
 user_code_of (a ∷ b ∷ c ∷ d ∷ []) =
     let n = 1000 * (a - 48) + 100 * (b - 48) + 10 * (c - 48) + (d - 48) in
     if list_all is_digit (a ∷ b ∷ c ∷ d ∷ []) && nat_le n highest_code then Some n else None
 user_code_of _ = None
 
--- three hexadecimal digits, not all 0
+-- a system code: three hexadecimal digits, not all 0
 abbrev pub system_code_of : List ℕ → Option ℕ
 system_code_of (a ∷ b ∷ c ∷ []) =
     let n = 256 * hex_value a + 16 * hex_value b + hex_value c in
     if list_all is_hex (a ∷ b ∷ c ∷ []) && nat_lt 0 n then Some n else None
 system_code_of _ = None
 
--- the end code that a code stands for: `Udddd` or `Shhh`
+-- the end code of an ABEND: `Udddd` or `Shhh`
 abbrev pub end_code_of : List ℕ → Option ℕ
 end_code_of [] = None
 end_code_of (letter ∷ digits) =

@@ -1,4 +1,4 @@
--- Where the reader of decks is: behind these statements.
+-- The invariant of the reader of decks, after these statements.
 use Rattle.std.specs.Prelude.{◌≡◌, ℕ, ◌+◌, ◌≤◌, false, nat_lt, List, [], ◌∷◌, ◌++◌, length, map, Option, Some, None, is_some}
 use Rattle.std.specs.List.{list_any}
 use Rattle.mv_deck.specs.declared.deck.After.{After}
@@ -13,27 +13,27 @@ use Rattle.mv_deck.specs.Held.{held, latches, is_end}
 use Rattle.mv_deck.specs.Names.{place_in}
 use Rattle.mv_deck.specs.Weight.{weight, heaviest}
 
--- the job that takes steps, where one has begun
+-- the job that takes steps, if one has begun
 abbrev pub open_job : Option (List ℕ) → List After → List Step → List JobData
 open_job None after steps = []
 open_job (Some name) after steps = record { name = name; after = after; steps = steps } ∷ []
 
--- the jobs that were read, the last one as far as it goes
+-- the jobs that were read, the last one as far as it was read
 abbrev pub jobs_read : Reading → List JobData
 jobs_read r = map job_data r.finished.items ++ open_job r.name r.after.items r.steps.items
 
--- there are no more finished jobs than a deck may weigh, so the place of each fits a `u32`
+-- at most as many jobs are finished as the weight limit, so the place of each fits a `u32`
 abbrev pub HasFewJobs : Reading → Type 0
 HasFewJobs r = length r.finished.items ≤ heaviest
 
--- what the reader keeps of these jobs beside themselves
+-- what the reader keeps about these jobs, besides the jobs themselves
 pub record Keeps (initiators : ℕ) (jobs : List JobData) (r : Reading) : Type 0 where
   pub named : (name : List ℕ) → place_in r.names name ≡ place_of jobs name
   pub latched : r.held.modes ≡ map (held (last_steps jobs)) latches
   pub closed : r.closed ≡ list_any is_end (last_steps jobs)
   pub room : r.room + weight jobs initiators ≡ heaviest
 
--- the reader has read these statements, and keeps what they come to
+-- the reader has read these statements, and keeps what follows from them
 pub record IsBehind (initiators : ℕ) (v : Version) (statements : List Statement) (r : Reading) : Type 0 where
   pub initiators_are : r.initiators ≡ initiators
   pub version : r.version ≡ v
@@ -43,7 +43,7 @@ pub record IsBehind (initiators : ℕ) (v : Version) (statements : List Statemen
   pub stated : r.stated ≡ nat_lt 0 (length statements)
   pub ended : r.ended ≡ list_any is_null statements
 
--- what a statement has no fault of, but for those of the job that it stands in and for the weight
+-- a statement has no fault of a JOB, its weight aside
 pub record IsGoodJob (earlier : List Statement) (jobs : List JobData) (s : Statement) : Type 0 where
   pub name : has_bad_name s ≡ false
   pub place : is_misplaced earlier s ≡ false

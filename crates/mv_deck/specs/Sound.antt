@@ -10,7 +10,8 @@ use Rattle.mv_deck.specs.Deck.{JobData, place_of}
 use Rattle.mv_deck.specs.Held.{is_out_of_order, lacks_latch, is_end}
 use Rattle.mv_deck.specs.Weight.{weight, heaviest}
 
--- each of these may stand behind those before it, where a rule says what may stand behind which
+-- each element of the second list may follow the first list and the elements before it, if `May before x` says that x may follow
+-- `before`
 abbrev pub EachBehind : {A : Type 0} → (List A → A → Type 0) → List A → List A → Type 0
 EachBehind May before [] = Unit {0}
 EachBehind May before (x ∷ xs) = May before x × EachBehind May (before ++ x ∷ []) xs
@@ -27,20 +28,20 @@ HasGoodNumbers (Scan volume) = volume ≤ highest_latch
 HasGoodNumbers (Abend code) = (lowest_abend ≤ code) × (code < not_run)
 HasGoodNumbers (Return code) = code ≤ highest_code
 
--- a step may stand behind these of its job
+-- a step may follow these steps of its job
 pub record IsSoundStep (done : List Step) (step : Step) : Type 0 where
   pub numbers : HasGoodNumbers step
   pub in_order : is_out_of_order done step ≡ false
   pub latched : lacks_latch done step ≡ false
   pub before_end : list_any is_end done ≡ false
 
--- each of these steps may stand behind those before it
+-- each of these steps may follow the steps before it
 abbrev pub AreSoundSteps : List Step → List Step → Type 0
 AreSoundSteps = EachBehind IsSoundStep
 
 -- ---- jobs
 
--- an awaited job is one of so many earlier ones
+-- an awaited job is one of this many earlier jobs, and the accepted code is in its range
 abbrev pub IsSoundAfter : ℕ → After → Type 0
 IsSoundAfter earlier part = (part.job < earlier) × (part.most ≤ highest_code)
 
@@ -49,7 +50,7 @@ abbrev pub AreDistinct : List After → Type 0
 AreDistinct [] = Unit {0}
 AreDistinct (part ∷ parts) = AllByRecursion (λ (other : After). ¬ (other.job ≡ part.job)) parts × AreDistinct parts
 
--- a job may stand behind these
+-- a job may follow these jobs
 pub record IsSoundJob (before : List JobData) (job : JobData) : Type 0 where
   pub named : is_name job.name ≡ true
   pub new : place_of before job.name ≡ None
@@ -58,11 +59,11 @@ pub record IsSoundJob (before : List JobData) (job : JobData) : Type 0 where
   pub earlier : AllByRecursion (IsSoundAfter (length before)) job.after
   pub steps : AreSoundSteps [] job.steps
 
--- each of these jobs may stand behind those before it
+-- each of these jobs may follow the jobs before it
 abbrev pub AreSoundJobs : List JobData → List JobData → Type 0
 AreSoundJobs = EachBehind IsSoundJob
 
--- a deck that so many initiators can run
+-- a deck that this many initiators can run
 pub record IsSound (jobs : List JobData) (initiators : ℕ) : Type 0 where
   pub jobs_stand : AreSoundJobs [] jobs
   pub light : weight jobs initiators ≤ heaviest

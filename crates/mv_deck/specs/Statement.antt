@@ -1,4 +1,4 @@
--- The forms of a deck's lines, by their words.
+-- The statements of a deck's lines, by the words of the lines.
 use Rattle.std.specs.Prelude.{ℕ, ◌==◌, nat_eq, List, [], ◌∷◌, drop, map, Option, Some, None, option_map, codes, if◌then◌else◌}
 use Rattle.std.specs.List.{starts_with, filter_map}
 use Rattle.std.specs.Str.{bytes_eq}
@@ -11,12 +11,12 @@ use Rattle.mv_line.specs.Line.{shown}
 use Rattle.mv_deck.specs.Line.{is_comment, is_passed, parts_of, before_colon, behind_colon}
 use Rattle.mv_deck.specs.Operand.{mode_of}
 
--- a part of an AFTER list: what stands in the place of a name, and in that of an accepted code where there is one
+-- a part of an AFTER list: the bytes in the place of a name, and in that of an accepted code if there is one
 pub record AfterPart : Type 0 where
   pub name : List ℕ
   pub most : Option (List ℕ)
 
--- What a line states. A name, a number, a text and a code are the bytes that stand in their places.
+-- The statement of a line. A name, a number, a text and a code are the bytes in their places.
 pub data Statement : Type 0 where
   Null : Statement
   DeckOf : (version : List ℕ) → Statement
@@ -31,17 +31,17 @@ pub data Statement : Type 0 where
 
 -- ---- JOB
 
--- a part of an AFTER list: in version 2 a colon parts the name from the accepted code
+-- a part of an AFTER list: in version 2 a colon separates the name from the accepted code
 abbrev pub part_of : Version → List ℕ → AfterPart
 part_of One part = record { name = part; most = None }
 part_of Two part = record { name = before_colon part; most = behind_colon part }
 
--- the job of this name with this third field, `AFTER=` and a list
+-- the JOB of this name with this third field, which is `AFTER=` and a list
 abbrev pub job_after : Version → List ℕ → List ℕ → Option Statement
 job_after v name third =
     if starts_with nat_eq third (codes "AFTER=") then Some (JobOf name (map (part_of v) (parts_of (drop 6 third)))) else None
 
--- `NAME JOB` or `NAME JOB AFTER=list`, at once behind the slashes
+-- the JOB of these fields, the first of which follows the slashes at once: `NAME JOB` or `NAME JOB AFTER=list`
 abbrev pub job_of : Version → List (List ℕ) → Option Statement
 job_of v [] = None
 job_of v (name ∷ []) = None
@@ -51,17 +51,17 @@ job_of v (name ∷ operation ∷ third ∷ fourth ∷ more) = None
 
 -- ---- operations without a name
 
--- a USE of this latch in a mode, by two operands
+-- the USE of these two operands: a latch and a mode
 abbrev pub use_of : Option (List ℕ × List ℕ) → Option Statement
 use_of None = None
 use_of (Some operands) = option_map (λ mode. UseOf operands.0 mode) (mode_of operands.1)
 
--- RETURN is a form of version 2 alone
+-- the RETURN of this operand, a form that only version 2 has
 abbrev pub return_of : Version → Option (List ℕ) → Option Statement
 return_of One operand = None
 return_of Two operand = option_map ReturnOf operand
 
--- an operation that has one operand
+-- the statement of an operation that has one operand
 abbrev pub one_operand : Version → List ℕ → Option (List ℕ) → Option Statement
 one_operand v operation operand =
     if bytes_eq operation (codes "FREE") then option_map FreeOf operand
@@ -71,7 +71,7 @@ one_operand v operation operand =
     else if bytes_eq operation (codes "DECK") then option_map DeckOf operand
     else None
 
--- An operation and its operands. The text of PRINT is all that follows the operation and one space.
+-- the statement of an operation and its operands; the text of a PRINT is all that follows the operation and one space
 abbrev pub operated : Version → List ℕ → List ℕ → List (List ℕ) → Option Statement
 operated v rest operation operands =
     if bytes_eq operation (codes "PRINT") then Some (PrintOf (drop 6 (without_first_spaces rest)))
@@ -86,12 +86,12 @@ operation_of v rest (operation ∷ operands) = operated v rest operation operand
 
 -- ---- lines
 
--- what follows the two slashes
+-- the statement of what follows the two slashes
 abbrev pub behind_slashes : Version → List ℕ → Option Statement
 behind_slashes v [] = Some Null
 behind_slashes v (b ∷ bs) = if b == 32 then operation_of v (b ∷ bs) (fields_of (b ∷ bs)) else job_of v (fields_of (b ∷ bs))
 
--- the statement of a text that is no comment, where its words fit one of the forms of its version
+-- the statement of a text that is not a comment, if its words fit one of the forms of its version
 abbrev pub form_of : Version → List ℕ → Option Statement
 form_of v text = if starts_with nat_eq text (codes "//") then behind_slashes v (drop 2 text) else None
 
@@ -110,8 +110,8 @@ abbrev pub declared_by : Option Statement → Version
 declared_by (Some (DeckOf version)) = if bytes_eq version (codes "2") then Two else One
 declared_by _ = One
 
--- The version of a deck with these lines: its first line that is neither ignored nor a comment declares version 2 or
--- none. DECK is a form of both versions, so it is looked for in version 1.
+-- The version of a deck with these lines: its first line that is neither ignored nor a comment declares version 2, or version 1
+-- holds. DECK is a form of both versions, so it is looked for in version 1.
 abbrev pub version_of : List (List ℕ) → Version
 version_of [] = One
 version_of (line ∷ lines) = if is_passed line then version_of lines else declared_by (statement_of One line)

@@ -1,13 +1,13 @@
-//! End codes: how a job came to its end, as a number. Clauses have these names from `specs/EndCode.antt`.
+//! End codes: the end of a job, as a number. Clauses use the names of `specs/EndCode.antt` for them.
 
 /// The highest return code, and the highest user code and system code of an abend.
 pub const HIGHEST_CODE: u32 = 4095;
 
-/// How many user codes there are, and so the weight of the system code of an abend.
+/// The number of user codes, by which the system code of an abend is multiplied in an end code.
 pub const USER_CODES: u32 = 4096;
 
-/// The end of a job that abended with a system and a user code of 0, the lowest end of an abend.
+/// The lowest end code of an abend, that of an abend with system code 0 and user code 0.
 pub const LOWEST_ABEND: u32 = 1 << 24;
 
-/// The end of a job that was not run, above those of all abends.
+/// The end code of a job that was not run, above those of all abends.
 pub const NOT_RUN: u32 = 1 << 25;

@@ -7,35 +7,36 @@ use mv_line::FaultKind;
 /// The kinds of fault that a line of a deck can have, lowest first.
 #[derive(Clone, Copy, Debug, PartialEq, Eq)]
 pub enum Kind {
-    /// A byte outside 32 to 126.
+    /// The line has a byte outside 32 to 126.
     ForeignByte,
-    /// More than 80 bytes.
+    /// The line has more than 80 bytes.
     TooLong,
-    /// None of the forms of its version, by its words.
+    /// The words of the line fit no form of the deck's version.
     NoForm,
-    /// A name that is none.
+    /// A name is not the name of a job.
     BadName,
-    /// The name of an earlier job.
+    /// A JOB has the name of an earlier job.
     RepeatedName,
-    /// AFTER with a name of no earlier job.
+    /// An AFTER names a job that is not an earlier one.
     UnknownAfter,
-    /// AFTER with a name twice, or with more than eight.
+    /// An AFTER has a name twice, or more than eight names.
     CrowdedAfter,
-    /// A number, amount or code that is none; DECK with another word than 2.
+    /// A number, an amount or a code is invalid, or a DECK has another word than 2.
     BadNumber,
-    /// USE of a latch that is not above every latch that the job holds.
+    /// A USE is of a latch that is not above every latch that the job holds.
     LatchOrder,
-    /// FREE of a latch not held, COUNT of one not held exclusive, SCAN of one not held.
+    /// A FREE is of a latch that is not held, a COUNT of a volume whose latch is not held exclusively, or a SCAN of one whose
+    /// latch is not held.
     LatchNotHeld,
-    /// A statement before the first JOB that is neither JOB, null nor DECK, or any statement after the null statement.
+    /// A statement comes before the first JOB and is neither JOB, null nor DECK, or it comes after the null statement.
     Misplaced,
-    /// No null statement; the line is one more than the number of lines.
+    /// The deck has no null statement. The line of the fault is one more than the number of lines.
     NoNull,
-    /// A statement after ABEND or RETURN that is neither JOB nor null.
+    /// A statement comes after ABEND or RETURN and is neither JOB nor null.
     BehindEnd,
-    /// The weight of the deck so far passes 524,287.
+    /// The weight of the deck up to here is above 524,287.
     TooHeavy,
-    /// DECK that is not the first statement.
+    /// A DECK is not the first statement.
     LateDeck,
 }
 

@@ -1,4 +1,4 @@
-//! The form of a line, by its words (`specs/Form.antt`, `specs/Statement.antt`).
+//! The form of a line, which its words determine (`specs/Form.antt`, `specs/Statement.antt`).
 
 ghost use Rattle.std.specs.Prelude.{◌≡◌, ◌-◌, ◌^◌, ◌<◌, Some, length, drop, map, option_map, IfOk};
 ghost use Rattle.mv_deck.specs.Form.{stated, part_data, listed};
@@ -16,19 +16,19 @@ use mv_line::{
 };
 use std::alloc::{AllocError, Global};
 
-/// Which forms the lines of a deck may have.
+/// The version of a deck, which says which forms its lines may have.
 #[derive(Clone, Copy)]
 pub(crate) enum Version {
     One,
     Two,
 }
 
-/// A line's statement, with the bytes that stand in the places of a name, a number, a text or a code.
+/// The statement of a line, with the bytes in the places of a name, a number, a text or a code.
 #[derive(Clone, Copy)]
 pub(crate) enum Form<'a> {
     Null,
     Deck(&'a [u8]),
-    /// A name, and the list behind `AFTER=`.
+    /// A name, and the list after `AFTER=`.
     Job(&'a [u8], Option<&'a [u8]>),
     Print(&'a [u8]),
     Use(&'a [u8], Mode),
@@ -39,14 +39,14 @@ pub(crate) enum Form<'a> {
     Return(&'a [u8]),
 }
 
-/// A part of an AFTER list: a name, and an accepted code where there is one.
+/// A part of an AFTER list: a name, and an accepted code if there is one.
 #[derive(Clone, Copy, Drop)]
 pub(crate) struct Part<'a> {
     pub(crate) name: &'a [u8],
     pub(crate) most: Option<&'a [u8]>,
 }
 
-/// The form of a text without spaces at its end, where its words fit one of its version.
+/// Returns the form of a text without spaces at its end, or `None` if its words fit no form of its version.
 pub(crate) fn form_of(version: Version, text: &[u8]) -> Option<Form<'_>>
     ensures { option_map (stated version) result ≡ form_by_words version text.now }
 {
@@ -58,7 +58,7 @@ pub(crate) fn form_of(version: Version, text: &[u8]) -> Option<Form<'_>>
     }
 }
 
-// `NAME JOB` or `NAME JOB AFTER=list`
+// The form `NAME JOB` or `NAME JOB AFTER=list`.
 fn job_of(rest: &[u8]) -> Option<Form<'_>>
     ensures { (v : Version) → option_map (stated v) result ≡ named v (fields_of rest.now) }
 {
@@ -79,7 +79,7 @@ fn job_of(rest: &[u8]) -> Option<Form<'_>>
     Some(Form::Job(name, Some(list)))
 }
 
-// An operation and its operands, behind one or more spaces.
+// An operation and its operands, which follow it after one or more spaces.
 fn operation_of(version: Version, rest: &[u8]) -> Option<Form<'_>>
     ensures { option_map (stated version) result ≡ unnamed version rest.now (fields_of rest.now) }
 {
@@ -119,7 +119,7 @@ fn one_operand<'a>(version: Version, operation: &[u8], operand: &'a [u8]) -> Opt
     None
 }
 
-// A return code; RETURN is a form of version 2 alone.
+// A return code; only version 2 has the form RETURN.
 fn return_of(version: Version, operand: &[u8]) -> Option<Form<'_>>
     ensures { option_map (stated version) result ≡ returns_by version (Some operand.now) }
 {
@@ -145,7 +145,7 @@ fn printed(rest: &[u8]) -> &[u8]
     statement.get(6..).unwrap_or(&[])
 }
 
-/// The version of a deck, by the first of its lines that is neither ignored nor a comment.
+/// Returns the version of a deck, by the first of its lines that is neither ignored nor a comment.
 pub(crate) fn version_of(bytes: &[u8]) -> Version
     requires { length bytes.now < 2 ^ 32 - 1 }
     ensures { result ≡ version_by_lines (lines_of bytes.now) }
@@ -170,7 +170,7 @@ fn declared(form: Option<Form>) -> Version
     }
 }
 
-/// The parts of an AFTER list, where there is one.
+/// Returns the parts of an AFTER list, none if there is no list.
 pub(crate) fn parts_of<'a>(
     alloc: Global,
     version: Version,
@@ -188,7 +188,7 @@ pub(crate) fn parts_of<'a>(
     Ok(parts)
 }
 
-// A name, and in version 2 the accepted code behind a colon.
+// A name, and in version 2 the accepted code after a colon.
 fn part_of(version: Version, part: &[u8]) -> Part<'_>
     ensures { part_data result ≡ cut version part.now }
 {

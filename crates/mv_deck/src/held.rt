@@ -11,7 +11,7 @@ use crate::Step;
 use crate::operand::VOLUME_COUNT;
 use mv_latch::Mode;
 
-/// How each of the eight latches is held, if it is.
+/// The mode in which each of the eight latches is held, if it is held.
 #[derive(Clone, Copy, Drop)]
 pub(crate) struct Held {
     modes: [Option<Mode>; VOLUME_COUNT],
@@ -26,7 +26,7 @@ impl Held {
         }
     }
 
-    /// Whether a step uses a latch that is not above all that are held.
+    /// Returns whether a step uses a latch that is not above all that are held.
     pub(crate) fn is_out_of_order(&self, step: &Step) -> bool
         requires { HasNumberInRange step.now }
         ensures { (done : List Step) → self.now.modes ≡ map (held done) latches → result ≡ stands_out_of_order done step.now }
@@ -42,7 +42,7 @@ impl Held {
         }
     }
 
-    /// Whether a step lacks the latch that it needs.
+    /// Returns whether a step lacks the latch that it needs.
     pub(crate) fn lacks_latch(&self, step: &Step) -> bool
         requires { HasNumberInRange step.now }
         ensures { (done : List Step) → self.now.modes ≡ map (held done) latches → result ≡ stands_without_latch done step.now }
@@ -55,7 +55,7 @@ impl Held {
         }
     }
 
-    /// Goes on behind a step.
+    /// Updates the held latches after a step.
     pub(crate) fn follow(&mut self, step: &Step)
         requires { HasNumberInRange step.now }
         ensures { (done : List Step) → self.old.modes ≡ map (held done) latches
@@ -76,7 +76,7 @@ impl Held {
         self.modes[latch as usize]
     }
 
-    // Whether this latch is held, or one above it.
+    // Whether this latch or one above it is held.
     fn holds_from(&self, latch: u32) -> bool
         requires { latch ≤ highest_latch }
         ensures { result ≡ list_any (λ (m : Option Mode). is_some m) (drop latch self.now.modes) }

@@ -1,4 +1,4 @@
-//! The deck: the text that names the jobs of a run, read into values, or its first fault.
+//! Decks: the text that names the jobs of a run, read into values or refused with its first fault.
 #![tactic(auto)]
 
 mod deck;

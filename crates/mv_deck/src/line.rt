@@ -1,4 +1,4 @@
-//! Which lines of a deck are comments, and a part of a list at its colon (`specs/Line.antt`).
+//! Comments of a deck, and a part of a list that is split at its colon (`specs/Line.antt`).
 
 ghost use Rattle.std.specs.Prelude.{◌≡◌, ℕ, List, option_map};
 ghost use Rattle.std.specs.Borrow.{Bor};
@@ -6,14 +6,14 @@ ghost use Rattle.mv_deck.specs.Line.{is_comment as comments, before_colon, behin
 
 use mv_line::first_place;
 
-/// Whether a text is a comment.
+/// Returns whether a text is a comment.
 pub(crate) fn is_comment(text: &[u8]) -> bool
     ensures { result ≡ comments text.now }
 {
     text.starts_with(b"//*")
 }
 
-/// A part of a list at its first colon: what stands before it, and what stands behind it.
+/// Splits a part of a list at its first colon, and returns what precedes it and what follows it.
 pub(crate) fn split_colon(part: &[u8]) -> (&[u8], Option<&[u8]>)
     ensures front { result.0.now ≡ before_colon part.now }
     ensures back { option_map (λ (t : Bor (List ℕ)). t.now) result.1 ≡ behind_colon part.now }

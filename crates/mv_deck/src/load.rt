@@ -13,15 +13,15 @@ use std::alloc::Global;
 /// The most jobs of a load.
 pub const MOST_JOBS: u32 = 2000;
 
-/// The text of a deck of so many jobs, 1 to 2000: the same for the same number.
+/// Returns the text of a deck of `jobs` jobs, 1 to 2000. The same number gives the same text.
 ///
 /// Job i, counted from 0, counts 1 + i mod 9 in volume i mod 8 under the latch of that number, and prints `WORK` and i. Every
-/// fourth job scans its volume, every fifth waits for an earlier one, and every seventh abends. The text is below 200,000 bytes,
-/// has no fault, and can be run by 1 to 8 initiators.
+/// fourth job scans its volume, every fifth waits for the job three before it, and every seventh abends. The text is below
+/// 200,000 bytes, has no fault, and can be run by 1 to 8 initiators.
 ///
 /// # Errors
 ///
-/// `NoMemory` where there is no room for the text.
+/// `NoMemory` if there is not enough memory for the text.
 ///
 /// # Example
 ///
@@ -64,7 +64,7 @@ fn counted(job: u32) -> u32
     1 + job % 9
 }
 
-// Appends the JOB.
+// Appends the line of the JOB statement.
 fn push_heading(out: &mut Vec<u8>, job: u32) -> Result<(), NoMemory>
     ensures { OnOk result (out.new.items ≡ out.old.items ++ ended (job_line job)) }
 {
@@ -111,7 +111,7 @@ fn push_print(out: &mut Vec<u8>, job: u32) -> Result<(), NoMemory>
     Ok(())
 }
 
-// Appends the last statement.
+// Appends the line of the last statement.
 fn push_last(out: &mut Vec<u8>, job: u32) -> Result<(), NoMemory>
     ensures { OnOk result (out.new.items ≡ out.old.items ++ ended (last_line job)) }
 {
@@ -131,7 +131,7 @@ fn push_end(out: &mut Vec<u8>, job: u32) -> Result<(), NoMemory>
     push_number(out, b"// FREE ", u64::from(volume(job)))
 }
 
-// Appends a line with a number in it.
+// Appends a line: a label, a number, and what follows the number.
 fn push_line(out: &mut Vec<u8>, label: &[u8], number: u32, behind: &[u8]) -> Result<(), NoMemory>
     ensures { OnOk result (out.new.items ≡ out.old.items ++ ended (label.now ++ decimal number ++ behind.now)) }
 {
@@ -160,7 +160,7 @@ fn four_digits(number: u32) -> [u8; 4]
     ]
 }
 
-// The digit of a number that counts so much.
+// The decimal digit of a number at a place of this weight: 1, 10, 100 and so on.
 fn digit(number: u32, weight: u32) -> u8
     requires { 0 < weight }
     ensures { result ≡ digit_of weight number }

@@ -1,4 +1,4 @@
-//! The jobs so far by their names (`specs/Names.antt`): each look-up takes one time whatever their number.
+//! The jobs so far by their names (`specs/Names.antt`). The time of a look-up does not grow with their number.
 
 ghost use Rattle.std.specs.Prelude.{◌≡◌, None, Some, List, ℕ, OnOk, IfOk, map, is_none, option_map, if◌then◌else◌};
 ghost use Rattle.std.specs.List.{list_any};
@@ -14,7 +14,7 @@ use crate::operand::code;
 use std::alloc::{AllocError, AllocFailed, Global};
 use std::collections::HashMap;
 
-/// The places of jobs in a deck, by the jobs' names as they stand in the text.
+/// The places of jobs in a deck, by the jobs' names, which are borrowed from the text.
 #[derive(Drop)]
 pub(crate) struct Names<'a> {
     places: HashMap<&'a [u8], u32>,
@@ -29,21 +29,21 @@ impl<'a> Names<'a> {
         }
     }
 
-    /// The place of the job of this name.
+    /// Returns the place of the job of this name, if there is one.
     pub(crate) fn place(&self, name: &'a [u8]) -> Option<u32>
         ensures { result ≡ place_in self.now name.now }
     {
         self.places.get(&name).copied()
     }
 
-    /// Whether a part names no job.
+    /// Returns whether a part names no job.
     pub(crate) fn lacks_one(&self, parts: &[Part<'a>]) -> bool
         ensures { result ≡ list_any (λ (p : Part). is_none (place_in self.now p.name.now)) parts.now }
     {
         parts.iter().any(|part| self.place(part.name).is_none())
     }
 
-    /// The jobs that the parts name, with what they accept.
+    /// Returns the jobs that the parts name, with the end codes that they accept.
     pub(crate) fn after(&self, alloc: Global, parts: &[Part<'a>]) -> Result<Vec<After>, AllocError>
         ensures { IfOk result (λ after. after.items ≡ map (λ (p : Part). after_in self.now (part_data p)) parts.now) }
     {
@@ -57,7 +57,7 @@ impl<'a> Names<'a> {
         Ok(after)
     }
 
-    /// Gives a name a place.
+    /// Gives this name the place.
     pub(crate) fn give(
         &mut self,
         name: &'a [u8],
@@ -71,7 +71,7 @@ impl<'a> Names<'a> {
     }
 }
 
-// The highest end code that a part accepts.
+// The highest end code that a part accepts, given the text of its code.
 fn most_of(most: Option<&[u8]>) -> u32
     ensures { result ≡ most_by_code (option_map bytes_behind most.entry) }
 {

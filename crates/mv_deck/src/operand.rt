@@ -1,4 +1,4 @@
-//! What may stand in the places of names, numbers and codes (`specs/Operand.antt`).
+//! The valid names, numbers and codes of statements (`specs/Operand.antt`).
 
 ghost use Rattle.std.specs.Prelude.{◌≡◌, ◌≤◌, IfSome, Some, None, if◌then◌else◌};
 ghost use Rattle.std.specs.List.{list_all};
@@ -10,7 +10,7 @@ use crate::end_code::{HIGHEST_CODE, LOWEST_ABEND, USER_CODES};
 use mv_latch::Mode;
 use mv_line::{digit, is_word, number_within};
 
-/// How many volumes there are, each guarded by the latch of its number.
+/// The number of volumes. Each is guarded by the latch of its number.
 pub const VOLUME_COUNT: usize = 8;
 
 // The highest number of a latch, and of the volume that it guards.
@@ -19,7 +19,7 @@ const HIGHEST_LATCH: u32 = VOLUME_COUNT as u32 - 1;
 // The highest amount of a COUNT.
 const HIGHEST_AMOUNT: u32 = 9999;
 
-/// How many jobs a job may wait for.
+/// The most jobs that one job may wait for.
 pub const MOST_AFTER: usize = 8;
 
 // The most bytes of a name.
@@ -43,7 +43,8 @@ fn are_name_bytes(bytes: &[u8]) -> bool
     bytes.iter().all(|b| is_name_byte(*b))
 }
 
-/// Whether a field is the name of a job: one to eight of `A` to `Z`, `0` to `9`, `@`, `#`, `$`, the first no digit.
+/// Returns whether a field is the name of a job: one to eight of `A` to `Z`, `0` to `9`, `@`, `#`, `$`, not beginning with a
+/// digit.
 pub(crate) fn is_name(field: &[u8]) -> bool
     ensures { result ≡ names_job field.now }
 {
@@ -55,7 +56,7 @@ pub(crate) fn is_name(field: &[u8]) -> bool
     }
 }
 
-/// The number of a latch or a volume, 0 to 7.
+/// Returns the number of a latch or a volume, 0 to 7, or `None` if the text is not one.
 pub(crate) fn latch(text: &[u8]) -> Option<u32>
     ensures number { result ≡ latch_of text.now }
     ensures bound { IfSome result (λ n. n ≤ highest_latch) }
@@ -63,21 +64,21 @@ pub(crate) fn latch(text: &[u8]) -> Option<u32>
     number_within(0, HIGHEST_LATCH, text)
 }
 
-/// An amount, 1 to 9999.
+/// Returns an amount, 1 to 9999, or `None` if the text is not one.
 pub(crate) fn amount(text: &[u8]) -> Option<u32>
     ensures { result ≡ amount_of text.now }
 {
     number_within(1, HIGHEST_AMOUNT, text)
 }
 
-/// A return code, or an accepted one, 0 to 4095.
+/// Returns a return code or an accepted end code, 0 to 4095, or `None` if the text is not one.
 pub(crate) fn code(text: &[u8]) -> Option<u32>
     ensures { result ≡ code_of text.now }
 {
     number_within(0, HIGHEST_CODE, text)
 }
 
-/// The mode that `S` or `X` stands for.
+/// Returns the mode of `S` (shared) or `X` (exclusive), or `None` if the text is neither.
 pub(crate) fn mode(text: &[u8]) -> Option<Mode>
     ensures { result ≡ mode_of text.now }
 {
@@ -90,7 +91,7 @@ pub(crate) fn mode(text: &[u8]) -> Option<Mode>
     None
 }
 
-// The number that four digits show, up to 4095.
+// The number that four digits show, if it is at most 4095.
 fn user_code(digits: &[u8]) -> Option<u32>
     ensures { result ≡ user_code_of digits.now }
 {
@@ -99,7 +100,7 @@ fn user_code(digits: &[u8]) -> Option<u32>
     (number <= HIGHEST_CODE).then_some(number)
 }
 
-// The value of a hexadecimal digit in capitals.
+// The value of a hexadecimal digit, 0 to 9 and A to F.
 fn hex_digit(byte: u8) -> Option<u32>
     ensures { result ≡ (if shows_hex byte then Some (value_of_hex byte) else None) }
 {
@@ -110,7 +111,7 @@ fn hex_digit(byte: u8) -> Option<u32>
     }
 }
 
-// The number that three hexadecimal digits show, above 0.
+// The number that three hexadecimal digits show, if it is above 0.
 fn system_code(digits: &[u8]) -> Option<u32>
     ensures { result ≡ system_code_of digits.now }
 {
@@ -119,7 +120,7 @@ fn system_code(digits: &[u8]) -> Option<u32>
     (number > 0).then_some(number)
 }
 
-/// The end code of a job that ends by this code: `U` and a user code, or `S` and a system code.
+/// Returns the end code of an ABEND: of `U` and a user code, or of `S` and a system code. `None` if the text is neither.
 pub(crate) fn end_code(code: &[u8]) -> Option<u32>
     ensures { result ≡ end_code_of code.now }
 {

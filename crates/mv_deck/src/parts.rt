@@ -1,4 +1,5 @@
-//! The parts of an AFTER list, before they name jobs (`specs/Form.antt`). Clauses cite `specs/Operand.antt` and `specs/Fault.antt`.
+//! The parts of an AFTER list, before their names are looked up (`specs/Form.antt`). Clauses cite `specs/Operand.antt` and
+//! `specs/Fault.antt`.
 
 ghost use Rattle.std.specs.Prelude.{◌≡◌, map, not, option_map};
 ghost use Rattle.std.specs.List.{list_any};
@@ -11,14 +12,14 @@ ghost use Rattle.mv_deck.specs.Operand.{is_name as names_job};
 use crate::form::Part;
 use crate::operand::{code, is_name};
 
-/// Whether a part has no name.
+/// Returns whether the name of a part is not the name of a job.
 pub(crate) fn has_bad_name(parts: &[Part]) -> bool
     ensures { result ≡ list_any (λ (p : Part). not (names_job p.name.now)) parts.now }
 {
     parts.iter().any(|part| !is_name(part.name))
 }
 
-/// Whether a part has an accepted code that is none.
+/// Returns whether a part has an invalid accepted code.
 pub(crate) fn has_bad_code(parts: &[Part]) -> bool
     ensures { result ≡ list_any (λ (p : Part). has_no_code (option_map bytes_behind p.most)) parts.now }
 {
@@ -34,7 +35,7 @@ fn accepts_no_code(most: Option<&[u8]>) -> bool
     }
 }
 
-/// Whether a name stands twice among those of the parts.
+/// Returns whether two parts have the same name.
 pub(crate) fn has_double(parts: &[Part]) -> bool
     ensures { result ≡ doubles (map part_data parts.now) }
 {
@@ -46,7 +47,7 @@ pub(crate) fn has_double(parts: &[Part]) -> bool
     false
 }
 
-// Whether the name of the first part stands again behind it.
+// Whether a later part has the name of the first.
 fn repeats_first(parts: &[Part]) -> bool
     ensures { result ≡ doubles_first (map part_data parts.now) }
 {

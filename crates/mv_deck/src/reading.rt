@@ -1,4 +1,5 @@
-//! The reader of decks, line by line (`specs/Reading.antt`). What is read is `specs/Deck.antt`, or a fault of `specs/Fault.antt`.
+//! A reader of decks, line by line (`specs/Reading.antt`). It returns the deck of `specs/Deck.antt`, or the first fault of
+//! `specs/Fault.antt`.
 
 ghost use Rattle.std.specs.Prelude.{◌≡◌, ◌<◌, ◌≤◌, ◌-◌, ◌+◌, ◌^◌, ◌++◌, List, [], ◌∷◌, ℕ, true, false, map, Some, length};
 ghost use Rattle.std.specs.Prelude.{MatchResult, IfOk, IfErr, OnOk, IsSome, if◌then◌else◌};
@@ -26,16 +27,16 @@ use crate::{After, Deck, DeckRefusal, Job, Name, Step, Text};
 use mv_line::{LineReader, LineRefusal, is_foreign, is_too_long, is_word, read_lines, shown};
 use std::alloc::{AllocError, Global};
 
-/// Reads a deck for a spool of so many initiators, 1 to 8.
+/// Reads a deck for a spool of `initiators` initiators, 1 to 8.
 ///
-/// Lines, fields and faults are those of `docs/FORMATS.md`; names, the slashes, comments and the null statement are those of
-/// z/OS MVS JCL Reference. Lines are counted from 1 in a `u32`, and so is the line behind the last: hence fewer than 2^32 - 1
-/// bytes. The time is linear in the bytes.
+/// `docs/FORMATS.md` describes lines, fields and faults; names, the slashes, comments and the null statement are those of z/OS
+/// MVS JCL Reference. Lines are counted from 1 in a `u32`, and the line after the last has a number, too; so the text has fewer
+/// than 2^32 - 1 bytes. The time is linear in the bytes.
 ///
 /// # Errors
 ///
-/// `Fault` where the text has a fault: its first. `NoMemory` where there is no room for the jobs, which may show before a
-/// fault is reached.
+/// `Fault`, the first fault of the text, if it has one. `NoMemory` if there is not enough memory for the jobs, which may happen
+/// before a fault is reached.
 ///
 /// # Example
 ///
@@ -50,9 +51,9 @@ pub fn read_deck(alloc: Global, bytes: &[u8], initiators: u32) -> Result<Deck, D
     requires short { length bytes.now < 2 ^ 32 - 1 }
     requires initiators { (1 ≤ initiators) × (initiators ≤ most_initiators) }
 
-    // What is read is the deck of a text without fault.
+    // A text that is read has no fault, and the result is its deck.
     ensures deck { IfOk result (λ d. (first_fault bytes.now initiators ≡ None) × (deck_data d ≡ deck_of bytes.now)) }
-    // The fault that is told is the first.
+    // A fault that is returned is the first.
     ensures fault { IfErr result (λ e. TellsFirst e (first_fault bytes.now initiators)) }
 {
     let mut reading = Reading::new(alloc, initiators, version_of(bytes));
@@ -80,7 +81,7 @@ struct Reading<'a> {
     held: Held,
     // Whether the last job has ended by an ABEND or a RETURN.
     closed: bool,
-    // What the deck may still weigh.
+    // How much weight the deck may still gain.
     room: u64,
     // Whether a statement was read.
     stated: bool,
@@ -189,7 +190,7 @@ impl<'a> Reading<'a> {
         }
     }
 
-    // Takes the null statement.
+    // Takes a null statement.
     fn take_null(&mut self) -> Result<(), LineRefusal<Kind>>
         ensures { (n : ℕ) (v : Version) (earlier : List Statement) → IsBehind n v earlier self.old
             → MatchResult result
@@ -204,7 +205,7 @@ impl<'a> Reading<'a> {
         Ok(())
     }
 
-    // Takes a DECK with this word.
+    // Takes a DECK that has this word.
     fn take_deck(&mut self, word: &[u8]) -> Result<(), LineRefusal<Kind>>
         ensures { (n : ℕ) (v : Version) (earlier : List Statement) → IsBehind n v earlier self.old
             → MatchResult result
@@ -227,7 +228,7 @@ impl<'a> Reading<'a> {
         Ok(())
     }
 
-    // Takes a JOB of this name, after the jobs of this list.
+    // Takes a JOB of this name that waits for the jobs of this list.
     fn take_job(&mut self, name: &'a [u8], list: Option<&'a [u8]>) -> Result<(), LineRefusal<Kind>>
         requires { HasFewJobs self.now }
         ensures { (n : ℕ) (v : Version) (earlier : List Statement) → IsBehind n v earlier self.old
@@ -249,7 +250,7 @@ impl<'a> Reading<'a> {
         Ok(())
     }
 
-    // Tells the lowest kind of fault of a JOB, but for its weight.
+    // Returns the lowest kind of fault of a JOB, leaving its weight aside, if it has one.
     fn check_job(&self, name: &'a [u8], parts: &[Part<'a>]) -> Result<(), LineRefusal<Kind>>
         ensures few { OnOk result (length parts.now ≤ most_after) }
         ensures kinds { (n : ℕ) (v : Version) (earlier : List Statement) → IsBehind n v earlier self.now
@@ -342,7 +343,7 @@ impl<'a> Reading<'a> {
         Ok(())
     }
 
-    // Puts the last job to those before it.
+    // Moves the last job to the finished ones.
     fn finish(&mut self) -> Result<(), AllocError>
         ensures jobs { OnOk result (map job_data self.new.finished.items ≡ jobs_read self.old) }
         ensures steps { OnOk result (self.new.steps.items ≡ []) }
@@ -352,7 +353,7 @@ impl<'a> Reading<'a> {
             × (self.new.version ≡ self.old.version) × (self.new.names ≡ self.old.names)) }
         ensures bound { OnOk result (length self.new.finished.items ≤ length self.old.finished.items + 1) }
     {
-        // A job's steps take no more room than they need, and the next one's begin in the room of the last.
+        // The steps of a finished job take no more memory than they need; those of the next job reuse the buffer.
         let mut steps = Vec::with_capacity(self.alloc, self.steps.len())?;
         steps.append(&mut self.steps)?;
         let after = std::mem::replace(&mut self.after, Vec::new(self.alloc));
@@ -362,7 +363,7 @@ impl<'a> Reading<'a> {
         Ok(())
     }
 
-    // The deck of all lines.
+    // The deck that all lines have stated.
     fn deck(mut self) -> Result<Deck, AllocError>
         ensures { IfOk result (λ d. deck_data d ≡ jobs_read self.entry) }
     {
@@ -373,7 +374,7 @@ impl<'a> Reading<'a> {
     }
 }
 
-// Whether a job ends by this step.
+// Whether a job ends with this step.
 fn is_end(step: &Step) -> bool
     ensures { result ≡ ends_by step.now }
 {

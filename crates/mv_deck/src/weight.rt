@@ -1,17 +1,17 @@
-//! What a deck may weigh, and what a step weighs (`specs/Weight.antt`).
+//! The weight that a deck may have, and the events of a step (`specs/Weight.antt`).
 
 ghost use Rattle.std.specs.Prelude.{◌≡◌, ◌≤◌};
 ghost use Rattle.mv_deck.specs.Weight.{step_events as events_of_step};
 
 use crate::Step;
 
-/// A deck of more than this weight is not run.
+/// The heaviest weight of a deck that is run.
 pub(crate) const HEAVIEST: u64 = 524_287;
 
-/// How many initiators may run a deck.
+/// The most initiators that may run a deck.
 pub const MOST_INITIATORS: u32 = 8;
 
-/// At most how many events a step makes.
+/// Returns how many events a step makes at most.
 pub fn step_events(step: &Step) -> u32
     ensures events { result ≡ events_of_step step.now }
     ensures few { result ≤ 2 }
