@@ -1,4 +1,4 @@
-//! Event control blocks, as one thread sees them: the fullword, the operations and what each does to it.
+//! Event control blocks for one thread: the fullword, the operations, and what each operation does to it.
 #![tactic(auto)]
 
 mod laws;

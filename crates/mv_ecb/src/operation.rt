@@ -1,46 +1,47 @@
-//! What is done with an event control block, and what it answers.
+//! The operations on an event control block, and their replies.
 
-/// Codes and the numbers of exits are below this: a completion code has the 30 low bits of the fullword, as *z/OS MVS
-/// Programming: Assembler Services Reference* has it for POST.
+/// The bound of completion codes and of the numbers of exits, all of which are below it: a completion code has the 30 low bits of
+/// the fullword, as *z/OS MVS Programming: Assembler Services Reference* describes POST.
 pub const CODE_LIMIT: u32 = 1 << 30;
 
-/// What is done with an event control block. WAIT is Arm and then, once the event is complete, Settle; POST is Post. Extend
-/// and the exit that it names are this project's own.
+/// An operation on an event control block. WAIT is Arm, and Settle once the event is complete; POST is Post. Extend and the exit
+/// that it names are this project's own.
 #[derive(Clone, Copy, Debug, PartialEq, Eq)]
 pub enum EcbOp {
-    /// A wait on this block begins: the wait bit is set where nothing was posted.
+    /// Begins a wait on this block: sets the wait bit if the word is zero.
     Arm,
-    /// The same, with the number of the exit that a later post is to run: from 1 to 2^30 - 1.
+    /// Begins a wait as Arm does, and stores the number of the exit that a later post is to run: from 1 to 2^30 - 1.
     Extend(u32),
-    /// A wait on this block ends: the wait bit that Arm set is taken back where nothing was posted.
+    /// Ends a wait on this block: clears the wait bit that Arm set, if the event is not complete.
     Settle,
-    /// The word is zeroed for its next use.
+    /// Zeroes the word for its next use.
     Clear,
-    /// The event is complete, with this code: below 2^30. A block that is complete keeps its first code.
+    /// Completes the event with this code, below 2^30. A block that is complete keeps its first code.
     Post(u32),
-    /// The word is read.
+    /// Reads the word.
     Test,
 }
 
-/// What an operation answers. None is a failure: a block in another state than was hoped for says so, and stays as it is.
+/// The reply to an operation. No reply is a failure: if the block is not in the state that the operation hoped for, the reply
+/// says which state it is in, and the block stays as it is.
 #[derive(Clone, Copy, Debug, PartialEq, Eq)]
 pub enum EcbReply {
-    /// The wait bit was set by this operation.
+    /// The operation set the wait bit.
     Armed,
-    /// The block waits with this exit.
+    /// The block waits, and has this exit.
     Linked(u32),
     /// The block is complete with this code.
     Complete(u32),
-    /// The block waits already, with no exit.
+    /// The block waits already, and has no exit.
     Waiting,
-    /// Nothing was posted, and no exit stands.
+    /// The event is not complete, and the block had no exit: the word is now zero.
     Open,
-    /// The post met a block on which nobody waited.
+    /// The post completed a block on which no task waited.
     Posted,
-    /// The post ended a wait: with this exit, or 0 for none.
+    /// The post ended a wait. This is the block's exit, or 0 if it has none.
     Woke(u32),
     /// The block was complete before the post, with this code.
     Already(u32),
-    /// The word as it was before.
+    /// The word before the operation.
     Word(u32),
 }

@@ -8,8 +8,9 @@ use crate::operation::{EcbOp, EcbReply};
 use std::marker::Model;
 
 /// The fullword of an event control block: the wait bit, the completion bit, and 30 bits of value.
-/// Bit 0 of the book, the wait bit, is the highest one here; the value is a code where the block is complete, and the number
-/// of an exit, counted from 1, where it waits with one.
+///
+/// Bit 0 of the books, the wait bit, is the highest bit here. The value is a code if the block is complete, and the number of an
+/// exit, counted from 1, if it waits with one.
 #[derive(Clone, Copy, Debug, PartialEq, Eq)]
 pub struct EcbWord {
     bits: u32,
@@ -34,15 +35,16 @@ const COMPLETION_BIT: u32 = 0x4000_0000;
 const VALUE_BITS: u32 = 0x3fff_ffff;
 
 impl EcbWord {
-    /// The word before the block is first waited on or posted, as the books ask for it. The operation Clear makes it again for
-    /// the next use.
+    /// Returns the word of a block that was neither waited on nor posted, as the books ask for it before the first use. The
+    /// operation Clear makes it again for the next use.
     pub fn zero() -> EcbWord
         ensures { result ≡ Zero }
     {
         EcbWord { bits: 0 }
     }
 
-    /// The block whose fullword this is. A fullword that has both bits, or a value with neither, is no block's.
+    /// Returns the block that has this fullword, or `None` if no block has: both bits are set, or neither is and the word is not
+    /// zero.
     pub fn of(word: u32) -> Option<EcbWord>
         ensures valid { IsSome result ↔ IsEcbWord word }
         ensures state { IfSome result (λ w. w ≡ state_of word) }
@@ -55,14 +57,14 @@ impl EcbWord {
         }
     }
 
-    /// Whether the event is complete: whether a WAIT on it would not wait.
+    /// Returns whether the event is complete, so that a WAIT on it does not wait.
     pub fn is_complete(self) -> bool
         ensures { result ≡ is_complete_state self }
     {
         self.bits >> 30 == 1
     }
 
-    /// The fullword: wait bit 2^31, completion bit 2^30, value below. `of` takes it back.
+    /// Returns the fullword: wait bit 2^31, completion bit 2^30, value below. `of` takes it back.
     pub fn word(self) -> u32
         ensures { result ≡ word_of self }
     {
@@ -70,16 +72,17 @@ impl EcbWord {
     }
 }
 
-/// One operation on an event control block: the new word and the reply. A code is below 2^30, and an exit from 1 to 2^30 - 1.
-/// It never waits: Arm sets the wait bit, and who waits has to look again until the block is complete. WAIT, POST and the
-/// fullword are those of *z/OS MVS Programming: Assembler Services Guide*; that a second post keeps the first code, and exits,
-/// are this project's own.
+/// Makes one operation on an event control block, and returns the new word and the reply.
+///
+/// A code is below 2^30, and an exit from 1 to 2^30 - 1. It never waits: Arm sets the wait bit, and the task that waits looks
+/// again until the block is complete. WAIT, POST and the fullword are those of *z/OS MVS Programming: Assembler Services Guide*.
+/// Exits, and that a second post keeps the first code, are this project's own.
 ///
 /// # Example
 ///
 /// ```
 /// let (word, reply) = ecb_apply(EcbOp::Post(7), EcbWord::zero());
-/// // reply is Posted; a second post is told Already(7), and an arm Complete(7)
+/// // reply is Posted; a second post gets the reply Already(7), and an arm Complete(7)
 /// ```
 pub fn ecb_apply(op: EcbOp, word: EcbWord) -> (EcbWord, EcbReply)
     requires { IsEcbOp op }
@@ -95,7 +98,7 @@ pub fn ecb_apply(op: EcbOp, word: EcbWord) -> (EcbWord, EcbReply)
     }
 }
 
-// Arm where the exit is 0, and else Extend.
+// Arm if the exit is 0, otherwise Extend.
 fn begin_wait(word: EcbWord, exit: u32) -> (EcbWord, EcbReply)
     requires { exit < code_limit }
     ensures { result ≡ wait_step exit word }
@@ -135,7 +138,7 @@ fn post(word: EcbWord, code: u32) -> (EcbWord, EcbReply)
     (complete, EcbReply::Woke(value))
 }
 
-// What a block answers that stays as it is: its code, its exit, or what a block with neither does.
+// The reply of a block that keeps its word: its code, its exit, or `neither` if it has neither.
 fn standing(word: EcbWord, neither: EcbReply) -> EcbReply
     ensures { result ≡ standing_reply neither word }
 {
