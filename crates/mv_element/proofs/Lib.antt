@@ -1,2 +1,2 @@
--- when two replies are the same (`is_same`), and the state in a phase
+-- when two replies are the same (`is_same`), and the state of a phase
 pub mod States

@@ -3,7 +3,7 @@ use Rattle.std.specs.Prelude.{ℕ, ◌==◌, ◌||◌, Bool, true, false, IsTrue
 use Rattle.mv_element.specs.declared.element.Phase.{Phase}
 use Rattle.mv_element.specs.declared.element.Phase.TheVariants.{Free, Reset, Prereleased, Paused, Released}
 
--- whether a release was accepted and its pause has not had the code
+-- whether an element of this phase keeps a code: a release was accepted, and the pause has not taken its code
 abbrev pub keeps_code : Phase → Bool
 keeps_code Free = false
 keeps_code Reset = false
@@ -11,6 +11,6 @@ keeps_code Prereleased = true
 keeps_code Paused = false
 keeps_code Released = true
 
--- a code may stand in this phase: it is 0 unless the phase keeps one
+-- an element of this phase may have this code: it is 0 unless the phase keeps one
 abbrev pub IsKeptCode : Phase → ℕ → Type 0
 IsKeptCode phase code = IsTrue (keeps_code phase || code == 0)

@@ -1,4 +1,4 @@
--- What each operation does to a pause element: a function for each row of the table, a line for each cell.
+-- The operations on a pause element, as a table of phases: a function for each row, a line for each cell.
 use Rattle.std.specs.Prelude.{ℕ, ◌+◌, ◌^◌, ◌<◌, ◌==◌, Bool, true, false, if◌then◌else◌}
 use Rattle.mv_element.specs.declared.element.ElementState.{ElementState}
 use Rattle.mv_element.specs.declared.element.Phase.{Phase}
@@ -10,11 +10,11 @@ use Rattle.mv_element.specs.declared.operation.ElementReply.TheVariants.{Opened,
 use Rattle.mv_element.specs.declared.operation.ElementReply.TheVariants.{NotYet, Early, Woke, Already, Closed, State}
 use Rattle.mv_element.specs.Element.{free, reset, prereleased, paused, released}
 
--- a release code has three bytes
+-- the bound of release codes, which have three bytes
 abbrev pub release_limit : ℕ
 release_limit = 2 ^ 24
 
--- an operation's release code is below that
+-- an operation's release code is below the limit
 abbrev pub IsElementOp : ElementOp → Type 0
 IsElementOp Open = Unit {0}
 IsElementOp (Pause g) = Unit {0}
@@ -23,12 +23,12 @@ IsElementOp (Release g d) = d < release_limit
 IsElementOp (Close g) = Unit {0}
 IsElementOp Test = Unit {0}
 
--- whether the pause of generation g may still come, or is on
+-- whether an element is allocated and its generation `now` is g
 abbrev pub is_current : Phase → ℕ → ℕ → Bool
 is_current Free now g = false
 is_current _ now g = g == now
 
--- an operation that carries g has its cell of the table where g is current, and is answered Spent otherwise
+-- the outcome of an operation that names generation g: its cell of the table if g is current, otherwise Spent and no change
 abbrev pub current : ℕ → ElementState → ElementState × ElementReply → ElementState × ElementReply
 current g s cell = if is_current s.phase s.generation g then cell else (s, Spent s.generation)
 
@@ -36,30 +36,30 @@ current g s cell = if is_current s.phase s.generation g then cell else (s, Spent
 abbrev pub given_step : ElementState → ElementState × ElementReply
 given_step s = (reset (s.generation + 1), Given s.code (s.generation + 1))
 
--- Open: a free element is allocated
+-- Open: allocates a free element
 abbrev pub open_step : Phase → ElementState → ElementState × ElementReply
 open_step Free s = (reset s.generation, Opened s.generation)
 open_step _ s = (s, InUse)
 
--- Pause: the pause begins, or takes the code that is kept for it
+-- Pause: begins the pause, or takes the code that is kept for it
 abbrev pub pause_step : Phase → ElementState → ElementState × ElementReply
 pause_step Reset s = (paused s.generation, Parked)
 pause_step Prereleased s = given_step s
 pause_step _ s = (s, Busy)
 
--- Resume: a pause that was released is over
+-- Resume: ends a pause that was released
 abbrev pub resume_step : Phase → ElementState → ElementState × ElementReply
 resume_step Paused s = (s, NotYet)
 resume_step Released s = given_step s
 resume_step _ s = (s, Busy)
 
--- Release: the code is kept for a pause to come, or ends one that is on
+-- Release: keeps the code for a pause that has not begun, or ends one that has
 abbrev pub release_step : Phase → ℕ → ElementState → ElementState × ElementReply
 release_step Reset d s = (prereleased s.generation d, Early)
 release_step Paused d s = (released s.generation d, Woke)
 release_step _ d s = (s, Already)
 
--- Close: an element that nobody pauses with is free again
+-- Close: frees an element with which no task pauses, and ends its generation; a code that was kept is dropped
 abbrev pub close_step : Phase → ElementState → ElementState × ElementReply
 close_step Reset s = (free (s.generation + 1), Closed)
 close_step Prereleased s = (free (s.generation + 1), Closed)

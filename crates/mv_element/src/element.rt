@@ -3,38 +3,40 @@
 ghost use Rattle.std.specs.Prelude.{◌≡◌};
 ghost use Rattle.mv_element.specs.Code.{IsKeptCode};
 
-/// Generations, of 18 bits, are below this.
+/// The bound of generations, all of which are below it: they have 18 bits.
 pub const GENERATION_LIMIT: u32 = 1 << 18;
 
-/// What names one pause: an element, and which of its pauses is meant. It serves one pause, as a pause element token does; the
-/// code that ends the pause comes with the token of the next. Whoever has it may release the pause.
+/// The name of one pause: an element, and which of its pauses is meant.
+///
+/// A token serves one pause, as a pause element token does. The code that ends the pause comes with the token of the next one.
+/// Any task that has the token may release the pause.
 #[derive(Clone, Copy, Debug, PartialEq, Eq)]
 pub struct Token {
-    /// Counted from 0 over all callers: element e is of caller `e / elements_per_caller`.
+    /// The element, counted from 0 over all callers: element e belongs to caller `e / elements_per_caller`.
     pub element: u32,
     /// How many pauses of the element are over before this one: at most 262,143.
     pub generation: u32,
 }
 
-/// Where an element stands. The phases are this project's own.
+/// The phase of an element. The phases are this project's own.
 #[derive(Clone, Copy, Debug, PartialEq, Eq)]
 pub enum Phase {
-    /// Not allocated.
+    /// The element is not allocated.
     Free,
-    /// Allocated, and neither paused nor released.
+    /// The element is allocated, and neither paused nor released.
     Reset,
-    /// Released before its pause: the code is kept for it.
+    /// The element was released before its pause, and keeps the code for it.
     Prereleased,
     /// A task pauses.
     Paused,
-    /// The pause was released, and its task has not gone on yet.
+    /// The pause was released, and its task has not continued yet.
     Released,
 }
 
-/// An element's state. Its code is 0 unless the phase is Prereleased or Released: no other state can be made.
+/// The state of an element. Its code is 0 unless the phase is Prereleased or Released; no other state can be made.
 #[derive(Clone, Copy, Debug, PartialEq, Eq)]
 pub struct ElementState {
-    /// How many of the element's pauses are over, given or closed.
+    /// How many of the element's pauses are over: ended with a code, or closed.
     pub generation: u32,
     pub phase: Phase,
     /// The release code that is kept for the pause: three bytes.
@@ -45,7 +47,7 @@ pub struct ElementState {
 impl ElementState {
     ghost use Rattle.mv_element.specs.Element.{free, reset, prereleased, paused, released, in_phase};
 
-    /// Not allocated, so many pauses being over.
+    /// Returns the state of an element that is not allocated, after `generation` pauses.
     pub fn free(generation: u32) -> ElementState
         ensures { result ≡ free generation }
     {
@@ -56,7 +58,7 @@ impl ElementState {
         }
     }
 
-    /// Allocated, and neither paused nor released.
+    /// Returns the state of an element that is allocated, and neither paused nor released.
     pub fn reset(generation: u32) -> ElementState
         ensures { result ≡ reset generation }
     {
@@ -67,7 +69,8 @@ impl ElementState {
         }
     }
 
-    /// Released with this code, below `RELEASE_LIMIT` in a run, before its pause.
+    /// Returns the state of an element that was released with this code before its pause. In a run the code is below
+    /// `RELEASE_LIMIT`.
     pub fn prereleased(generation: u32, code: u32) -> ElementState
         ensures { result ≡ prereleased generation code }
     {
@@ -78,7 +81,7 @@ impl ElementState {
         }
     }
 
-    /// Paused, and not released yet.
+    /// Returns the state of an element that is paused, and not released yet.
     pub fn paused(generation: u32) -> ElementState
         ensures { result ≡ paused generation }
     {
@@ -89,7 +92,7 @@ impl ElementState {
         }
     }
 
-    /// Paused, and released with this code, which its task has not taken yet.
+    /// Returns the state of an element that is paused, and was released with this code, which its task has not taken yet.
     pub fn released(generation: u32, code: u32) -> ElementState
         ensures { result ≡ released generation code }
     {
@@ -100,8 +103,8 @@ impl ElementState {
         }
     }
 
-    /// The state in a phase. A code that the phase does not keep is not asked.
-    // It is inlined: so a log's entries are read back.
+    /// Returns the state of this phase. It has the code only if the phase keeps one.
+    // Inlined for the readers of logs and of journals, which call it for each state that they decode.
     #[inline(always)]
     pub fn in_phase(phase: Phase, generation: u32, code: u32) -> ElementState
         ensures { result ≡ in_phase phase generation code }

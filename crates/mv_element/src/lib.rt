@@ -1,4 +1,4 @@
-//! Pause elements, as one thread sees them: an element's state, the operations and what each does to it.
+//! Pause elements for one thread: an element's state, the operations, and what each operation does to it.
 #![tactic(auto)]
 
 mod element;

@@ -1,62 +1,64 @@
-//! What is done with a pause element, and what it answers.
+//! The operations on a pause element, and their replies.
 
 ghost use Rattle.std.specs.Prelude.{◌≡◌, ◌↔◌, IsTrue};
 
 use crate::element::ElementState;
 
-/// Release codes, of three bytes as IEAVRLS has them, are below this.
+/// The bound of release codes, all of which are below it: they have three bytes, as those of IEAVRLS.
 pub const RELEASE_LIMIT: u32 = 1 << 24;
 
-/// What is done with a pause element. The first number is a generation, which may be any; the second is a release
-/// code, below `RELEASE_LIMIT`. The services are those of *z/OS MVS Programming: Authorized Assembler Services Reference*; generations in
-/// place of tokens, and Resume, are this project's own.
+/// An operation on a pause element. The first number is a generation, which may be any; the second is a release code, below
+/// `RELEASE_LIMIT`.
+///
+/// The services are those of *z/OS MVS Programming: Authorized Assembler Services Reference*. Generations in place of tokens, and
+/// Resume, are this project's own.
 #[derive(Clone, Copy, Debug, PartialEq, Eq)]
 pub enum ElementOp {
-    /// A free element is allocated (IEAVAPE).
+    /// Allocates a free element (IEAVAPE).
     Open,
-    /// A task pauses, or takes the code that was kept for it (IEAVPSE).
+    /// Begins a pause, or takes the code that was kept for it (IEAVPSE).
     Pause(u32),
-    /// A paused task asks whether it was released.
+    /// Asks for a paused task whether the pause was released, and takes its code.
     Resume(u32),
-    /// The pause is released with a code, or will be as soon as it comes (IEAVRLS).
+    /// Releases the pause with a code, or keeps the code for the pause if it has not begun (IEAVRLS).
     Release(u32, u32),
-    /// The element is given back (IEAVDPE).
+    /// Gives the element back (IEAVDPE).
     Close(u32),
-    /// The state is read.
+    /// Reads the state.
     Test,
 }
 
-/// What an operation answers. Spent, Busy, NotYet, InUse and Already change nothing.
+/// The reply to an operation. Spent, Busy, NotYet, InUse, Already and State change nothing.
 #[derive(Clone, Copy, Debug, PartialEq, Eq)]
 pub enum ElementReply {
-    /// The element is allocated, with this generation.
+    /// The element is now allocated, and has this generation.
     Opened(u32),
     /// The element is not free.
     InUse,
     /// The pause began, and waits for its release.
     Parked,
-    /// The pause is over: the code that it was released with, and the generation of the next.
+    /// The pause is over. It was released with this code, and the next pause has the generation `next`.
     Given { code: u32, next: u32 },
-    /// The generation is over, or the element is free: its generation now.
+    /// The operation names another generation than the element's, or the element is free. This is the element's generation.
     Spent(u32),
-    /// The phase does not allow it.
+    /// The element's phase does not allow the operation.
     Busy,
-    /// Nobody has released the pause.
+    /// The pause has not been released.
     NotYet,
     /// The release came before its pause, and its code is kept.
     Early,
     /// The release ended a pause.
     Woke,
-    /// The pause was released before.
+    /// The pause had been released before.
     Already,
     /// The element is free again.
     Closed,
-    /// The state as it is.
+    /// The element's state.
     State(ElementState),
 }
 
 impl ElementReply {
-    /// Whether two replies are the same. It is `==`, of which contracts say less.
+    /// Returns whether two replies are the same, as `==` does. Its contract says more than that of `==`.
     pub fn is_same(self, other: ElementReply) -> bool
         ensures { IsTrue result ↔ (self ≡ other) }
     {

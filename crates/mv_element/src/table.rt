@@ -8,10 +8,12 @@ ghost use Rattle.mv_element.specs.Table.{open_step, pause_step, resume_step, rel
 use crate::element::{ElementState, Phase};
 use crate::operation::{ElementOp, ElementReply};
 
-/// One operation on a pause element: the new state and the reply. It never waits: after Parked the task asks by Resume whether
-/// it was released. Within a run each generation is below `GENERATION_LIMIT`. Pause, release, allocate and deallocate are those of
-/// *z/OS MVS Programming: Authorized Assembler Services Guide*; that a release before its pause is kept for it, and what an
-/// operation does to an element in another phase, are this project's own.
+/// Makes one operation on a pause element, and returns the new state and the reply.
+///
+/// It never waits: after Parked the task asks by Resume whether its pause was released. Within a run each generation is below
+/// `GENERATION_LIMIT`. Pause, release, allocate and deallocate are those of *z/OS MVS Programming: Authorized Assembler Services
+/// Guide*. That a release before its pause is kept for it, and what an operation does to an element in another phase, are this
+/// project's own.
 ///
 /// # Example
 ///
@@ -38,7 +40,7 @@ pub fn element_apply(op: ElementOp, state: ElementState) -> (ElementState, Eleme
     }
 }
 
-// Whether the pause of this generation may still come, or is on.
+// Whether the element is allocated and has this generation.
 fn is_current(state: ElementState, generation: u32) -> bool
     ensures { result ≡ is_current_at state.phase state.generation generation }
 {
@@ -107,7 +109,7 @@ fn close(state: ElementState) -> (ElementState, ElementReply)
     }
 }
 
-// The kept code is handed over, and the next generation begins.
+// Hands over the kept code, and begins the next generation.
 fn give(state: ElementState) -> (ElementState, ElementReply)
     requires { state.generation < generation_limit }
     ensures { result ≡ given_step state }
