@@ -1,6 +1,6 @@
--- write_report, one job longer
+-- write_report, with one more job
 pub mod Jobs
--- outcome_of, one job longer
+-- outcome_of, with one more job
 pub mod Lengths
 pub mod Steps
 pub mod Totals

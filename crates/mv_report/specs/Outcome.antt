@@ -1,5 +1,5 @@
--- What a deck means: how each job ends, which steps it does, the lines that these write, and what they leave in the volumes.
--- The ends are read off the list of jobs in order; nothing here runs beside anything else.
+-- What a deck means: how each job ends, which steps it executes, the lines that these write, and what they leave in the volumes.
+-- It is computed job by job in the order of the deck; nothing here runs concurrently.
 use Rattle.std.specs.Prelude.{ℕ, min, Bool, true, ◌==◌, nat_lt, if◌then◌else◌}
 use Rattle.std.specs.Prelude.{List, [], ◌∷◌, ◌++◌, map, flat_map, sum_by, slice_index, codes, decimal}
 use Rattle.std.specs.List.{list_any}
@@ -13,7 +13,7 @@ use Rattle.mv_report.specs.Report.{report_text}
 
 -- ---- how jobs end
 
--- the code of the first ABEND or the number of the first RETURN, whichever stands first; 0 without one
+-- the end of a job that is run: the code of its first ABEND or RETURN, 0 if it has neither
 abbrev pub own_end : List Step → ℕ
 own_end [] = 0
 own_end (Print text ∷ steps) = own_end steps
@@ -24,7 +24,7 @@ own_end (Scan volume ∷ steps) = own_end steps
 own_end (Abend code ∷ steps) = code
 own_end (Return code ∷ steps) = code
 
--- the steps in front of the first ABEND or RETURN, all without one
+-- the steps before the first ABEND or RETURN; all steps if there is neither
 abbrev pub before_end : List Step → List Step
 before_end [] = []
 before_end (Print text ∷ steps) = Print text ∷ before_end steps
@@ -35,8 +35,8 @@ before_end (Scan volume ∷ steps) = Scan volume ∷ before_end steps
 before_end (Abend code ∷ steps) = []
 before_end (Return code ∷ steps) = []
 
--- Whether a part of an AFTER names a job whose end is above the code that the part accepts. These are the ends of the jobs in
--- front of its own; a part that names none of them refuses nothing.
+-- Whether a part of an AFTER names a job whose end is above the code that the part accepts. `ends` are those of the jobs before
+-- the part's own job; a part that names none of these refuses nothing.
 abbrev pub is_unaccepted : List ℕ → After → Bool
 is_unaccepted ends part = nat_lt part.most (slice_index ends part.job)
 
@@ -44,11 +44,11 @@ is_unaccepted ends part = nat_lt part.most (slice_index ends part.job)
 abbrev pub some_unaccepted : List ℕ → List After → Bool
 some_unaccepted ends parts = list_any (is_unaccepted ends) parts
 
--- the end of a job, behind jobs with these ends
+-- the end of a job that follows jobs with these ends
 abbrev pub end_behind : List ℕ → JobData → ℕ
 end_behind ends job = if some_unaccepted ends job.after then not_run else own_end job.steps
 
--- these ends, and behind them those of the jobs that follow
+-- these ends, and after them the ends of the jobs that follow
 abbrev pub ends_from : List ℕ → List JobData → List ℕ
 ends_from ends [] = ends
 ends_from ends (job ∷ jobs) = ends_from (ends ++ end_behind ends job ∷ []) jobs
@@ -57,32 +57,32 @@ ends_from ends (job ∷ jobs) = ends_from (ends ++ end_behind ends job ∷ []) j
 abbrev pub ends : List JobData → List ℕ
 ends deck = ends_from [] deck
 
--- ---- which steps are done
+-- ---- which steps are executed
 
--- the steps that a job with this end does
+-- the steps that a job with this end executes
 abbrev pub steps_with : ℕ → List Step → List Step
 steps_with end steps = if is_not_run end then [] else before_end steps
 
--- the steps that each of these jobs does, where these are their ends
+-- the steps that each of these jobs executes, if these are their ends
 abbrev pub all_steps_with : List ℕ → List JobData → List (List Step)
 all_steps_with (end ∷ ends) (job ∷ jobs) = steps_with end job.steps ∷ all_steps_with ends jobs
 all_steps_with _ _ = []
 
--- the steps that each job does
+-- the steps that each job of a deck executes
 abbrev pub steps_done : List JobData → List (List Step)
 steps_done deck = all_steps_with (ends deck) deck
 
--- ---- what these write
+-- ---- the lines that these steps write
 
 -- the line that a PRINT writes
 abbrev pub print_line : List ℕ → List ℕ
 print_line text = codes "| " ++ text
 
--- the line that a SCAN writes, by whether both reads of the volume told one number
+-- the line that a SCAN writes; `steady` says whether both reads of the volume returned the same number
 abbrev pub scan_line : ℕ → Bool → List ℕ
 scan_line volume steady = codes "| SCAN " ++ decimal volume ++ (if steady then codes " STEADY" else codes " UNSTEADY")
 
--- the lines that a step writes. No run reads two numbers in a SCAN
+-- the lines that a step writes; no run reads two different numbers in a SCAN
 abbrev pub lines_of_step : Step → List (List ℕ)
 lines_of_step (Print text) = print_line text ∷ []
 lines_of_step (Use latch mode) = []
@@ -92,15 +92,15 @@ lines_of_step (Scan volume) = scan_line volume true ∷ []
 lines_of_step (Abend code) = []
 lines_of_step (Return code) = []
 
--- the lines that some steps write, in order
+-- the lines that these steps write, in order
 abbrev pub lines_of_steps : List Step → List (List ℕ)
 lines_of_steps steps = flat_map lines_of_step steps
 
--- the lines of each job
+-- the lines of each job of a deck
 abbrev pub lines : List JobData → List (List (List ℕ))
 lines deck = map lines_of_steps (steps_done deck)
 
--- ---- what these leave in the volumes, each of which holds 0 at first
+-- ---- what these steps leave in the volumes, each of which holds 0 at first
 
 -- what a step adds to a volume
 abbrev pub added : ℕ → Step → ℕ
@@ -112,15 +112,15 @@ added volume (Scan v) = 0
 added volume (Abend code) = 0
 added volume (Return code) = 0
 
--- the sum of the amounts that some steps add to a volume
+-- the sum of the amounts that these steps add to a volume
 abbrev pub added_by : ℕ → List Step → ℕ
 added_by volume steps = sum_by (added volume) steps
 
--- the sum of the amounts of all COUNT steps of a volume that are done
+-- the sum of the amounts of all COUNT steps of a volume that are executed
 abbrev pub total : List JobData → ℕ → ℕ
 total deck volume = sum_by (added_by volume) (steps_done deck)
 
--- that of each of the eight volumes
+-- the totals of the eight volumes
 abbrev pub totals : List JobData → List ℕ
 totals deck = map (total deck) (0 ∷ 1 ∷ 2 ∷ 3 ∷ 4 ∷ 5 ∷ 6 ∷ 7 ∷ [])
 
@@ -128,12 +128,12 @@ totals deck = map (total deck) (0 ∷ 1 ∷ 2 ∷ 3 ∷ 4 ∷ 5 ∷ 6 ∷ 7 ∷ 
 abbrev pub highest_held : ℕ
 highest_held = 4294967295
 
--- what a volume holds of a total
+-- the number in a volume with this total
 abbrev pub held_of : ℕ → ℕ
 held_of total = min total highest_held
 
 -- ---- the report
 
--- the report on a deck is the text of what it means
+-- the report on a deck
 abbrev pub report : List JobData → List ℕ
 report deck = report_text deck (ends deck) (lines deck) (totals deck)

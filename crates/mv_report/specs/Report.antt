@@ -1,10 +1,10 @@
--- The report, byte for byte: each job's line and the lines that it wrote, then the counts of jobs and the volumes.
+-- The report, byte for byte: for each job its line and the lines that it wrote, then the counts of jobs, and the volumes.
 use Rattle.std.specs.Prelude.{ℕ, ◌/◌, ◌%◌, ◌==◌, if◌then◌else◌, List, [], ◌∷◌, ◌++◌, length, slice_index}
 use Rattle.std.specs.Prelude.{count_by, flat_map, codes, decimal}
 use Rattle.mv_deck.specs.Deck.{JobData}
 use Rattle.mv_report.specs.EndCode.{is_ended, is_not_run, is_abended, system_code, user_code}
 
--- every line ends with LF
+-- a line of the report, with its LF
 abbrev pub line : List ℕ → List ℕ
 line text = text ++ codes "\n"
 
@@ -22,13 +22,13 @@ four_decimal_digits n = digit (n / 1000) ∷ digit (n / 100 % 10) ∷ digit (n /
 abbrev pub three_hexadecimal_digits : ℕ → List ℕ
 three_hexadecimal_digits n = digit (n / 256) ∷ digit (n / 16 % 16) ∷ digit (n % 16) ∷ []
 
--- the user code where the system code is 0, else the system code alone
+-- the text of an abend: its user code if the system code is 0, otherwise only the system code
 abbrev pub abend_text : ℕ → List ℕ
 abend_text end =
     if system_code end == 0 then codes "U" ++ four_decimal_digits (user_code end)
     else codes "S" ++ three_hexadecimal_digits (system_code end)
 
--- what a job's line says of its end
+-- the words for a job's end in its line
 abbrev pub outcome_text : ℕ → List ℕ
 outcome_text end =
     if end == 0 then codes "ENDED"
@@ -38,7 +38,7 @@ outcome_text end =
 
 -- ---- the jobs
 
--- the lines that a job wrote; of a job that was not run there are none
+-- the lines that a job wrote; none if it was not run
 abbrev pub lines_text : ℕ → List (List ℕ) → List ℕ
 lines_text end texts = if is_not_run end then [] else flat_map line texts
 
@@ -47,7 +47,7 @@ abbrev pub job_text : List ℕ → ℕ → List (List ℕ) → List ℕ
 job_text name end texts =
     line (codes "JOB " ++ name ++ codes " " ++ outcome_text end) ++ lines_text end texts
 
--- each job with its end and its lines, as far as there are all three
+-- the lines of all jobs, as far as each job has an end and lines
 abbrev pub jobs_text : List JobData → List ℕ → List (List (List ℕ)) → List ℕ
 jobs_text (job ∷ jobs) (end ∷ ends) (texts ∷ lines) =
     job_text job.name end texts ++ jobs_text jobs ends lines
@@ -55,7 +55,7 @@ jobs_text _ _ _ = []
 
 -- ---- the whole
 
--- how many jobs there are, and how many of them ended each way
+-- the line of counts: how many jobs there are, and how many of them ended in each way
 abbrev pub counts_text : ℕ → List ℕ → List ℕ
 counts_text jobs ends =
     line (codes "JOBS " ++ decimal jobs
@@ -63,7 +63,7 @@ counts_text jobs ends =
     ++ codes " ABENDED " ++ decimal (count_by is_abended ends)
     ++ codes " NOT RUN " ++ decimal (count_by is_not_run ends))
 
--- what stands in each volume, behind one space
+-- the line of volumes: the number in each, after one space
 abbrev pub volumes_text : List ℕ → List ℕ
 volumes_text volumes = line (codes "VOLUMES" ++ flat_map (λ volume. codes " " ++ decimal volume) volumes)
 

@@ -1,4 +1,4 @@
-//! End codes: which way to end each of them is. The words are those of `specs/EndCode.antt`.
+//! The three ways to end, by the end code. `specs/EndCode.antt` defines them.
 
 ghost use Rattle.std.specs.Prelude.{◌≡◌};
 ghost use Rattle.mv_report.specs.EndCode.{is_ended, is_not_run, is_abended};

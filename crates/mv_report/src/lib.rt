@@ -1,4 +1,4 @@
-//! The report on a deck that was run: what each job came to and wrote, how many jobs ended each way, and what stands in the
+//! The report on a deck that was run: the end and the lines of each job, how many jobs ended in each way, and the numbers in the
 //! volumes.
 #![tactic(auto)]
 

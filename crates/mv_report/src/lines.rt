@@ -1,4 +1,4 @@
-//! The lines that a job wrote, and how each is made. The words are those of `specs/Outcome.antt`.
+//! The lines that a job writes, and how each line is made. `specs/Outcome.antt` defines them.
 
 ghost use Rattle.std.specs.Prelude.{◌≡◌, IfOk};
 ghost use Rattle.mv_report.specs.Outcome.{print_line, scan_line};
@@ -9,7 +9,7 @@ use mv_line::push_number;
 use std::alloc::Global;
 use std::marker::Model;
 
-/// The lines that a job wrote, each as it stands in the report: it begins with `| ` already, and has no LF.
+/// The lines that a job wrote, each as it appears in the report: with `| ` at its front, and without an LF.
 #[derive(Debug, Drop)]
 pub struct Lines {
     pub texts: Vec<Text>,
@@ -23,11 +23,11 @@ impl Model for Lines {
     ghost view = { λ l. l.texts.items };
 }
 
-/// The line that a PRINT of this text writes.
+/// Returns the line that a PRINT of this text writes.
 ///
 /// # Errors
 ///
-/// `NoMemory` where there is no room for it.
+/// `NoMemory` if there is not enough memory for the line.
 pub fn print_line(alloc: Global, text: &Text) -> Result<Text, NoMemory>
     ensures line { IfOk result (λ line. line ≡ print_line text.now) }
 {
@@ -37,11 +37,11 @@ pub fn print_line(alloc: Global, text: &Text) -> Result<Text, NoMemory>
     Ok(Text { bytes })
 }
 
-/// The line that a SCAN of this volume writes, by whether both reads told one number.
+/// Returns the line that a SCAN of this volume writes; `steady` says whether both reads returned the same number.
 ///
 /// # Errors
 ///
-/// `NoMemory` where there is no room for it.
+/// `NoMemory` if there is not enough memory for the line.
 pub fn scan_line(alloc: Global, volume: u32, steady: bool) -> Result<Text, NoMemory>
     ensures line { IfOk result (λ line. line ≡ scan_line volume steady) }
 {

@@ -1,5 +1,5 @@
-//! What the jobs of a deck do, one after another: how each ends, the lines that it writes, and what all of them leave in
-//! the volumes. The words are those of `specs/Outcome.antt`.
+//! What a deck means, job by job: how each job ends, the lines that it writes, and what all jobs leave in the volumes.
+//! `specs/Outcome.antt` defines it.
 
 ghost use Rattle.std.specs.Prelude.{◌≡◌, ℕ, ◌+◌, ◌<◌, map, slice_index, IfOk};
 ghost use Rattle.mv_deck.specs.Deck.{job_data, deck_data};
@@ -12,23 +12,25 @@ use mv_deck::{After, Deck, Job, NOT_RUN, Step, VOLUME_COUNT};
 use mv_io::NoMemory;
 use std::alloc::Global;
 
-/// What a deck comes to.
+/// The outcome of a deck.
 #[derive(Debug, Drop)]
 pub struct Outcome {
     /// The end code of each job, in the order of the deck, as `write_report` takes them.
     pub ends: Vec<u32>,
-    /// The lines of each job. One that is not run has none.
+    /// The lines of each job, in the order of the deck. A job that is not run has none.
     pub lines: Vec<Lines>,
-    /// What each volume holds at the end.
+    /// The number in each volume at the end.
     pub volumes: [u32; VOLUME_COUNT],
 }
 
-/// What a deck comes to, job after job. A volume whose total is above `u32::MAX` holds `u32::MAX`; no deck that can be run has
-/// such a total. The time is linear in the deck and in what its jobs write. Nothing is run: it is what every run comes to.
+/// Returns the outcome of a deck, job by job.
+///
+/// Nothing is run: this is the outcome of every run of the deck. A volume whose total is above `u32::MAX` holds `u32::MAX`; no
+/// deck that can be run has such a total. The time is linear in the deck and in what its jobs write.
 ///
 /// # Errors
 ///
-/// `NoMemory` where there is no room for what the jobs write.
+/// `NoMemory` if there is not enough memory for the ends and the lines.
 ///
 /// # Example
 ///
@@ -66,14 +68,14 @@ fn is_unaccepted(ends: &[u32], part: &After) -> bool
     }
 }
 
-// Whether one of these parts refuses a job.
+// Whether one of these parts refuses its job.
 fn some_unaccepted(ends: &[u32], parts: &[After]) -> bool
     ensures { result ≡ some_unaccepted ends.now parts.now }
 {
     parts.iter().any(|part| is_unaccepted(ends, part))
 }
 
-// How a job that is run comes to its end.
+// The end that a job's steps give it, if it is run.
 fn own_end(steps: &[Step]) -> u32
     ensures { result ≡ own_end steps.now }
 {
@@ -87,7 +89,7 @@ fn own_end(steps: &[Step]) -> u32
     0
 }
 
-// The end of a job, behind jobs with these ends.
+// The end of a job that follows jobs with these ends.
 fn end_behind(ends: &[u32], job: &Job) -> u32
     ensures { result ≡ end_behind ends.now (job_data job.now) }
 {
@@ -109,7 +111,7 @@ fn ends_of(alloc: Global, deck: &Deck) -> Result<Vec<u32>, NoMemory>
     Ok(codes)
 }
 
-// The steps that a job with this end does.
+// The steps that a job with this end executes.
 fn steps_with(end: u32, steps: &[Step]) -> &[Step]
     ensures { result.now ≡ steps_with end steps.now }
 {
@@ -126,7 +128,7 @@ fn steps_with(end: u32, steps: &[Step]) -> &[Step]
     steps
 }
 
-// The lines that some steps write.
+// The lines that these steps write.
 fn lines_of(alloc: Global, steps: &[Step]) -> Result<Lines, NoMemory>
     ensures { IfOk result (λ lines. lines ≡ lines_of_steps steps.now) }
 {
@@ -145,7 +147,7 @@ fn lines_of(alloc: Global, steps: &[Step]) -> Result<Lines, NoMemory>
     Ok(Lines { texts })
 }
 
-// Adds to each volume what some steps add to it.
+// Adds to each volume what these steps count in it. A volume stops at `u32::MAX`.
 fn add_counts(volumes: &mut [u32; VOLUME_COUNT], steps: &[Step])
     ensures { (volume : ℕ) → volume < volume_count
         → slice_index volumes.new volume ≡ held_of (slice_index volumes.old volume + added_by volume steps.now) }

@@ -1,4 +1,4 @@
-//! The report, written from its first line to its last. `specs/Report.antt` says which bytes that is.
+//! The report, written from its first line to its last. `specs/Report.antt` defines its bytes.
 
 ghost use Rattle.std.specs.Prelude.{◌≡◌, ◌<◌, ◌≤◌, ◌++◌, length, All, count_by, OnOk, IfOk, vec_len};
 ghost use Rattle.mv_deck.specs.Deck.{deck_data};
@@ -50,7 +50,7 @@ fn push_abend(out: &mut Vec<u8>, end: u32) -> Result<(), NoMemory>
     Ok(())
 }
 
-// Appends how a job came to its end.
+// Appends the words for a job's end.
 fn push_outcome(out: &mut Vec<u8>, end: u32) -> Result<(), NoMemory>
     requires { IsEndCode end }
     ensures { OnOk result (out.new.items ≡ out.old.items ++ outcome_text end) }
@@ -132,7 +132,7 @@ fn push_volumes(out: &mut Vec<u8>, volumes: &[u32]) -> Result<(), NoMemory>
     Ok(())
 }
 
-/// Appends the last two lines.
+/// Appends the last two lines: the counts of jobs and the volumes.
 pub(crate) fn push_closing(
     out: &mut Vec<u8>,
     jobs: usize,
@@ -145,16 +145,15 @@ pub(crate) fn push_closing(
     push_volumes(out, volumes)
 }
 
-/// The report on a deck whose jobs came to these ends and wrote these lines, and which left this in the eight volumes.
+/// Returns the report on a deck whose jobs have these ends and lines, and left these numbers in the eight volumes.
 ///
-/// An end is an end code: 0 to 4095 of a job that ended, its return code; `2^24 + 4096 * system + user` of one that
-/// abended; `2^25` of one that was not run, whose lines do not show. Of an abend a system code stands in three
-/// hexadecimal digits, a user code in four decimal ones, as the books write completion codes. The time is linear in what is
-/// written.
+/// An end is an end code: 0 to 4095, the return code, if the job ended; `2^24 + 4096 * system + user` if it abended; `2^25` if it
+/// was not run, in which case its lines are not printed. An abend is printed as the books write completion codes: a system code
+/// in three hexadecimal digits, a user code in four decimal ones. The time is linear in what is written.
 ///
 /// # Errors
 ///
-/// `NoMemory` where there is no room for the text.
+/// `NoMemory` if there is not enough memory for the text.
 pub fn write_report(
     alloc: Global,
     deck: &Deck,

@@ -1,4 +1,4 @@
-//! The summary of a load. `specs/Summary.antt` says which bytes that is.
+//! The summary of a load. `specs/Summary.antt` defines its bytes.
 
 ghost use Rattle.std.specs.Prelude.{◌≡◌, length, All, IfOk};
 ghost use Rattle.mv_deck.specs.Operand.{volume_count};
@@ -10,13 +10,13 @@ use mv_io::NoMemory;
 use mv_line::push_number;
 use std::alloc::Global;
 
-/// The summary of a load whose jobs came to these ends on so many initiators, and which left this in the eight volumes.
+/// Returns the summary of a load that has these ends on `initiators` initiators, and left these numbers in the eight volumes.
 ///
-/// Ends are those of `write_report`. The time is linear in the jobs.
+/// Ends are end codes as for `write_report`. The time is linear in the jobs.
 ///
 /// # Errors
 ///
-/// `NoMemory` where there is no room for the text.
+/// `NoMemory` if there is not enough memory for the text.
 pub fn write_summary(
     alloc: Global,
     jobs: u32,
