@@ -1,4 +1,4 @@
--- What a run says of its volumes: a COUNT reads and writes with nothing between, a SCAN reads one number twice, and the volumes
+-- The volumes in a run: nothing comes between the read and the write of a COUNT, a SCAN reads one number twice, and the volumes
 -- end with the totals of the deck.
 use Rattle.std.specs.Prelude.{◌≡◌, ℕ, ◌+◌, List, [], ◌∷◌, ◌++◌}
 use Rattle.mv_machine.specs.declared.entry.Entry.{Entry}
@@ -12,8 +12,8 @@ use Rattle.mv_deck.specs.Deck.{JobData}
 use Rattle.mv_report.specs.Outcome.{total}
 use Rattle.mv_plan.specs.SpoolSetup.{spool_setup}
 
--- The last of these entries that is caller k's reads volume v; n is the number that it is told and an amount; and no other
--- entry on the volume stands behind it.
+-- The last of these entries that is caller k's is a read of volume v; n is the number that it returned plus an amount; and no
+-- entry after it is on the volume.
 pub record IsCountedBy (k v n : ℕ) (es : List Entry) : Type 0 where
   pub front : List Entry
   pub read : Entry
@@ -29,23 +29,23 @@ pub record IsCountedBy (k v n : ℕ) (es : List Entry) : Type 0 where
   pub last : of k behind ≡ []
   pub alone : «at» (Volume v) behind ≡ []
 
--- each write is that of a COUNT, whose read stands before it with nothing on the volume between
+-- each write of a volume belongs to a COUNT: its caller's read comes before it, with no entry on the volume between them
 abbrev pub CountsStandAlone : List Entry → Type 0
 CountsStandAlone es =
     (front rest : List Entry) (e : Entry) (v n : ℕ) → es ≡ front ++ e ∷ rest
     → e.object ≡ Volume v → e.op ≡ op_on.Volume (Write n) → IsCountedBy e.caller v n front
 
--- two reads of a volume that are next to each other among their caller's entries, as those of a SCAN are, are told one number
+-- two reads of a volume that follow each other among their caller's entries, as those of a SCAN do, return the same number
 abbrev pub ScansAreSteady : List Entry → Type 0
 ScansAreSteady es =
     (front between rest : List Entry) (once again : Entry) (v : ℕ) → es ≡ front ++ once ∷ (between ++ again ∷ rest)
     → once.object ≡ Volume v → once.op ≡ op_on.Volume Read → again.object ≡ Volume v → again.op ≡ op_on.Volume Read
     → once.caller ≡ again.caller → of again.caller between ≡ [] → once.reply ≡ again.reply
 
--- whoever counts in a volume has it alone, whoever scans one reads one number twice, and in the end each volume has the sum of what
--- was counted
+-- a COUNT has its volume to itself, a SCAN reads one number twice, and in the end each volume has the sum of what was counted in
+-- it
 pub record AreCountedAlone (deck : List JobData) (initiators : ℕ) (es : List Entry) : Type 0 where
   pub counts : CountsStandAlone es
   pub scans : ScansAreSteady es
-  -- the last number of each volume
+  -- the number in each volume at the end is its total
   pub totals : (v : ℕ) → ((after (spool_setup deck initiators) es).volume v).state ≡ total deck v

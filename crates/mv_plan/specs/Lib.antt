@@ -3,9 +3,9 @@ pub mod Jobs
 pub mod SpoolSetup
 pub mod SpoolTasks
 pub mod SpoolRun
--- what each history that follows keeps to
+-- what holds of each history that follows the plan
 pub mod StayingWithin
--- what each run keeps to
+-- what holds of each run
 pub mod HandingOut
 pub mod PostingEnds
 pub mod CountingAlone

@@ -1,4 +1,5 @@
--- What a run says of its requestors: each job's requests are purged once, none is made after that, and in the end none stands.
+-- The requestors of jobs in a run: each job's requests are purged once, none is made after that, and in the end there is no
+-- request.
 use Rattle.std.specs.Prelude.{◌≡◌, ℕ, ◌+◌, ◌<◌, ◌==◌, Bool, true, false, List, [], ◌∷◌, ◌++◌, length, filter}
 use Rattle.std.specs.List.{AllByRecursion}
 use Rattle.mv_latch.specs.declared.operation.LatchOp.TheVariants.{Obtain}
@@ -10,7 +11,7 @@ use Rattle.mv_deck.specs.Deck.{JobData}
 use Rattle.mv_plan.specs.SpoolSetup.{spool_setup}
 use Rattle.mv_machine.specs.Orderly.{purged_by}
 
--- whether an event is an obtain for this requestor
+-- whether an operation is an obtain for this requestor
 abbrev pub is_obtain : ℕ → Op → Bool
 is_obtain requestor (op_on.Latch (Obtain latch r mode form)) = r == requestor
 is_obtain requestor op = false
@@ -23,7 +24,7 @@ purges requestor es = filter (λ e. purged_by requestor e.op) es
 abbrev pub obtains : ℕ → List Entry → List Entry
 obtains requestor es = filter (λ e. is_obtain requestor e.op) es
 
--- each job's requestor is purged once and makes no request after that, and in the end no request stands
+-- the requestor of each job is purged once and makes no request after that, and in the end no latch has a request
 pub record ArePurged (deck : List JobData) (initiators : ℕ) (es : List Entry) : Type 0 where
   pub once : (j : ℕ) → j < length deck → length (purges (j + 1) es) ≡ 1
   pub last : (j : ℕ) (front rest : List Entry) (e : Entry) → j < length deck → es ≡ front ++ e ∷ rest

@@ -1,5 +1,5 @@
--- The configuration of the spool: a reader, a scheduler, initiators and a writer, who share four blocks for each job and one
--- for each initiator.
+-- The configuration of the spool: a reader, a scheduler, initiators and a writer, which share four blocks for each job and one
+-- for each initiator. In the number of a block, n is how many jobs the deck has.
 use Rattle.std.specs.Prelude.{ℕ, zero, suc, ◌+◌, ◌*◌, List, [], ◌∷◌, ◌++◌, length, map, replicate}
 use Rattle.std.specs.List.{range_with_len}
 use Rattle.mv_machine.specs.Setup.{Setup, SetupExit}
@@ -7,57 +7,57 @@ use Rattle.mv_deck.specs.Deck.{JobData}
 use Rattle.mv_deck.specs.Operand.{volume_count}
 use Rattle.mv_deck.specs.Weight.{after_parts, all_events}
 
--- how many jobs the numbers of blocks are made for. A deck that can be run has fewer, by its weight
+-- the most jobs for which blocks have numbers; a deck that can be run has fewer, by its weight
 abbrev pub jobs_limit : ℕ
 jobs_limit = 65535
 
--- the blocks, where there are n jobs: a job was entered
+-- the block that says that job j was entered
 abbrev pub entered : ℕ → ℕ
 entered j = j
 
--- a job is done
+-- the block that says that job j is done
 abbrev pub done : ℕ → ℕ → ℕ
 done n j = n + j
 
--- a job's end, for the scheduler and for the writer
+-- the block that has the end of job j for the scheduler
 abbrev pub end_for_scheduler : ℕ → ℕ → ℕ
 end_for_scheduler n j = 2 * n + 2 * j
 
--- the job's end, for the writer
+-- the block that has the end of job j for the writer
 abbrev pub end_for_writer : ℕ → ℕ → ℕ
 end_for_writer n j = 2 * n + 2 * j + 1
 
--- an initiator is idle
+-- the block that says that initiator i is idle
 abbrev pub idle : ℕ → ℕ → ℕ
 idle n i = 4 * n + i
 
--- the callers
+-- the caller number of the reader
 abbrev pub reader : ℕ
 reader = 0
 
--- the second is the scheduler
+-- the caller number of the scheduler
 abbrev pub scheduler : ℕ
 scheduler = 1
 
--- the initiators follow
+-- the caller number of initiator i
 abbrev pub initiator : ℕ → ℕ
 initiator i = i + 2
 
--- and the last is the writer
+-- the caller number of the writer, the last
 abbrev pub writer : ℕ → ℕ
 writer initiators = initiators + 2
 
--- each job's two ends, for the scheduler and for the writer
+-- the owners of the end blocks of n jobs: for each job the scheduler, and the writer w
 abbrev pub end_owners : ℕ → ℕ → List ℕ
 end_owners w zero = []
 end_owners w (suc n) = scheduler ∷ w ∷ end_owners w n
 
--- the owner of each block
+-- the owner of each block, for n jobs
 abbrev pub block_owners : ℕ → ℕ → List ℕ
 block_owners n initiators =
     replicate n scheduler ++ replicate n scheduler ++ end_owners (writer initiators) n ++ replicate initiators scheduler
 
--- when a job is done, its two ends are posted
+-- the exit of job j: a post of its `done` block posts its two end blocks, too
 abbrev pub end_exit : ℕ → ℕ → SetupExit
 end_exit n j = record { source = done n j; targets = end_for_scheduler n j ∷ end_for_writer n j ∷ [] }
 
@@ -68,7 +68,7 @@ task_budgets deck initiators =
     ∷ (5 * length deck + 2 * length deck * initiators + 2 * after_parts deck + 4 * initiators)
     ∷ (replicate initiators (5 + 7 * length deck + all_events deck) ++ (2 * length deck) ∷ [])
 
--- the configuration of a deck for so many initiators
+-- the configuration of a deck for this many initiators
 abbrev pub spool_setup : List JobData → ℕ → Setup
 spool_setup deck initiators = record {
   callers = initiators + 3;

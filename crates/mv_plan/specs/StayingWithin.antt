@@ -1,5 +1,5 @@
--- What a history that follows says of budgets: no task makes more events than its budget, and where its program says one more,
--- there is one left for it.
+-- The budgets in a history that follows the plan: no task makes more events than its budget, and one is left if the task's
+-- program has one more event.
 use Rattle.std.specs.Prelude.{◌≡◌, ℕ, ◌+◌, ◌<◌, List, length, slice_index, Some}
 use Rattle.mv_machine.specs.declared.entry.Entry.{Entry}
 use Rattle.mv_machine.specs.declared.entry.Object.{Object}
@@ -14,9 +14,9 @@ use Rattle.mv_plan.specs.SpoolTasks.{task_program}
 
 -- no task is ever stopped by its budget
 pub record IsWithinBudgets (deck : List JobData) (initiators : ℕ) (es : List Entry) : Type 0 where
-  -- no caller has made more events than it may
+  -- no caller has made more events than its budget
   pub made : KeepsBudgets (spool_setup deck initiators) es
-  -- and each that is to make another may
+  -- each caller whose program has one more event has one left
   pub next : (k : ℕ) (object : Object) (op : Op) → k < initiators + 3
       → asks (left_in (spool_setup deck initiators) (task_program deck initiators) k es) ≡ Some (object, op)
       → length (of k es) < slice_index (task_budgets deck initiators) k

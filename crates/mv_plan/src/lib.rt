@@ -1,4 +1,4 @@
-//! The spool's tasks, which are calls of the services set one after the other, and the laws of every run of them.
+//! The tasks of the spool as programs of service calls, the laws of every run of them, and the configuration of a run.
 #![tactic(auto)]
 
 mod laws;

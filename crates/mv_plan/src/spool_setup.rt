@@ -1,4 +1,4 @@
-//! The configuration of a run of a deck: the blocks, callers, exits and budgets of `specs/SpoolSetup.antt`.
+//! The configuration of a run of a deck: the callers, blocks, exits and budgets of `specs/SpoolSetup.antt`.
 
 ghost use Rattle.std.specs.Prelude.{◌≡◌, ◌<◌, ◌≤◌, ◌^◌, map, sum_by, IfOk};
 ghost use Rattle.std.specs.List.{range_with_len};
@@ -15,10 +15,10 @@ use mv_io::NoMemory;
 use mv_machine::{Config, Exit, ValidConfig};
 use std::alloc::Global;
 
-// How many callers there are beside the initiators: the reader, the scheduler and the writer.
+// The number of callers besides the initiators: the reader, the scheduler and the writer.
 const OTHER_TASKS: u32 = 3;
 
-// At most how many events the steps of a job make.
+// How many events the steps of a job make at most.
 #[tactic(auto, using(crate::proofs::code::steps_left))]
 fn steps_events(steps: &[Step]) -> u32
     requires fits { sum_by events_of_step steps.now < 2 ^ 32 }
@@ -31,7 +31,7 @@ fn steps_events(steps: &[Step]) -> u32
     events
 }
 
-// At most how many events the steps of all jobs make.
+// How many events the steps of all jobs make at most.
 #[tactic(auto, using(crate::proofs::code::events_left))]
 fn all_events(jobs: &[Job]) -> u32
     requires fits { events_of_jobs (map job_data jobs.now) < 2 ^ 32 }
@@ -44,7 +44,7 @@ fn all_events(jobs: &[Job]) -> u32
     events
 }
 
-// How many parts the AFTER lists of all jobs have.
+// The number of AFTER parts of all jobs.
 #[tactic(auto, using(crate::proofs::code::parts_left))]
 fn after_parts(jobs: &[Job]) -> u32
     requires fits { parts_of_jobs (map job_data jobs.now) < 2 ^ 32 }
@@ -57,7 +57,7 @@ fn after_parts(jobs: &[Job]) -> u32
     parts
 }
 
-// The budgets of the reader, the scheduler, each initiator and the writer.
+// The budgets of the reader, the scheduler, each initiator and the writer, in the order of callers.
 fn budgets_of(alloc: Global, deck: &Deck, initiators: u32) -> Result<Vec<u32>, NoMemory>
     requires light { weight (deck_data deck.now) initiators ≤ heaviest }
     requires initiators { (1 ≤ initiators) × (initiators ≤ most_initiators) }
@@ -92,7 +92,7 @@ fn owners_of(alloc: Global, jobs: u32, initiators: u32) -> Result<Vec<u32>, NoMe
     Ok(owners)
 }
 
-// The exit of each job's done block.
+// The exit of each job's `done` block.
 fn exits_of(alloc: Global, jobs: u32) -> Result<Vec<Exit>, NoMemory>
     requires few { jobs ≤ jobs_limit }
     ensures { IfOk result (λ exits. map exit_of exits.items ≡ map (end_exit jobs) (range_with_len 0 jobs)) }
@@ -108,12 +108,13 @@ fn exits_of(alloc: Global, jobs: u32) -> Result<Vec<Exit>, NoMemory>
     Ok(exits)
 }
 
-/// The configuration of a run of this deck by 1 to 8 initiators: callers are the reader, the scheduler, the initiators and the
-/// writer. Linear in the deck.
+/// Returns the configuration of a run of this deck by 1 to 8 initiators.
+///
+/// Its callers are the reader, the scheduler, the initiators and the writer, in this order. The time is linear in the deck.
 ///
 /// # Errors
 ///
-/// `NoMemory` where there is not enough. Nothing else refuses a deck that they can run.
+/// `NoMemory` if there is not enough memory. A deck that these initiators can run is refused for no other reason.
 ///
 /// # Example
 ///
