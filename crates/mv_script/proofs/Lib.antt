@@ -21,9 +21,9 @@ pub mod Suffices
 pub mod NumbersBack
 pub mod AnswersBack
 pub mod TextsBack
--- the law on what tries answer
+-- the law on the answers to tries
 pub mod Tries
--- the law on what the calls on a table are told
+-- the law on the answers to calls on a table
 pub mod Cutting
 pub mod Refusals
 pub mod HandedOut

@@ -1,4 +1,4 @@
--- The text of the answers: a line for each call, of all tasks in order; and which answers it tells apart.
+-- The text of the answers, a line for each call of all tasks in order; and the answers that it determines.
 use Rattle.std.specs.Prelude.{ℕ, ◌+◌, ◌/◌, ◌%◌, ◌^◌, ◌<◌, List, [], ◌∷◌, ◌++◌, All, flat_map, length, codes, decimal}
 use Rattle.mv_element.specs.declared.element.Phase.{Phase}
 use Rattle.mv_element.specs.declared.element.Phase.TheVariants.{Free, Reset, Prereleased, Paused, Released}
@@ -8,20 +8,20 @@ use Rattle.mv_wait.specs.declared.waiting.WaitSlot.TheVariants as slot
 use Rattle.mv_script.specs.declared.answer.Answer.{Answer}
 use Rattle.mv_script.specs.declared.answer.Answer.TheVariants as answer
 
--- a word and a number behind it
+-- a word, and a number after it
 abbrev pub word_and : List ℕ → ℕ → List ℕ
 word_and word n = word ++ codes " " ++ decimal n
 
--- a block of a wait: its code, or that it is open
+-- the text of a block of a wait: its code, or that it is open
 abbrev pub slot_text : WaitSlot → List ℕ
 slot_text (slot.Complete code) = codes " C" ++ decimal code
 slot_text slot.Open = codes " O"
 
--- a token
+-- the text of a token
 abbrev pub token_text : Token → List ℕ
 token_text t = decimal t.element ++ codes "." ++ decimal t.generation
 
--- a phase
+-- the text of a phase
 abbrev pub phase_text : Phase → List ℕ
 phase_text Free = codes "FREE"
 phase_text Reset = codes "RESET"
@@ -29,7 +29,7 @@ phase_text Prereleased = codes "PRERELEASED"
 phase_text Paused = codes "PAUSED"
 phase_text Released = codes "RELEASED"
 
--- each answer, a line a variant. A word that was met is shown by its place and its state, which has the lower 45 bits
+-- each answer, one line for each variant; a word that was met is shown as its place and its state, which has the lower 45 bits
 abbrev pub answer_text : Answer → List ℕ
 answer_text (answer.Waited slots) = codes "WAITED" ++ flat_map slot_text slots
 answer_text answer.TooMany = codes "TOOMANY"
@@ -71,16 +71,16 @@ answer_text (answer.Event index word) = word_and (word_and (codes "EVENT") index
 answer_text answer.Drained = codes "DRAINED"
 answer_text (answer.PurgedCounts removed granted) = word_and (word_and (codes "PURGED") removed) granted
 
--- a line: the task's number, counted from 0, the call's, counted from 1, and the answer
+-- a line: the number of the task, counted from 0, the number of the call, counted from 1, and the answer
 abbrev pub answer_line : ℕ → ℕ → Answer → List ℕ
 answer_line task call a = word_and (decimal task) call ++ codes " " ++ answer_text a ++ codes "\n"
 
--- the lines of a task's answers, from this call on
+-- the lines of a task's answers, of which the first is to this call
 abbrev pub task_lines : ℕ → ℕ → List Answer → List ℕ
 task_lines task call [] = []
 task_lines task call (a ∷ answers) = answer_line task call a ++ task_lines task (call + 1) answers
 
--- the lines of all tasks, from this one on
+-- the lines of tasks, of which the first is this one
 abbrev pub lines_from : ℕ → List (List Answer) → List ℕ
 lines_from task [] = []
 lines_from task (answers ∷ tasks) = task_lines task 1 answers ++ lines_from (task + 1) tasks
@@ -89,22 +89,22 @@ lines_from task (answers ∷ tasks) = task_lines task 1 answers ++ lines_from (t
 abbrev pub answers_text : List (List Answer) → List ℕ
 answers_text tasks = lines_from 0 tasks
 
--- ---- which answers it tells apart
+-- ---- the answers that the text determines
 
--- a number of at most eight bytes. Each number of an answer has no more by its type
+-- a number of at most eight bytes, as each number of an answer is by its type
 abbrev pub IsNumber : ℕ → Type 0
 IsNumber n = n < 2 ^ 64
 
--- a block's code is one
+-- the code of a block has at most eight bytes
 abbrev pub IsSlotInRange : WaitSlot → Type 0
 IsSlotInRange (slot.Complete code) = IsNumber code
 IsSlotInRange slot.Open = Unit {0}
 
--- both numbers of a token are
+-- both numbers of a token have at most eight bytes
 abbrev pub IsTokenInRange : Token → Type 0
 IsTokenInRange t = IsNumber t.element × IsNumber t.generation
 
--- each number of an answer is
+-- each number of an answer has at most eight bytes
 abbrev pub IsInRange : Answer → Type 0
 IsInRange (answer.Waited slots) = All IsSlotInRange slots
 IsInRange (answer.Doubled position) = IsNumber position
@@ -127,7 +127,7 @@ IsInRange (answer.Event index word) = IsNumber index × IsNumber word
 IsInRange (answer.PurgedCounts removed granted) = IsNumber removed × IsNumber granted
 IsInRange _ = Unit {0}
 
--- the tasks and the calls of each can be counted in such numbers, and each number of each answer is one
+-- the number of tasks, the number of calls of each, and each number of each answer have at most eight bytes
 pub record AreInRange (tasks : List (List Answer)) : Type 0 where
   pub tasks_counted : IsNumber (length tasks)
   pub calls_counted : All (λ answers. IsNumber (length answers)) tasks

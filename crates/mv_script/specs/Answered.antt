@@ -1,4 +1,4 @@
--- What a call of a script answers, by what the service answered.
+-- The answer to a call of a script, by what the service returned.
 use Rattle.std.specs.Prelude.{ℕ, map, Option, Some, None, Result, Ok, Err}
 use Rattle.mv_calls.specs.Events.{Entering, EnteredAt, WasComplete, Finding}
 use Rattle.mv_calls.specs.LatchCalls.{Requested, GrantedAs, PendingAs, RequestState, Holds, Waits, IsOut, Counts}
@@ -14,9 +14,9 @@ use Rattle.mv_wait.specs.declared.waiting.WaitSlot.TheVariants as slot
 use Rattle.mv_script.specs.declared.answer.Answer.{Answer}
 use Rattle.mv_script.specs.declared.answer.Answer.TheVariants as answer
 
--- Each refusal has an answer of its own, but for the two that no call of a script is told: a post of an event finds no volume that
--- counts too many, and no slot has a code that is no event's index (`EventsAreHandedOut` of Events). They stand beside the purge of
--- such a post, which does not come either.
+-- The answer to each refusal. Two refusals reach no call of a script, and share the answer to the purge of a post of an event,
+-- which does not happen either: no such post finds a volume that counts too many (Broken), and no slot has a code that is not an
+-- event's index (Strange), as `EventsAreHandedOut` of Events implies.
 abbrev pub refused : Refusal → Answer
 refused refusal.TooMany = answer.TooMany
 refused (refusal.Doubled position) = answer.Doubled position
@@ -41,57 +41,57 @@ refused (refusal.Broken count) = answer.Purged
 refused refusal.Drained = answer.Drained
 refused (refusal.Strange index) = answer.Purged
 
--- what was done, or why it was refused
+-- the answer to a service that may be refused: `f` of what it returned, or that to the refusal
 abbrev pub done_or : {A : Type 0} → (A → Answer) → Result A Refusal → Answer
 done_or f (Ok a) = f a
 done_or f (Err why) = refused why
 
--- how a block of a wait was found
+-- a block of a wait, by the code with which the wait found it complete, if it did
 abbrev pub slot_with : Option ℕ → WaitSlot
 slot_with None = slot.Open
 slot_with (Some code) = slot.Complete code
 
--- a post, whichever exit it started
+-- the answer to a post, whichever exit it started
 abbrev pub posted : Posting → Answer
 posted posting.Posted = answer.Posted
 posted (posting.Woke exit) = answer.Woke
 posted (posting.Already code) = answer.AlreadyPosted code
 
--- what a pause was given
+-- the answer to a pause that was given a code
 abbrev pub given : Gift → Answer
 given gift = answer.Given gift.code gift.next
 
--- a transfer without a pause is done
+-- the answer to a transfer; it is Done if the transfer does not pause
 abbrev pub given_if_paused : Option Gift → Answer
 given_if_paused None = answer.Done
 given_if_paused (Some gift) = given gift
 
--- a release
+-- the answer to a release
 abbrev pub reached : Reached → Answer
 reached CameEarly = answer.Early
 reached WokeIt = answer.Woke
 
--- an obtain; its number is not told
+-- the answer to an obtain, which does not show the number of the request
 abbrev pub obtained : Requested → Answer
 obtained (GrantedAs id) = answer.Granted
 obtained (PendingAs id) = answer.Pending
 
--- how a request stands
+-- the answer to a CHECK, by the state of the request
 abbrev pub standing : RequestState → Answer
 standing Holds = answer.Granted
 standing Waits = answer.Waiting
 standing IsOut = answer.Gone
 
--- a purge
+-- the answer to a purge
 abbrev pub purged : Counts → Answer
 purged counts = answer.PurgedCounts counts.removed counts.granted
 
--- a post of an event
+-- the answer to a post of an event
 abbrev pub entered : Entering → Answer
 entered (EnteredAt position) = answer.Entered position
 entered (WasComplete code) = answer.AlreadyPosted code
 
--- an event that was handed out
+-- the answer to a call that took an event of the table
 abbrev pub found : Finding → Answer
 found finding = answer.Event finding.index finding.word
 

@@ -1,4 +1,4 @@
--- The configuration of a script, and what its calls may cost there.
+-- The configuration of a script, and the costs of its calls in it.
 use Rattle.std.specs.Prelude.{ℕ, true, List, sum_by}
 use Rattle.mv_ecb.specs.Word.{Zero}
 use Rattle.mv_element.specs.Element.{reset}
@@ -14,7 +14,7 @@ use Rattle.mv_script.specs.declared.call.Call.TheVariants as call
 use Rattle.mv_script.specs.Limits.{elements_per_task, volumes, latches, quota, posted_quota}
 use Rattle.mv_script.specs.Operand.{table_with}
 
--- the configuration of a script with so many tasks, and with these blocks, exits and budgets
+-- the configuration of a script with this many tasks, and with these blocks, exits and budgets
 abbrev pub script_setup : ℕ → List ℕ → List SetupExit → List ℕ → Setup
 script_setup tasks owners exits budgets = record {
   callers = tasks;
@@ -43,7 +43,7 @@ zero_at place = pack place (state.Ecb Zero)
 abbrev pub reset_at : ℕ → ℕ → ℕ
 reset_at generation place = pack place (state.Element (reset generation))
 
--- the service that a call asks for, where this is the script's table, and the task's OBTAINs, counted from 1, got these requests
+-- the service that a call requests, if t is the script's table, and the task's OBTAINs, counted from 1, got these requests
 abbrev pub service_of : Table → (ℕ → Asked) → Call → Service
 service_of t asked (call.Wait count ecbs) = service.Wait count ecbs
 service_of t asked (call.Post ecb code) = service.Post ecb code
@@ -70,22 +70,22 @@ service_of t asked (call.NextEvent position) = service.NextEvent t position
 
 -- ---- costs
 
--- no cost depends on what a request is
+-- the requests with which costs are computed; no cost depends on them
 abbrev pub nothing_asked : ℕ → Asked
 nothing_asked k = record { latch = 0; id = 0 }
 
--- nor on which table there is
+-- the table with which costs are computed; no cost depends on it
 abbrev pub no_table : Table
 no_table = table_with 0 0 0 0 0 0
 
--- at its end a task may use all of its elements
+-- what a task keeps when costs are computed: all of its elements are in use, as may be at its end
 abbrev pub all_in_use : Kept
 all_in_use = record (nothing_kept 0) { in_use = λ n. true }
 
--- how many events a call may need
+-- how many events a call may need at most
 abbrev pub cost : Setup → Call → ℕ
 cost c call = most_events c all_in_use (service_of no_table nothing_asked call)
 
--- how many events these calls may need together
+-- how many events these calls may need together at most
 abbrev pub costs_of : Setup → List Call → ℕ
 costs_of c calls = sum_by (cost c) calls

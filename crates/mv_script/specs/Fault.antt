@@ -1,4 +1,4 @@
--- The faults of a text: one test for each kind of fault that a line can have, and which fault is the first.
+-- The faults of a text: a test for each kind of fault that a line can have, and the first fault.
 use Rattle.std.specs.Prelude.{ℕ, Bool, true, false, ◌&&◌, ◌||◌, not, nat_le, nat_lt, List, [], ◌∷◌, ◌++◌, length, sum}
 use Rattle.std.specs.Prelude.{count_by, Option, Some, None, is_some, Ok, Err}
 use Rattle.std.specs.List.{list_any}
@@ -42,64 +42,64 @@ kind_number BadTable = 12
 
 -- ---- faults of a line by itself
 
--- an ignored line needs no form
+-- whether a line's words fit no form; an ignored line needs none
 abbrev pub has_no_form : Option (Read Statement) → Bool
 has_no_form None = false
 has_no_form (Some (Ok s)) = false
 has_no_form (Some (Err misread.NoForm)) = true
 has_no_form (Some (Err misread.BadNumber)) = false
 
--- a number with a zero in front, out of its range, or of no task, block, element, volume, event or position
+-- whether a line has a number with a leading zero, out of its range, or of no task, block, element, volume, event or position
 abbrev pub has_bad_number : Option (Read Statement) → Bool
 has_bad_number None = false
 has_bad_number (Some (Ok s)) = false
 has_bad_number (Some (Err misread.NoForm)) = false
 has_bad_number (Some (Err misread.BadNumber)) = true
 
--- ---- where a statement stands: the four sorts of lines that others ask for
+-- ---- the place of a statement: the sorts of lines on which the places of others depend
 
--- a SCRIPT
+-- whether a statement is a SCRIPT
 abbrev pub is_script : Statement → Bool
 is_script (statement.Script t) = true
 is_script _ = false
 
--- an EXIT
+-- whether a statement is an EXIT
 abbrev pub is_exit : Statement → Bool
 is_exit (statement.Exit source targets) = true
 is_exit _ = false
 
--- a TASK
+-- whether a statement is a TASK
 abbrev pub is_task : Statement → Bool
 is_task statement.Task = true
 is_task _ = false
 
--- the END
+-- whether a statement is the END
 abbrev pub is_end : Statement → Bool
 is_end statement.End = true
 is_end _ = false
 
--- whether one of these is a SCRIPT
+-- whether one of the earlier statements is a SCRIPT
 abbrev pub has_script : List Statement → Bool
 has_script earlier = list_any is_script earlier
 
--- an EXIT
+-- whether one of the earlier statements is an EXIT
 abbrev pub has_exit : List Statement → Bool
 has_exit earlier = list_any is_exit earlier
 
--- a TABLE
+-- whether one of the earlier statements is a TABLE
 abbrev pub has_table : List Statement → Bool
 has_table earlier = is_some (table_of earlier)
 
--- a TASK
+-- whether one of the earlier statements is a TASK
 abbrev pub has_task : List Statement → Bool
 has_task earlier = list_any is_task earlier
 
--- the END
+-- whether one of the earlier statements is the END
 abbrev pub has_end : List Statement → Bool
 has_end earlier = list_any is_end earlier
 
--- SCRIPT is the first of all, and stands once. Behind it come the ECBs, then the EXITs, then the TABLE, then the tasks, each a TASK
--- and its calls, and then END, behind which nothing stands
+-- Whether a statement is out of order. SCRIPT comes first, and once. After it come the ECBs, then the EXITs, then the TABLE, then
+-- the tasks, each a TASK and its calls, and then END, which is the last.
 abbrev pub is_out_of_order : List Statement → Statement → Bool
 is_out_of_order earlier (statement.Script t) = nat_lt 0 (length earlier)
 is_out_of_order earlier (statement.Ecb owner) =
@@ -111,9 +111,9 @@ is_out_of_order earlier statement.Task = not (has_script earlier) || has_end ear
 is_out_of_order earlier (statement.Call c) = not (has_task earlier) || has_end earlier
 is_out_of_order earlier statement.End = not (has_script earlier) || has_end earlier
 
--- ---- what a statement asks of those before it
+-- ---- a statement and those before it
 
--- one more block, exit, table, task or call than there may be, or an END behind fewer tasks than are stated
+-- whether a statement is one more block, exit, table, task or call than allowed, or an END after fewer tasks than stated
 abbrev pub is_miscounted : List Statement → Statement → Bool
 is_miscounted earlier (statement.Script t) = false
 is_miscounted earlier (statement.Ecb owner) = nat_le most_ecbs (length (owners_of earlier))
@@ -123,7 +123,7 @@ is_miscounted earlier statement.Task = nat_le (task_count earlier) (length (task
 is_miscounted earlier (statement.Call c) = nat_le most_calls (length (last_task (tasks_of earlier)))
 is_miscounted earlier statement.End = nat_lt (length (tasks_of earlier)) (task_count earlier)
 
--- an EXIT with a target that is not above its source
+-- whether a statement is an EXIT with a target that is not above its source
 abbrev pub leads_down : Statement → Bool
 leads_down (statement.Script t) = false
 leads_down (statement.Ecb owner) = false
@@ -133,18 +133,18 @@ leads_down statement.Task = false
 leads_down (statement.Call c) = false
 leads_down statement.End = false
 
--- the OBTAIN that a call means, counted from 1
+-- the number of the OBTAIN that a call names, counted from 1, if it names one
 abbrev pub obtain_meant : Call → Option ℕ
 obtain_meant (call.Check k) = Some k
 obtain_meant (call.Free k conditional) = Some k
 obtain_meant _ = None
 
--- whether a number is that of none of these calls that is an OBTAIN
+-- whether a number, if there is one, is that of no OBTAIN among these calls
 abbrev pub is_no_obtain : List Call → Option ℕ → Bool
 is_no_obtain calls None = false
 is_no_obtain calls (Some k) = not (is_within 1 (count_by is_obtain calls) k)
 
--- a CHECK or FREE of no earlier OBTAIN of its task
+-- whether a statement is a CHECK or a FREE that names no earlier OBTAIN of its task
 abbrev pub lacks_obtain : List Statement → Statement → Bool
 lacks_obtain earlier (statement.Script t) = false
 lacks_obtain earlier (statement.Ecb owner) = false
@@ -154,11 +154,11 @@ lacks_obtain earlier statement.Task = false
 lacks_obtain earlier (statement.Call c) = is_no_obtain (last_task (tasks_of earlier)) (obtain_meant c)
 lacks_obtain earlier statement.End = false
 
--- the calls of a script with this statement may make more events than a run may have
+-- whether the calls up to this statement may make more events than a run may have
 abbrev pub is_too_costly : List Statement → Statement → Bool
 is_too_costly earlier s = nat_lt events_limit (sum (budgets_of (earlier ++ s ∷ [])))
 
--- a call but EVPOST and EVNEXT that uses what is the table's
+-- whether a statement is a call other than EVPOST and EVNEXT that uses what the table reserves
 abbrev pub uses_table : List Statement → Statement → Bool
 uses_table earlier (statement.Script t) = false
 uses_table earlier (statement.Ecb owner) = false
@@ -168,7 +168,7 @@ uses_table earlier statement.Task = false
 uses_table earlier (statement.Call c) = uses_any (table_of earlier) c
 uses_table earlier statement.End = false
 
--- a TABLE that the configuration cannot have
+-- whether a statement is a TABLE that the configuration cannot have
 abbrev pub is_bad_table : List Statement → Statement → Bool
 is_bad_table earlier (statement.Script t) = false
 is_bad_table earlier (statement.Ecb owner) = false
@@ -180,7 +180,7 @@ is_bad_table earlier statement.End = false
 
 -- ---- all faults, and the first
 
--- the kinds of fault of a statement behind earlier ones, rising. One that is out of order is asked no more
+-- the kinds of fault of a statement after the earlier ones, rising; one that is out of order is not checked for the others
 abbrev pub kinds_behind : List Statement → Statement → List ℕ
 kinds_behind earlier s =
     let in_order = not (is_out_of_order earlier s) in
@@ -192,13 +192,13 @@ kinds_behind earlier s =
     ++ (when kind_number (uses_table earlier s && in_order) UsesTable
     ++ when kind_number (is_bad_table earlier s && in_order) BadTable)))))
 
--- the same for a line that may state nothing
+-- the kinds of fault of a line's statement; none if the line states nothing
 abbrev pub kinds_of_statement : List Statement → Option (Read Statement) → List ℕ
 kinds_of_statement earlier None = []
 kinds_of_statement earlier (Some (Ok s)) = kinds_behind earlier s
 kinds_of_statement earlier (Some (Err why)) = []
 
--- the kinds of fault of a line behind the earlier statements, rising
+-- the kinds of fault of a line after the earlier statements, rising
 abbrev pub kinds_of : List Statement → List ℕ → List ℕ
 kinds_of earlier line =
     let states = line_states (sizes_behind earlier) line in
@@ -212,11 +212,11 @@ kinds_of earlier line =
 abbrev pub line_rules : LineRules (List Statement)
 line_rules = record { with_line = with_line; kinds_of = kinds_of; is_whole = has_end; cut_short = kind_number NoEnd }
 
--- the first fault of a text: the one with the lowest line, and there with the lowest kind
+-- the first fault of a text: that of the lowest line, and there the lowest kind
 unfoldable pub first_fault : List ℕ → Option TextFault
 first_fault bytes = of_lines.first_fault line_rules [] (lines_of bytes)
 
--- The line of this number has a fault of this kind: by what it is and the statements before it, or, behind the last line, for
--- want of an END.
+-- The text has this fault: its line has a fault of this kind, by itself or because of the statements before it; or the line is
+-- one after the last, and END is missing.
 abbrev pub HasFault : List ℕ → TextFault → Type 0
 HasFault bytes f = HasFaultAt line_rules 1 [] (lines_of bytes) f.line f.kind

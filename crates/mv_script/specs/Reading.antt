@@ -1,4 +1,4 @@
--- Where the reader of scripts is: behind these statements.
+-- The invariant of the reader of scripts, after these statements.
 use Rattle.std.specs.Prelude.{◌≡◌, ℕ, ◌+◌, ◌≤◌, Bool, true, false, nat_lt, List, [], ◌∷◌, ◌++◌, length, map, sum, count_by, replicate}
 use Rattle.std.specs.Prelude.{Option, Some, None, is_some, Result, Ok, Err, ◌<◌}
 use Rattle.std.specs.List.{AllByRecursion}
@@ -21,9 +21,10 @@ use Rattle.mv_script.specs.Limits.{most_tasks, most_ecbs, most_exits}
 use Rattle.mv_script.specs.Script.{task_count, owners_of, exits_of, table_of, tasks_of, with_call, sizes_behind, is_obtain}
 use Rattle.mv_script.specs.Sound.{IfThere, IsSoundExit, IsSoundTask, IsGoodStatement}
 
--- ---- how far statements have come
+-- ---- what the statements so far state
 
--- what they state so far: how many tasks, the blocks and exits, the table, the tasks with their calls; and which lines stand among them
+-- what statements state: how many tasks, the blocks and exits, the table, and the tasks with their calls; and which sorts of
+-- lines are among them
 pub record Progress : Type 0 where
   pub script : Bool
   pub stated : ℕ
@@ -35,7 +36,7 @@ pub record Progress : Type 0 where
   pub tasks : List (List Call)
   pub ended : Bool
 
--- that of some statements
+-- what these statements state
 abbrev pub progress_of : List Statement → Progress
 progress_of statements = record {
   script = has_script statements;
@@ -49,7 +50,7 @@ progress_of statements = record {
   ended = has_end statements;
 }
 
--- one more statement, which is in order
+-- what is stated with one more statement, which is in order
 abbrev pub with_statement : Progress → Statement → Progress
 with_statement p (statement.Script t) = record p { script = true; stated = t }
 with_statement p (statement.Ecb owner) = record p { owners = p.owners ++ owner ∷ [] }
@@ -60,7 +61,7 @@ with_statement p statement.Task = record p { task = true; tasks = p.tasks ++ [] 
 with_statement p (statement.Call c) = record p { tasks = with_call p.tasks c }
 with_statement p statement.End = record p { ended = true }
 
--- how many tasks and blocks there are that a line may name, and the table
+-- what a line may name: the numbers of tasks and of blocks, and the table
 abbrev pub sizes_in : Progress → Sizes
 sizes_in p = record { tasks = p.stated; ecbs = length p.owners; table = p.table }
 
@@ -68,11 +69,11 @@ sizes_in p = record { tasks = p.stated; ecbs = length p.owners; table = p.table 
 abbrev pub setup_in : Progress → List ℕ → Setup
 setup_in p budgets = script_setup p.stated p.owners p.exits budgets
 
--- what the calls of each task may cost
+-- how many events the calls of each task may cost
 abbrev pub budgets_in : Progress → List ℕ
 budgets_in p = map (costs_of (setup_in p [])) p.tasks
 
--- as far as it goes, this is a script that can be run
+-- what is stated so far is part of a script that can be run
 pub record IsSoundSoFar (p : Progress) : Type 0 where
   pub few : p.stated ≤ most_tasks
   pub script : p.script ≡ nat_lt 0 p.stated
@@ -90,7 +91,7 @@ pub record IsSoundSoFar (p : Progress) : Type 0 where
 
 -- ---- the reader
 
--- what the reader keeps, without where it lies in memory: of the tasks those before the last one, and of the last one its calls
+-- what contracts see of the reader; `finished` has the tasks before the last one, `calls` those of the last one
 pub record Notes : Type 0 where
   pub stated : ℕ
   pub owners : List ℕ
@@ -105,7 +106,7 @@ pub record Notes : Type 0 where
   pub room : ℕ
   pub ended : Bool
 
--- those of a reader
+-- what contracts see of this reader
 abbrev pub notes_of : Reading → Notes
 notes_of r = record {
   stated = r.stated;
@@ -122,17 +123,17 @@ notes_of r = record {
   ended = r.ended;
 }
 
--- the task that takes calls, where one has begun
+-- the task that takes calls, if one has begun
 abbrev pub open_task : Bool → List Call → List (List Call)
 open_task false calls = []
 open_task true calls = calls ∷ []
 
--- the configuration that calls cost by, where a task has begun
+-- the configuration by which costs are computed is c, if a task has begun
 abbrev pub HasCosts : Option Setup → Setup → Type 0
 HasCosts None c = Unit {0}
 HasCosts (Some costs) c = costs ≡ c
 
--- these notes are what it comes to
+-- n is what a reader keeps if p is what was stated
 pub record IsAsFar (p : Progress) (n : Notes) : Type 0 where
   pub sound : IsSoundSoFar p
   pub stated : n.stated ≡ p.stated
@@ -149,20 +150,20 @@ pub record IsAsFar (p : Progress) (n : Notes) : Type 0 where
   pub room : n.room + sum (budgets_in p) ≡ events_limit
   pub ended : n.ended ≡ p.ended
 
--- they are those of a reader behind these statements, of which SCRIPT is the first
+-- n is what a reader keeps after these statements, of which the first is SCRIPT
 pub record Stands (statements : List Statement) (n : Notes) : Type 0 where
   pub far : IsAsFar (progress_of statements) n
   pub first : has_script statements ≡ false → statements ≡ []
 
--- the reader has read these statements
+-- the reader has read these statements, and keeps what follows from them
 abbrev pub IsBehind : List Statement → Reading → Type 0
 IsBehind statements r = Stands statements (notes_of r)
 
--- the reader is behind some statements, and this one names what they state
+-- the reader has read some statements, and this one names only what they state
 abbrev pub IsToTake : Reading → Statement → Type 0
 IsToTake r s = (earlier : List Statement) × (IsBehind earlier r × IsGoodStatement (sizes_behind earlier) s)
 
--- the statement has no fault and the reader is behind it, or the kind that is told is its lowest
+-- the statement has no fault and the reader has read it, too; or the refusal has the lowest kind of its faults
 abbrev pub IsTaken : Result (Unit {0}) (LineRefusal Kind) → List Statement → Statement → Reading → Type 0
 IsTaken (Ok done) earlier s r = (kinds_behind earlier s ≡ []) × IsBehind (earlier ++ s ∷ []) r
 IsTaken (Err refusal) earlier s r = TellsLowest kind_number refusal (kinds_behind earlier s)

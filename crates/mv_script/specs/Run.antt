@@ -1,4 +1,4 @@
--- Runs of a script, and what its calls answer in one.
+-- The runs of a script, and the answers to its calls in a run.
 use Rattle.std.specs.Prelude.{◌≡◌, ℕ, ◌+◌, ◌<◌, List, ◌∷◌, length, take, map, slice_get, Option, Some, None, option_and_then}
 use Rattle.std.specs.List.{range_with_len}
 use Rattle.mv_machine.specs.declared.entry.Entry.{Entry}
@@ -24,19 +24,19 @@ try_target (call.TryPost ecb place code) = Some (Ecb ecb, zero_at place)
 try_target (call.TryRelease token place code) = Some (Element token.element, reset_at token.generation place)
 try_target _ = None
 
--- how many of the events that are heard a program takes until it is done
+-- how many of these observed events a program makes before it is done
 abbrev pub taken_count : {A : Type 0} → Program A → List Heard → ℕ
 taken_count (Do o op next) (h ∷ hs) = 1 + taken_count (next h) hs
 taken_count p hs = 0
 
--- how many entries of a task's part of a history its first i calls made
+-- how many entries of a task's part of a history were made by the first i calls of the task
 abbrev pub entries_before : ScriptData → Moves → List Entry → ℕ → ℕ → ℕ
 entries_before script moves es k i =
     taken_count (made_all script.setup (named_table script.table) (moves k) no_past (take i (calls_at script k)) (nothing_kept k))
     (heard_in script.setup k es)
 
--- In this history, call i of task k tried an object and met this word there. It is not the word that was expected, and the object
--- had it behind the entries on it of the task's earlier calls, and before those of its later ones.
+-- In this history, call i of task k is a try that read the word w of its object. It is not the expected word; and the object had
+-- it after the entries on it of the task's earlier calls, and before those of its later ones.
 pub record IsMet (script : ScriptData) (moves : Moves) (es : List Entry) (k i w : ℕ) : Type 0 where
   pub call : Call
   pub made : slice_get (calls_at script k) i ≡ Some call
@@ -48,32 +48,32 @@ pub record IsMet (script : ScriptData) (moves : Moves) (es : List Entry) (k i w 
 
 -- ---- runs
 
--- A run of a script, in which these words were met: a legal history in which each entry is what its task's program says, and each
--- task is done; and each of the words was met in it.
+-- A run of a script, in which tries read these other words: a legal history in which each entry is what its task's program does
+-- next, and each task is done; and each of the words was met in it.
 pub record IsScriptRun (script : ScriptData) (moves : Moves) (es : List Entry) : Type 0 where
   pub finish : FinishPrograms script.setup (task_program script moves) es
   pub met : (k i w : ℕ) → k < length script.tasks → moves k i ≡ Some w → IsMet script moves es k i w
 
 -- ---- answers
 
--- what a task has where its program is done
+-- what a task has when its program is done
 abbrev pub past_in : Program Past → Past
 past_in (Done past) = past
 past_in _ = no_past
 
--- the answers of a task's calls, by its own part of the history and the words that were met
+-- the answers to a task's calls, by the task's own part of the history and the words that its tries read
 abbrev pub task_answers : ScriptData → Moves → List Entry → ℕ → List Answer
 task_answers script moves es k = (past_in (left_in script.setup (task_program script moves) k es)).answers
 
--- the answers of all tasks
+-- the answers to the calls of all tasks
 abbrev pub script_answers : ScriptData → Moves → List Entry → List (List Answer)
 script_answers script moves es = map (task_answers script moves es) (range_with_len 0 (length script.tasks))
 
--- the answer of call i of task k
+-- the answer to call i of task k, if there is one
 abbrev pub answer_at : List (List Answer) → ℕ → ℕ → Option Answer
 answer_at answers k i = option_and_then (λ task. slice_get task i) (slice_get answers k)
 
--- the word that an answer shows, if another one was met
+-- the word that an answer shows, if a try read another word than it expected
 abbrev pub word_in : Answer → Option ℕ
 word_in (Moved w) = Some w
 word_in _ = None
@@ -82,7 +82,7 @@ word_in _ = None
 abbrev pub moves_in : List (List Answer) → Moves
 moves_in answers k i = option_and_then word_in (answer_at answers k i)
 
--- MOVED with the word that was met, if one was; otherwise this answer
+-- the answer to a try: the other word that it read, if it did, and otherwise this answer
 abbrev pub unless_moved : Option ℕ → Answer → Answer
 unless_moved None a = a
 unless_moved (Some w) a = Moved w

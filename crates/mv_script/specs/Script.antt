@@ -1,4 +1,4 @@
--- What a script is, and the script that a text without fault states.
+-- The script, and the script that a text without fault states.
 use Rattle.std.specs.Prelude.{ℕ, Bool, true, false, List, [], ◌∷◌, ◌++◌, length, map, fold, filter_map, Option, Some, None}
 use Rattle.std.specs.Prelude.{Ok, Err}
 use Rattle.mv_line.specs.Line.{lines_of}
@@ -15,19 +15,19 @@ use Rattle.mv_script.specs.Costs.{script_setup, costs_of}
 use Rattle.mv_script.specs.Statement.{line_states}
 use Rattle.mv_script.specs.Words.{Read}
 
--- a script without where it lies in memory: the configuration, the calls of each task, and the table of events, if there is one
+-- what contracts see of a script: the configuration, the calls of each task, and the table of events, if there is one
 pub record ScriptData : Type 0 where
   pub setup : Setup
   pub tasks : List (List Call)
   pub table : Option Table
 
--- a script without where it lies in memory
+-- what contracts see of this script
 abbrev pub script_data : Script → ScriptData
 script_data s = record { setup = s.config; tasks = s.tasks.items; table = s.table }
 
--- ---- what statements come to
+-- ---- what statements state together
 
--- how many tasks they state: as many as the first SCRIPT says
+-- how many tasks the first SCRIPT states; 0 without one
 abbrev pub task_count : List Statement → ℕ
 task_count [] = 0
 task_count (statement.Script t ∷ statements) = t
@@ -38,7 +38,7 @@ task_count (statement.Task ∷ statements) = task_count statements
 task_count (statement.Call c ∷ statements) = task_count statements
 task_count (statement.End ∷ statements) = task_count statements
 
--- the owner of a block that a statement states
+-- the owner of a block, if a statement is an ECB
 abbrev pub owner_in : Statement → Option ℕ
 owner_in (statement.Script t) = None
 owner_in (statement.Ecb owner) = Some owner
@@ -52,7 +52,7 @@ owner_in statement.End = None
 abbrev pub owners_of : List Statement → List ℕ
 owners_of statements = filter_map owner_in statements
 
--- the exit that a statement states
+-- the exit, if a statement is an EXIT
 abbrev pub exit_in : Statement → Option SetupExit
 exit_in (statement.Script t) = None
 exit_in (statement.Ecb owner) = None
@@ -66,7 +66,7 @@ exit_in statement.End = None
 abbrev pub exits_of : List Statement → List SetupExit
 exits_of statements = filter_map exit_in statements
 
--- the table that a statement states
+-- the table, if a statement is a TABLE
 abbrev pub table_in : Statement → Option Table
 table_in (statement.Script t) = None
 table_in (statement.Ecb owner) = None
@@ -76,18 +76,18 @@ table_in statement.Task = None
 table_in (statement.Call c) = None
 table_in statement.End = None
 
--- the table: that of the first TABLE, if there is one
+-- the table of the first TABLE, if there is one
 abbrev pub table_of : List Statement → Option Table
 table_of [] = None
 table_of (s ∷ statements) = or_else (table_in s) (table_of statements)
 
--- the tasks, of which the last one makes one more call
+-- the tasks, the last of which makes one more call
 abbrev pub with_call : List (List Call) → Call → List (List Call)
 with_call [] c = []
 with_call (calls ∷ []) c = (calls ++ c ∷ []) ∷ []
 with_call (calls ∷ other ∷ tasks) c = calls ∷ with_call (other ∷ tasks) c
 
--- the tasks behind one more statement
+-- the tasks after one more statement
 abbrev pub tasks_behind : List (List Call) → Statement → List (List Call)
 tasks_behind tasks (statement.Script t) = tasks
 tasks_behind tasks (statement.Ecb owner) = tasks
@@ -97,7 +97,7 @@ tasks_behind tasks statement.Task = tasks ++ [] ∷ []
 tasks_behind tasks (statement.Call c) = with_call tasks c
 tasks_behind tasks statement.End = tasks
 
--- the tasks, each with its calls
+-- the calls of each task
 abbrev pub tasks_of : List Statement → List (List Call)
 tasks_of statements = fold tasks_behind [] statements
 
@@ -112,15 +112,15 @@ abbrev pub is_obtain : Call → Bool
 is_obtain (call.Obtain latch requestor mode form) = true
 is_obtain _ = false
 
--- the configuration of a script with these statements, and budgets of so many events
+-- the configuration of a script with these statements and these budgets
 abbrev pub setup_with : List Statement → List ℕ → Setup
 setup_with statements budgets = script_setup (task_count statements) (owners_of statements) (exits_of statements) budgets
 
--- what the calls of each task may cost
+-- how many events the calls of each task may cost
 abbrev pub budgets_of : List Statement → List ℕ
 budgets_of statements = map (costs_of (setup_with statements [])) (tasks_of statements)
 
--- the script that they state
+-- the script that these statements state
 abbrev pub script_in : List Statement → ScriptData
 script_in statements = record {
   setup = setup_with statements (budgets_of statements);
@@ -130,17 +130,17 @@ script_in statements = record {
 
 -- ---- the statements of lines
 
--- how many tasks and blocks there are that a line behind these statements may name, and the table
+-- what a line after these statements may name: the numbers of tasks and of blocks, and the table
 abbrev pub sizes_behind : List Statement → Sizes
 sizes_behind earlier = record { tasks = task_count earlier; ecbs = length (owners_of earlier); table = table_of earlier }
 
--- what a line adds
+-- the statement that a line adds, if it has one
 abbrev pub added : Option (Read Statement) → List Statement
 added None = []
 added (Some (Ok s)) = s ∷ []
 added (Some (Err why)) = []
 
--- the statements behind one more line
+-- the statements after one more line
 abbrev pub with_line : List Statement → List ℕ → List Statement
 with_line earlier line = earlier ++ added (line_states (sizes_behind earlier) line)
 

@@ -24,30 +24,30 @@ use Rattle.mv_script.specs.Table.{uses_any}
 
 -- ---- calls
 
--- a block that there is
+-- the script has this block
 abbrev pub IsEcb : Sizes → ℕ → Type 0
 IsEcb z e = e < z.ecbs
 
--- an element that there is
+-- the script has this element
 abbrev pub IsElement : Sizes → ℕ → Type 0
 IsElement z n = n < elements_per_task * z.tasks
 
--- a token of one, with a generation that may have another behind it
+-- a token names an element of the script, and has a generation that is not the last
 abbrev pub IsToken : Sizes → Token → Type 0
 IsToken z t = IsElement z t.element × (t.generation < highest_generation)
 
--- where there is one
+-- P holds of the value, if there is one
 abbrev pub IfThere : {A : Type 0} → (A → Type 0) → Option A → Type 0
 IfThere P None = Unit {0}
 IfThere P (Some a) = P a
 
--- a form that posts a block, posts one that there is
+-- if a form posts a block, the script has that block
 abbrev pub HasEcb : Sizes → LatchForm → Type 0
 HasEcb z Conditional = Unit {0}
 HasEcb z Waiting = Unit {0}
 HasEcb z (Posted e) = IsEcb z e
 
--- the numbers of a call are in their ranges, and name blocks, elements, volumes and events that there are
+-- the numbers of a call are in their ranges, and name blocks, elements, volumes and events that the script has
 abbrev pub HasGoodNumbers : Sizes → Call → Type 0
 HasGoodNumbers z (call.Wait count ecbs) = (count ≤ highest_count) × ((length ecbs ≤ most_waited) × AllByRecursion (IsEcb z) ecbs)
 HasGoodNumbers z (call.Post ecb code) = IsEcb z ecb × (code < code_limit)
@@ -76,13 +76,13 @@ HasGoodNumbers z (call.NextEvent position) = position < position_count z.table
 abbrev pub IsObtainOf : List Call → ℕ → Type 0
 IsObtainOf before k = (1 ≤ k) × (k ≤ count_by is_obtain before)
 
--- a call may stand behind these of its task
+-- a call may follow these calls of its task
 pub record IsSoundCall (z : Sizes) (before : List Call) (c : Call) : Type 0 where
   pub numbers : HasGoodNumbers z c
   pub obtain : IfThere (IsObtainOf before) (obtain_meant c)
   pub spares : uses_any z.table c ≡ false
 
--- each of these calls may stand behind those before it
+-- each of these calls may follow the calls before it
 abbrev pub AreSoundCalls : Sizes → List Call → List Call → Type 0
 AreSoundCalls z before [] = Unit {0}
 AreSoundCalls z before (c ∷ calls) = IsSoundCall z before c × AreSoundCalls z (before ++ c ∷ []) calls
@@ -94,7 +94,7 @@ pub record IsSoundTask (z : Sizes) (calls : List Call) : Type 0 where
 
 -- ---- statements
 
--- the numbers of a statement are in their ranges, and name tasks, blocks, elements and volumes that there are
+-- the numbers of a statement are in their ranges, and name tasks, blocks, elements and volumes that the script has
 abbrev pub IsGoodStatement : Sizes → Statement → Type 0
 IsGoodStatement z (statement.Script t) = (1 ≤ t) × (t ≤ most_tasks)
 IsGoodStatement z (statement.Ecb owner) = owner < z.tasks
@@ -107,20 +107,20 @@ IsGoodStatement z statement.End = Unit {0}
 
 -- ---- scripts
 
--- an exit has one to four targets, all of them blocks above its source
+-- an exit has one to four targets, each of them a block above the exit's source
 pub record IsSoundExit (z : Sizes) (x : SetupExit) : Type 0 where
   pub source : IsEcb z x.source
   pub some : 1 ≤ length x.targets
   pub few : length x.targets ≤ most_targets
   pub up : AllByRecursion (λ target. IsEcb z target × (x.source < target)) x.targets
 
--- how many tasks and blocks a script has, and its table
+-- what the calls of a script may name: the numbers of tasks and of blocks, and the table
 abbrev pub sizes_of : ScriptData → Sizes
 sizes_of script = record { tasks = length script.tasks; ecbs = length script.setup.owners; table = script.table }
 
--- A script that can be run: one to eight tasks of at most 128 calls each; at most 64 blocks, each of a task, and at most 16 exits;
--- the configuration is that of a script, with what each task's calls cost as its budget; the budgets are what a run may have; and
--- the table, if there is one, was checked against the configuration.
+-- A script that can be run. It has one to eight tasks of at most 128 calls each, at most 64 blocks, each owned by a task, and at
+-- most 16 exits. Its configuration is that of a script, with the costs of each task's calls as the task's budget. The budgets are
+-- within the limit of a run, and the table, if there is one, was checked against the configuration.
 pub record IsSound (script : ScriptData) : Type 0 where
   pub some : 1 ≤ length script.tasks
   pub few : length script.tasks ≤ most_tasks

@@ -1,4 +1,4 @@
--- The forms of a script's lines: their words, and what they state.
+-- The forms of a script's lines: their words, and what these state.
 use Rattle.std.specs.Prelude.{ℕ, List, [], ◌∷◌, length, Option, Some, None, Ok, Err, codes, nat_lt, if◌then◌else◌}
 use Rattle.std.specs.Str.{bytes_eq}
 use Rattle.mv_latch.specs.declared.request.LatchForm.{LatchForm}
@@ -19,16 +19,16 @@ use Rattle.mv_script.specs.Operand.{number_of_tasks, task, ecb, volume, latch, c
 use Rattle.mv_script.specs.Operand.{element, token, or_hyphen, mode, conditional, event, event_position, table_size, table_with}
 use Rattle.mv_script.specs.Words.{Read, making, both, each, none, one, two, three, led_by}
 
--- ---- the calls: the word of each, and behind it what its words are read as
+-- ---- the calls: the word of each, and what the words after it are read as
 
--- a count, and up to eight blocks
+-- a WAIT, by the words after it: a count, and up to eight blocks
 abbrev pub wait : Sizes → List (List ℕ) → Read Call
 wait z [] = Err NoForm
 wait z (n ∷ ecbs) =
     if nat_lt most_waited (length ecbs) then Err NoForm
     else making (λ (p : ℕ × List ℕ). call.Wait p.0 p.1) (both (count n) (each (ecb z) ecbs))
 
--- what becomes of a request that is not granted at once: `COND`, `WAIT`, or `ECB` and a block
+-- the form of an OBTAIN, which says what happens if the latch is not granted at once: `COND`, `WAIT`, or `ECB` and a block
 abbrev pub form : Sizes → List (List ℕ) → Read LatchForm
 form z [] = Err NoForm
 form z (word ∷ []) =
@@ -38,20 +38,20 @@ form z (word ∷ []) =
 form z (word ∷ block ∷ []) = if bytes_eq word (codes "ECB") then making (λ e. Posted e) (ecb z block) else Err NoForm
 form z (word ∷ block ∷ other ∷ words) = Err NoForm
 
--- a latch, a requestor, a mode and a form
+-- an OBTAIN, by the words after it: a latch, a requestor, a mode and a form
 abbrev pub obtain : Sizes → List (List ℕ) → Read Call
 obtain z words =
     making (λ (p : ℕ × (ℕ × (Mode × LatchForm))). call.Obtain p.0 p.1.0 p.1.1.0 p.1.1.1)
     (led_by latch (led_by requestor (led_by mode (form z))) words)
 
--- on the table of events
+-- a call on the table of events
 abbrev pub table_call : Sizes → List ℕ → List (List ℕ) → Read Call
 table_call z word words =
     if bytes_eq word (codes "EVPOST") then making (λ p. call.PostEvent p.0 p.1) (two (event z) ecb_code words)
     else if bytes_eq word (codes "EVNEXT") then making (λ k. call.NextEvent k) (one (event_position z) words)
     else Err NoForm
 
--- on latches, and the end of a task
+-- a call on latches, the end of a task, or a call on the table
 abbrev pub latch_call : Sizes → List ℕ → List (List ℕ) → Read Call
 latch_call z word words =
     if bytes_eq word (codes "OBTAIN") then obtain z words
@@ -62,7 +62,7 @@ latch_call z word words =
     making (λ p. call.EndTask p.0 p.1.0 p.1.1) (three requestor (or_hyphen (ecb z)) ecb_code words)
     else table_call z word words
 
--- on pause elements
+-- a call on pause elements, or one of the calls above
 abbrev pub element_call : Sizes → List ℕ → List (List ℕ) → Read Call
 element_call z word words =
     if bytes_eq word (codes "ALLOC") then none call.Alloc words
@@ -76,7 +76,7 @@ element_call z word words =
     else if bytes_eq word (codes "TESTP") then making (λ n. call.TestElement n) (one (element z) words)
     else latch_call z word words
 
--- on event control blocks and volumes
+-- a call on event control blocks and volumes, or one of the calls above
 abbrev pub other_call : Sizes → List ℕ → List (List ℕ) → Read Call
 other_call z word words =
     if bytes_eq word (codes "POST") then making (λ p. call.Post p.0 p.1) (two (ecb z) ecb_code words)
@@ -88,13 +88,13 @@ other_call z word words =
     else if bytes_eq word (codes "WRITE") then making (λ p. call.Write p.0 p.1) (two volume any_number words)
     else element_call z word words
 
--- any call
+-- a call: a WAIT, or another one
 abbrev pub call_of : Sizes → List ℕ → List (List ℕ) → Read Call
 call_of z word words = if bytes_eq word (codes "WAIT") then wait z words else other_call z word words
 
 -- ---- the lines
 
--- an exit: its source, and one to four targets
+-- an EXIT, by the words after it: a source, and one to four targets
 abbrev pub exit : Sizes → List (List ℕ) → Read Statement
 exit z [] = Err NoForm
 exit z (source ∷ targets) =
@@ -102,20 +102,20 @@ exit z (source ∷ targets) =
     making (λ (p : ℕ × List ℕ). statement.Exit p.0 p.1) (both (ecb z source) (each (ecb z) targets))
     else Err NoForm
 
--- a table: its owner, latch and volume, its first event and its first slot, and how many of each it has
+-- a TABLE, by the words after it: its owner, latch and volume, its first event and its first slot, and how many of each it has
 abbrev pub table : Sizes → List (List ℕ) → Read Table
 table z words =
     making (λ (p : ℕ × (ℕ × (ℕ × (ℕ × (ℕ × ℕ))))). table_with p.0 p.1.0 p.1.1.0 p.1.1.1.0 p.1.1.1.1.0 p.1.1.1.1.1)
     (led_by (task z) (led_by latch (led_by volume (three (ecb z) (ecb z) table_size))) words)
 
--- a line behind the head by its first word: a task, a call or the end
+-- a line after the head, by its first word: a task, a call or the end
 abbrev pub statement_behind_head : Sizes → List ℕ → List (List ℕ) → Read Statement
 statement_behind_head z word words =
     if bytes_eq word (codes "TASK") then none statement.Task words
     else if bytes_eq word (codes "END") then none statement.End words
     else making (λ c. statement.Call c) (call_of z word words)
 
--- a line by its first word
+-- a line, by its first word
 abbrev pub stated : Sizes → List ℕ → List (List ℕ) → Read Statement
 stated z word words =
     if bytes_eq word (codes "SCRIPT") then making (λ t. statement.Script t) (one number_of_tasks words)
@@ -124,15 +124,15 @@ stated z word words =
     else if bytes_eq word (codes "TABLE") then making (λ t. statement.Table t) (table z words)
     else statement_behind_head z word words
 
--- a line's words
+-- a line, by its words
 abbrev pub words_state : Sizes → List (List ℕ) → Read Statement
 words_state z [] = Err NoForm
 words_state z (word ∷ words) = stated z word words
 
--- what a text states, where the script has so many tasks and blocks so far
+-- the statement of a text, where z says what the script's lines may name so far
 abbrev pub text_states : Sizes → List ℕ → Read Statement
 text_states z text = if begins_with_space text then Err NoForm else words_state z (fields_of text)
 
--- what a line states, unless it is ignored
+-- the statement of a line, unless the line is ignored
 abbrev pub line_states : Sizes → List ℕ → Option (Read Statement)
 line_states z line = if is_ignored line then None else Some (text_states z (shown line))

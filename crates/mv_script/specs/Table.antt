@@ -1,4 +1,4 @@
--- What is left to the two calls on a script's table of events.
+-- What a script's table of events reserves for the two calls on it.
 use Rattle.std.specs.Prelude.{ℕ, ◌==◌, nat_le, Bool, false, ◌||◌, Option, Some, None}
 use Rattle.std.specs.List.{list_any}
 use Rattle.mv_latch.specs.declared.request.LatchForm.{LatchForm}
@@ -9,23 +9,23 @@ use Rattle.mv_eventlaws.specs.Served.{is_block}
 use Rattle.mv_script.specs.declared.call.Call.{Call}
 use Rattle.mv_script.specs.declared.call.Call.TheVariants as call
 
--- whether there is a block, and it is the table's
+-- whether there is a block, and it is one of the table's
 abbrev pub is_block_if_any : Table → Option ℕ → Bool
 is_block_if_any t None = false
 is_block_if_any t (Some e) = is_block t e
 
--- whether a request posts a block of the table's
+-- whether a request posts one of the table's blocks
 abbrev pub posts_block : Table → LatchForm → Bool
 posts_block t Conditional = false
 posts_block t Waiting = false
 posts_block t (Posted e) = is_block t e
 
--- whether a requestor is one of those by which events are posted
+-- whether a requestor is one of those by which posts of events request the table's latch
 abbrev pub is_event_requestor : ℕ → Bool
 is_event_requestor requestor = nat_le first_event_requestor requestor
 
--- Whether a call that is not the table's own uses what is the table's: it names one of its blocks, but to test it, writes its volume,
--- obtains its latch, or names a requestor by which events are posted.
+-- Whether a call other than those on the table uses what the table reserves: it names one of the table's blocks, except to test
+-- it, writes its volume, obtains its latch, or names a requestor by which events are posted.
 abbrev pub uses : Table → Call → Bool
 uses t (call.Wait count ecbs) = list_any (is_block t) ecbs
 uses t (call.Post ecb code) = is_block t ecb
@@ -50,7 +50,7 @@ uses t (call.EndTask requestor mother code) = is_event_requestor requestor || is
 uses t (call.PostEvent index code) = false
 uses t (call.NextEvent position) = false
 
--- the same of a script that may have no table
+-- whether a call uses what the script's table reserves, if there is a table
 abbrev pub uses_any : Option Table → Call → Bool
 uses_any None c = false
 uses_any (Some t) c = uses t c

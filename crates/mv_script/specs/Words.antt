@@ -1,71 +1,71 @@
--- How the words of a line are read: into a value, or not, for one of two reasons.
+-- Reading the words of a line: into a value, or not, for one of two reasons.
 use Rattle.std.specs.Prelude.{ℕ, List, [], ◌∷◌, Option, Some, None, option_map, Result, Ok, Err}
 use Rattle.mv_line.specs.Field.{one_of, two_of}
 use Rattle.mv_script.specs.declared.words.Misread.{Misread}
 use Rattle.mv_script.specs.declared.words.Misread.TheVariants.{NoForm, BadNumber}
 
--- what some words are read as
+-- the result of reading words as a value
 abbrev pub Read : Type 0 → Type 0
 Read A = Result A Misread
 
--- of two reasons: no form, if one of them is that; otherwise a bad number
+-- the worse of two reasons: that words fit no form, if one of them is that
 abbrev pub worse : Misread → Misread → Misread
 worse NoForm other = NoForm
 worse BadNumber other = other
 
--- the reason so far, if any, joined with one more
+-- the worse of the reason so far, if there is one, and one more
 abbrev pub worsened : Option Misread → Misread → Misread
 worsened None why = why
 worsened (Some before) why = worse before why
 
--- what is made of a value that was read
+-- a function of a value, if the value was read
 abbrev pub making : {A B : Type 0} → (A → B) → Read A → Read B
 making f (Ok a) = Ok (f a)
 making f (Err why) = Err why
 
--- two values, where both were read
+-- both values, if both were read, otherwise the worse reason
 abbrev pub both : {A B : Type 0} → Read A → Read B → Read (A × B)
 both (Ok a) (Ok b) = Ok (a, b)
 both (Ok a) (Err why) = Err why
 both (Err why) (Ok b) = Err why
 both (Err why) (Err other) = Err (worse why other)
 
--- a value for each word
+-- the values of all words, if all were read; otherwise the worst reason
 abbrev pub each : {A : Type 0} → (List ℕ → Read A) → List (List ℕ) → Read (List A)
 each {A = A} f [] = Ok []
 each {A = A} f (word ∷ words) = making (λ (p : A × List A). p.0 ∷ p.1) (both (f word) (each f words))
 
--- ---- so many words, and no more
+-- ---- a fixed number of words
 
--- where there are not so many, they fit no form
+-- the value of the right number of words; if their number is another, they fit no form
 abbrev pub formed : {A : Type 0} → Option (Read A) → Read A
 formed None = Err NoForm
 formed (Some read) = read
 
--- no words at all
+-- a value that has no words
 abbrev pub none : {A : Type 0} → A → List (List ℕ) → Read A
 none a [] = Ok a
 none a (word ∷ words) = Err NoForm
 
--- one word
+-- a value of exactly one word
 abbrev pub one : {A : Type 0} → (List ℕ → Read A) → List (List ℕ) → Read A
 one f words = formed (option_map f (one_of words))
 
--- two words
+-- a pair of values of exactly two words
 abbrev pub two : {A B : Type 0} → (List ℕ → Read A) → (List ℕ → Read B) → List (List ℕ) → Read (A × B)
 two f g words = formed (option_map (λ p. both (f p.0) (g p.1)) (two_of words))
 
--- a word, and what the words behind it are read as
+-- the value of the first word, and that of the words after it
 abbrev pub led_by : {A B : Type 0} → (List ℕ → Read A) → (List (List ℕ) → Read B) → List (List ℕ) → Read (A × B)
 led_by f g [] = Err NoForm
 led_by f g (word ∷ words) = both (f word) (g words)
 
--- the fields of a list that has just three
+-- the words of a list that has exactly three
 abbrev pub three_of : List (List ℕ) → Option (List ℕ × (List ℕ × List ℕ))
 three_of [] = None
 three_of (first ∷ words) = option_map (λ p. (first, p)) (two_of words)
 
--- three words
+-- three values of exactly three words
 abbrev pub three : {A B C : Type 0} → (List ℕ → Read A) → (List ℕ → Read B) → (List ℕ → Read C) → List (List ℕ)
     → Read (A × (B × C))
 three f g h words = formed (option_map (λ p. both (f p.0) (both (g p.1.0) (h p.1.1))) (three_of words))

@@ -1,4 +1,4 @@
-//! The calls of a script, by their words (`specs/Statement.antt`).
+//! The calls of a script, read from their words (`specs/Statement.antt`).
 
 ghost use Rattle.std.specs.Prelude.{◌≡◌, ◌≤◌};
 ghost use Rattle.mv_line.specs.Field.{fields_of};
@@ -26,7 +26,7 @@ use mv_latch::LatchForm;
 use mv_line::{LineRefusal, is_word, split_field};
 use std::alloc::Global;
 
-/// A WAIT, by the words behind it: a count and up to eight blocks.
+/// Reads a WAIT from the words after it: a count and up to eight blocks.
 pub(crate) fn wait(alloc: Global, sizes: Sizes, words: &[u8]) -> Result<Call, LineRefusal<Kind>>
     ensures { IsReadAs result (wait_read sizes (fields_of words.now)) }
 {
@@ -38,7 +38,7 @@ pub(crate) fn wait(alloc: Global, sizes: Sizes, words: &[u8]) -> Result<Call, Li
     Ok(Call::Wait { count, ecbs })
 }
 
-/// A call but WAIT, by its word and those behind it: on blocks and volumes, or another one.
+/// Reads a call other than WAIT from its word and the words after it: one on blocks and volumes, or another one.
 pub(crate) fn other_call(sizes: Sizes, word: &[u8], words: &[u8]) -> Result<Call, Misread>
     requires { sizes.tasks ≤ most_tasks }
     ensures { result ≡ other_read sizes word.now (fields_of words.now) }
@@ -67,7 +67,7 @@ pub(crate) fn other_call(sizes: Sizes, word: &[u8], words: &[u8]) -> Result<Call
     element_call(sizes, word, words)
 }
 
-// A call on pause elements, or another one.
+// Reads a call on pause elements, or another one.
 fn element_call(sizes: Sizes, word: &[u8], words: &[u8]) -> Result<Call, Misread>
     requires { sizes.tasks ≤ most_tasks }
     ensures { result ≡ element_read sizes word.now (fields_of words.now) }
@@ -97,7 +97,7 @@ fn element_call(sizes: Sizes, word: &[u8], words: &[u8]) -> Result<Call, Misread
     latch_call(sizes, word, words)
 }
 
-// A call on latches, the end of a task, or another call.
+// Reads a call on latches, the end of a task, or another call.
 fn latch_call(sizes: Sizes, word: &[u8], words: &[u8]) -> Result<Call, Misread>
     ensures { result ≡ latch_read sizes word.now (fields_of words.now) }
 {
@@ -119,7 +119,7 @@ fn latch_call(sizes: Sizes, word: &[u8], words: &[u8]) -> Result<Call, Misread>
     table_call(sizes, word, words)
 }
 
-// A call on the script's table.
+// Reads a call on the script's table.
 fn table_call(sizes: Sizes, word: &[u8], words: &[u8]) -> Result<Call, Misread>
     ensures { result ≡ table_read sizes word.now (fields_of words.now) }
 {
@@ -132,7 +132,7 @@ fn table_call(sizes: Sizes, word: &[u8], words: &[u8]) -> Result<Call, Misread>
     Err(Misread::NoForm)
 }
 
-// ---- words of blocks and volumes
+// ---- calls on blocks and volumes
 
 fn one_ecb(sizes: Sizes, words: &[u8]) -> Result<u32, Misread>
     ensures { result ≡ one (ecb_read sizes) (fields_of words.now) }
@@ -180,7 +180,7 @@ fn write(words: &[u8]) -> Result<Call, Misread>
     Ok(Call::Write { volume, number })
 }
 
-// ---- words of elements
+// ---- calls on elements
 
 fn one_token(sizes: Sizes, words: &[u8]) -> Result<Token, Misread>
     requires { sizes.tasks ≤ most_tasks }
@@ -231,9 +231,9 @@ fn test_element(sizes: Sizes, words: &[u8]) -> Result<Call, Misread>
     Ok(Call::TestElement(element(sizes, one_word(words)?)?))
 }
 
-// ---- words of latches and of the end of a task
+// ---- calls on latches, and the end of a task
 
-// A latch, a requestor, a mode, and what becomes of the request.
+// The words are a latch, a requestor, a mode, and what happens to a request that is not granted at once.
 fn obtain(sizes: Sizes, words: &[u8]) -> Result<Call, Misread>
     ensures { result ≡ obtain_read sizes (fields_of words.now) }
 {
@@ -253,7 +253,7 @@ fn obtain(sizes: Sizes, words: &[u8]) -> Result<Call, Misread>
     }
 }
 
-// `COND`, `WAIT`, or `ECB` and a block.
+// The words are `COND`, `WAIT`, or `ECB` and a block.
 fn form(sizes: Sizes, words: &[u8]) -> Result<LatchForm, Misread>
     ensures { result ≡ form_read sizes (fields_of words.now) }
 {
@@ -308,7 +308,7 @@ fn end_task(sizes: Sizes, words: &[u8]) -> Result<Call, Misread>
     })
 }
 
-// ---- words of the table
+// ---- calls on the table
 
 fn post_event(sizes: Sizes, words: &[u8]) -> Result<Call, Misread>
     ensures { result ≡ making (λ p. call.PostEvent p.0 p.1) (two (operand.event sizes) operand.ecb_code (fields_of words.now)) }

@@ -10,7 +10,7 @@ use mv_io::NoMemory;
 use mv_machine::{Config, Exit, ValidConfig};
 use std::alloc::{AllocError, Global};
 
-/// The configuration of a script with so many tasks, and with these blocks, exits and budgets.
+/// Returns the configuration of a script with this many tasks, and with these blocks, exits and budgets.
 pub(crate) fn with_budgets(
     alloc: Global,
     tasks: u32,
@@ -35,7 +35,7 @@ pub(crate) fn with_budgets(
     ValidConfig::of(alloc, config)
 }
 
-/// The same with budgets of nothing, by which the calls of its tasks cost.
+/// Returns the configuration of a script with these blocks and exits in which all budgets are 0. It is enough to compute costs.
 pub(crate) fn unbudgeted(
     alloc: Global,
     tasks: u32,
@@ -51,7 +51,7 @@ pub(crate) fn unbudgeted(
     with_budgets(alloc, tasks, owners, copied(alloc, exits)?, budgets)
 }
 
-// The same exits.
+// Copies exits.
 fn copied(alloc: Global, exits: &[Exit]) -> Result<Vec<Exit>, AllocError>
     ensures { IfOk result (λ copies. map exit_of copies.items ≡ map exit_of exits.now) }
 {
@@ -65,11 +65,11 @@ fn copied(alloc: Global, exits: &[Exit]) -> Result<Vec<Exit>, AllocError>
     Ok(copies)
 }
 
-/// The same configuration, in memory of its own.
+/// Copies a configuration.
 ///
 /// # Errors
 ///
-/// `NoMemory` where there is not enough.
+/// `NoMemory` if there is not enough memory for the copy.
 pub fn copy_config(alloc: Global, config: &ValidConfig) -> Result<ValidConfig, NoMemory>
     ensures same { IfOk result (λ copy. copy ≡ config.now) }
     ensures valid { IsValid config.now }

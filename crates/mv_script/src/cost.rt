@@ -1,4 +1,4 @@
-//! What a call may cost (`specs/Costs.antt`).
+//! The costs of calls (`specs/Costs.antt`).
 
 ghost use Rattle.std.specs.Prelude.{◌≡◌, ◌<◌, ◌≤◌, length, Option};
 ghost use Rattle.mv_calls.specs.declared.table.Table.{Table};
@@ -13,7 +13,7 @@ use crate::limits::ELEMENTS_PER_TASK;
 use mv_latch::LatchForm;
 use mv_machine::ValidConfig;
 
-/// How many events a call may need, in a configuration with these blocks and exits.
+/// Returns how many events a call may need in a configuration with these blocks and exits.
 pub(crate) fn cost(config: &ValidConfig, call: &Call) -> u32
     requires elements { config.now.elements_per_caller ≡ elements_per_task }
     requires numbers { (table : Option Table)
@@ -46,7 +46,7 @@ pub(crate) fn cost(config: &ValidConfig, call: &Call) -> u32
     }
 }
 
-// The post of a mother's block, if there is one.
+// How many events the post of a mother's block may need; 0 if there is none.
 fn mother_cost(config: &ValidConfig, mother: Option<u32>) -> u32
     requires { IfThere (λ e. e < length config.now.owners) mother }
     ensures cost { result ≡ mother_events config.now mother }

@@ -10,30 +10,30 @@ use mv_line::{FaultKind, LineRefusal};
 /// The kinds of fault that a line of a script can have, lowest first.
 #[derive(Clone, Copy, Debug, PartialEq, Eq)]
 pub enum Kind {
-    /// A byte outside 32 to 126.
+    /// The line has a byte outside 32 to 126.
     ForeignByte,
-    /// More than 80 bytes.
+    /// The line has more than 80 bytes.
     TooLong,
-    /// None of the forms, by its words.
+    /// The words of the line fit no form.
     NoForm,
-    /// A number with a leading zero, out of its range, or of no block, task, volume, element or event.
+    /// A number has a leading zero, is out of its range, or names no block, task, volume, element or event.
     BadNumber,
-    /// Out of the order SCRIPT, ECB, EXIT, TABLE, tasks, END, or after END.
+    /// The line is out of the order SCRIPT, ECB, EXIT, TABLE, tasks, END, or follows END.
     OutOfOrder,
-    /// More tasks, calls, blocks, exits or tables than allowed, or END with fewer TASK lines than stated.
+    /// There are more tasks, calls, blocks, exits or tables than allowed, or END follows fewer TASK lines than stated.
     Miscounted,
-    /// EXIT with a target that is not above its source.
+    /// An EXIT has a target that is not above its source.
     LeadsDown,
-    /// CHECK or FREE with a number of no earlier OBTAIN of the task.
+    /// A CHECK or a FREE has a number of no earlier OBTAIN of the task.
     NoObtain,
-    /// No END; the line is one more than the number of lines.
+    /// The script has no END. The line of the fault is one more than the number of lines.
     NoEnd,
-    /// The costs of the calls so far pass 524,287.
+    /// The costs of the calls up to here are above 524,287.
     TooCostly,
-    /// In a script with a table, another call that names one of its blocks (but TEST), writes its volume, obtains its latch, or names
-    /// a requestor of 2^63 or more.
+    /// In a script with a table, a call other than EVPOST and EVNEXT names one of its blocks (except in TEST), writes its volume,
+    /// obtains its latch, or names a requestor of 2^63 or more.
     UsesTable,
-    /// TABLE with a table that `Table::check` refuses.
+    /// A TABLE states a table that `Table::check` refuses.
     BadTable,
 }
 

@@ -1,6 +1,6 @@
-//! What the first fault of a text is, by its lines alone; what a text without fault states; that costs suffice; what tries answer, and
-//! the calls on a table of events; and that the text of answers determines them. Clauses cite `specs/Fault.antt`,
-//! `Script.antt`, `Sound.antt`, `Costs.antt`, `Run.antt`, `Events.antt` and `AnswerText.antt`.
+//! Laws of the first fault of a text and of the script that a text without fault states; of costs; of the answers to tries and to
+//! calls on a table of events; and of the text of answers. Clauses cite `specs/Fault.antt`, `Script.antt`, `Sound.antt`,
+//! `Costs.antt`, `Run.antt`, `Events.antt` and `AnswerText.antt`.
 
 ghost use Rattle.std.specs.Prelude.{◌≡◌, ◌≤◌, ℕ, List, [], Some, None, MatchOption, length, slice_get, slice_index_or};
 ghost use Rattle.mv_line.specs.declared.fault.TextFault.{TextFault as ScriptFault};
@@ -24,28 +24,31 @@ ghost use Rattle.mv_script.specs.Script.{ScriptData, script_of};
 ghost use Rattle.mv_script.specs.Sound.{IsSound};
 ghost use Rattle.mv_script.specs.Tasks.{Moves, calls_at};
 
-/// The first fault is one that the text has, and no other comes before it by line and then by kind; there is none only
-/// where the text has no fault.
+/// Shows that the first fault is one that the text has, and that no other comes before it by line and then by kind.
+///
+/// There is no first fault only if the text has no fault.
 pub fn first_fault_is_lowest()
     ensures { (bytes : List ℕ) → MatchOption (first_fault bytes)
         ((f : ScriptFault) → ¬ HasFault bytes f)
         (λ f. HasFault bytes f × ((g : ScriptFault) → HasFault bytes g → IsNoLater f g)) }
 {}
 
-/// The script of a text without fault can be run: its numbers are good, each CHECK and FREE means an earlier OBTAIN, its exits lead
-/// up, its configuration is that of a script, and its budgets are what its calls may cost and within their limit.
+/// Shows that the script of a text without fault can be run.
+///
+/// Its numbers are valid, each CHECK and FREE names an earlier OBTAIN, the targets of its exits are above their sources, its
+/// configuration is that of a script, and its budgets are the costs of its calls and within the limit of a run.
 pub fn scripts_are_sound()
     ensures { (bytes : List ℕ) → first_fault bytes ≡ None → IsSound (script_of bytes) }
 {}
 
-/// A call needs no more events than it costs, whatever its task keeps of its log, whichever requests its OBTAINs got, and whichever
-/// table it names.
+/// Shows that a call needs no more events than it costs, whatever its task keeps, whichever requests its OBTAINs got, and
+/// whichever table it names.
 pub fn costs_suffice()
     ensures { (c : Setup) (kept : Kept) (t : Table) (asked : ℕ → Asked) (d : Call) → most_events c kept (service_of t asked d) ≤ cost c d }
 {}
 
-/// In any run of a sound script a TRYPOST posts a block that is zero, and a TRYRELEASE keeps a code for a pause to come, or each
-/// answers the word that was met, which is another one than it expected. Nothing else is answered.
+/// Shows that in a run of a sound script a TRYPOST posts its block, and a TRYRELEASE keeps its code for a pause to come, unless
+/// the try read another word than it expected; then the answer is that word.
 pub fn tries_are_done_or_moved()
     ensures posts { (script : ScriptData) (moves : Moves) (es : List Entry) (k i ecb place code : ℕ)
         → IsSound script → IsScriptRun script moves es → slice_get (calls_at script k) i ≡ Some (TryPost ecb place code)
@@ -55,16 +58,20 @@ pub fn tries_are_done_or_moved()
         → answer_at (script_answers script moves es) k i ≡ Some (unless_moved (moves k i) Early) }
 {}
 
-/// In any run of a sound script with a table, the table's events are handed out once each, in the order of their completion: a post of
-/// an event that is told a position completed the event there, and the next event at a position is the completion there, with its
-/// code. No such post is told that it was purged.
+/// Shows that in a run of a sound script with a table, the table's events are handed out once each, in the order of their
+/// completion.
+///
+/// If a post of an event returns a position, it completed the event at that position; the next event at a position is the
+/// completion there, with its code. No post of an event is purged.
 pub fn events_are_handed_out()
     ensures { (script : ScriptData) (moves : Moves) (es : List Entry) → IsSound script → IsScriptRun script moves es
         → EventsAreHandedOut script (script_answers script moves es) es }
 {}
 
-/// The text of answers shows what was answered: one text means the same answers of each task, call by call. A task without calls
-/// has no line, so lists of as many tasks are one.
+/// Shows that a text of answers determines the answers.
+///
+/// If two lists of answers have the same text, each task has the same answers in both, call by call. A task without calls has no
+/// line, so the lists themselves are equal if they have equally many tasks.
 pub fn text_determines_answers()
     ensures each { (xs ys : List (List Answer)) → AreInRange xs → AreInRange ys → answers_text xs ≡ answers_text ys
         → (k : ℕ) → slice_index_or xs k [] ≡ slice_index_or ys k [] }

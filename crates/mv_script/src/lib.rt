@@ -1,5 +1,5 @@
-//! Scripts: texts that state the calls of up to eight tasks, read into values, or their first fault; and what those calls do and
-//! answer in a history.
+//! Scripts: texts that state the calls of up to eight tasks, read into values or refused with their first fault; and the runs of
+//! a script, with the answers to its calls.
 #![tactic(auto)]
 
 mod answer;

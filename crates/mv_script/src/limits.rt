@@ -1,21 +1,21 @@
 //! The limits of a script (`specs/Limits.antt`).
 
-/// How many tasks a script may have.
+/// The most tasks of a script.
 pub(crate) const MOST_TASKS: u32 = 8;
 
-/// How many event control blocks.
+/// The most event control blocks of a script.
 pub(crate) const MOST_ECBS: usize = 64;
 
-/// How many exits.
+/// The most exits of a script.
 pub(crate) const MOST_EXITS: usize = 16;
 
-/// How many targets an exit.
+/// The most targets of an exit.
 pub(crate) const MOST_TARGETS: usize = 4;
 
-/// How many calls a task.
+/// The most calls of a task.
 pub(crate) const MOST_CALLS: usize = 128;
 
-/// How many blocks a WAIT.
+/// The most blocks of one WAIT.
 pub const MOST_WAITED: usize = 8;
 
 /// The highest count of a WAIT.
@@ -24,24 +24,26 @@ pub(crate) const HIGHEST_COUNT: u64 = 99;
 /// The highest number of a latch.
 pub(crate) const HIGHEST_LATCH: u64 = 99;
 
-/// The highest size of a table, and the highest position that an EVNEXT may name.
+/// The highest size of a table that a TABLE may state.
 pub(crate) const HIGHEST_SIZE: u64 = 99;
 
+/// The highest position that an EVNEXT may name.
 pub(crate) const HIGHEST_POSITION: u64 = 99;
 
-/// How many elements each task has.
+/// The number of elements of each task.
 pub(crate) const ELEMENTS_PER_TASK: u32 = 4;
 
-/// How many volumes there are.
+/// The number of volumes.
 pub(crate) const VOLUMES: u32 = 8;
 
-/// How many latches there are.
+/// The number of latches.
 pub(crate) const LATCHES: u32 = 8;
 
-/// How many requests of a task may stand, and how many of these may post a block.
+/// The most latch requests that a task may have at once.
 pub(crate) const QUOTA: u32 = 8;
 
+/// How many of these may be of the Posted form.
 pub(crate) const POSTED_QUOTA: u32 = 4;
 
-/// How many events a run may have.
+/// The most events of a run.
 pub(crate) const EVENTS_LIMIT: u32 = 524_287;

@@ -1,9 +1,9 @@
-//! Lists that the values of a script have in them.
+//! Lists in the values of a script.
 
 use mv_wait::WaitSlot;
 use std::marker::Model;
 
-/// Numbers of event control blocks.
+/// A list of numbers of event control blocks.
 #[derive(Debug, Drop)]
 pub struct Numbers {
     pub numbers: Vec<u32>,
@@ -17,7 +17,7 @@ impl Model for Numbers {
     ghost view = { λ n. n.numbers.items };
 }
 
-/// How the blocks of a wait were found.
+/// The blocks of a wait as it found them.
 #[derive(Debug, Drop)]
 pub struct Slots {
     pub slots: Vec<WaitSlot>,

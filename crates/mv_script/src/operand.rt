@@ -1,4 +1,4 @@
-//! What may stand in the places of numbers, tokens and modes (`specs/Operand.antt`).
+//! The numbers, tokens and modes of a line, read from their words (`specs/Operand.antt`).
 
 ghost use Rattle.std.specs.Prelude.{◌≡◌, ◌≤◌, ◌^◌};
 ghost use Rattle.mv_script.specs.Limits.{most_tasks};
@@ -22,7 +22,7 @@ use mv_latch::Mode;
 use mv_line::{first_place, is_digits, is_word, wide_number_within};
 use mv_machine::{HIGHEST_GENERATION, HIGHEST_PLACE};
 
-/// How many tasks and event control blocks a script has so far, and its table of events, if it has one: what its lines may name.
+/// What the lines of a script may name so far: its tasks and event control blocks, and its table of events, if it has one.
 #[derive(Clone, Copy)]
 pub(crate) struct Sizes {
     pub(crate) tasks: u32,
@@ -30,7 +30,7 @@ pub(crate) struct Sizes {
     pub(crate) table: Option<Table>,
 }
 
-/// The eight bytes of a requestor, as a number.
+/// Reads a requestor: eight bytes, as a number.
 #[tactic(auto, using(crate::proofs::Operands::passed_wide))]
 pub(crate) fn requestor(word: &[u8]) -> Result<u64, Misread>
     ensures { result ≡ reads_requestor word.now }
@@ -44,7 +44,7 @@ pub(crate) fn requestor(word: &[u8]) -> Result<u64, Misread>
     }
 }
 
-// A number below this one, which fits four bytes.
+// Reads a number below the limit, which fits four bytes.
 #[tactic(auto, using(crate::proofs::Operands::filtered_number))]
 fn below(limit: u64, word: &[u8]) -> Result<u32, Misread>
     requires { limit ≤ 2 ^ 32 }
@@ -58,7 +58,7 @@ fn below(limit: u64, word: &[u8]) -> Result<u32, Misread>
     }
 }
 
-/// How many tasks a script has: 1 to 8.
+/// Reads the number of tasks of a script, 1 to 8.
 #[tactic(auto, using(crate::proofs::Operands::counted_tasks))]
 pub(crate) fn task_count(word: &[u8]) -> Result<u32, Misread>
     ensures { result ≡ reads_task_count word.now }
@@ -71,21 +71,21 @@ pub(crate) fn task_count(word: &[u8]) -> Result<u32, Misread>
     }
 }
 
-/// A task of the script.
+/// Reads a task of the script.
 pub(crate) fn task(sizes: Sizes, word: &[u8]) -> Result<u32, Misread>
     ensures { result ≡ reads_task sizes word.now }
 {
     below(u64::from(sizes.tasks), word)
 }
 
-/// An event control block of the script.
+/// Reads an event control block of the script.
 pub(crate) fn ecb(sizes: Sizes, word: &[u8]) -> Result<u32, Misread>
     ensures { result ≡ reads_ecb sizes word.now }
 {
     below(u64::from(sizes.ecbs), word)
 }
 
-/// A pause element of the script.
+/// Reads a pause element of the script.
 pub(crate) fn element(sizes: Sizes, word: &[u8]) -> Result<u32, Misread>
     requires { sizes.tasks ≤ most_tasks }
     ensures { result ≡ reads_element sizes word.now }
@@ -93,28 +93,28 @@ pub(crate) fn element(sizes: Sizes, word: &[u8]) -> Result<u32, Misread>
     below(u64::from(ELEMENTS_PER_TASK * sizes.tasks), word)
 }
 
-/// A volume.
+/// Reads a volume.
 pub(crate) fn volume(word: &[u8]) -> Result<u32, Misread>
     ensures { result ≡ reads_volume word.now }
 {
     below(u64::from(VOLUMES), word)
 }
 
-/// A latch, which need not be there.
+/// Reads a latch, 0 to 99, which need not exist.
 pub(crate) fn latch(word: &[u8]) -> Result<u32, Misread>
     ensures { result ≡ reads_latch word.now }
 {
     below(HIGHEST_LATCH + 1, word)
 }
 
-/// How many events a table has, which need not be as many as a table may have.
+/// Reads the number of events of a table, 0 to 99; not every one is allowed.
 pub(crate) fn table_size(word: &[u8]) -> Result<u32, Misread>
     ensures { result ≡ reads_table_size word.now }
 {
     below(HIGHEST_SIZE + 1, word)
 }
 
-/// An event of the script's table: there is none without a table.
+/// Reads an event of the script's table; there is none without a table.
 pub(crate) fn event(sizes: Sizes, word: &[u8]) -> Result<u32, Misread>
     ensures { result ≡ reads_event sizes word.now }
 {
@@ -125,7 +125,7 @@ pub(crate) fn event(sizes: Sizes, word: &[u8]) -> Result<u32, Misread>
     below(u64::from(count), word)
 }
 
-/// A position there.
+/// Reads a position of the script's table, 0 to 99; there is none without a table.
 pub(crate) fn event_position(sizes: Sizes, word: &[u8]) -> Result<u32, Misread>
     ensures { result ≡ reads_event_position sizes word.now }
 {
@@ -136,42 +136,42 @@ pub(crate) fn event_position(sizes: Sizes, word: &[u8]) -> Result<u32, Misread>
     below(count, word)
 }
 
-/// How many blocks of a WAIT are to be complete.
+/// Reads how many blocks of a WAIT must be complete, 0 to 99.
 pub(crate) fn count(word: &[u8]) -> Result<u32, Misread>
     ensures { result ≡ reads_count word.now }
 {
     below(HIGHEST_COUNT + 1, word)
 }
 
-/// The completion code of a block: 30 bits.
+/// Reads the completion code of a block, of 30 bits.
 pub(crate) fn ecb_code(word: &[u8]) -> Result<u32, Misread>
     ensures { result ≡ reads_ecb_code word.now }
 {
     below(u64::from(CODE_LIMIT), word)
 }
 
-/// A release code: 24 bits.
+/// Reads a release code, of 24 bits.
 pub(crate) fn release_code(word: &[u8]) -> Result<u32, Misread>
     ensures { result ≡ reads_release_code word.now }
 {
     below(u64::from(RELEASE_LIMIT), word)
 }
 
-/// How many events an object has had.
+/// Reads a place: how many events an object has had.
 pub(crate) fn place(word: &[u8]) -> Result<u32, Misread>
     ensures { result ≡ reads_place word.now }
 {
     below(u64::from(HIGHEST_PLACE) + 1, word)
 }
 
-/// The number of an exit or of an OBTAIN, or what a volume keeps: 32 bits.
+/// Reads the number of an exit or of an OBTAIN, or the number for a volume, of 32 bits.
 pub(crate) fn any_number(word: &[u8]) -> Result<u32, Misread>
     ensures { result ≡ reads_any_number word.now }
 {
     below(1 << 32, word)
 }
 
-/// A token: an element and a generation, with a point between.
+/// Reads a token: an element and a generation, with a point between them.
 pub(crate) fn token(sizes: Sizes, word: &[u8]) -> Result<Token, Misread>
     requires { sizes.tasks ≤ most_tasks }
     ensures { result ≡ reads_token sizes word.now }
@@ -189,7 +189,7 @@ pub(crate) fn token(sizes: Sizes, word: &[u8]) -> Result<Token, Misread>
     })
 }
 
-/// A token, or a hyphen for none.
+/// Reads a token, or a hyphen for no token.
 pub(crate) fn token_or_none(sizes: Sizes, word: &[u8]) -> Result<Option<Token>, Misread>
     requires { sizes.tasks ≤ most_tasks }
     ensures { result ≡ or_hyphen (reads_token sizes) word.now }
@@ -200,7 +200,7 @@ pub(crate) fn token_or_none(sizes: Sizes, word: &[u8]) -> Result<Option<Token>, 
     Ok(Some(token(sizes, word)?))
 }
 
-/// A block, or a hyphen for none.
+/// Reads a block, or a hyphen for no block.
 pub(crate) fn ecb_or_none(sizes: Sizes, word: &[u8]) -> Result<Option<u32>, Misread>
     ensures { result ≡ or_hyphen (reads_ecb sizes) word.now }
 {
@@ -210,7 +210,7 @@ pub(crate) fn ecb_or_none(sizes: Sizes, word: &[u8]) -> Result<Option<u32>, Misr
     Ok(Some(ecb(sizes, word)?))
 }
 
-/// `S` or `X`.
+/// Reads a mode: `S` (shared) or `X` (exclusive).
 pub(crate) fn mode(word: &[u8]) -> Result<Mode, Misread>
     ensures { result ≡ reads_mode word.now }
 {
@@ -223,7 +223,7 @@ pub(crate) fn mode(word: &[u8]) -> Result<Mode, Misread>
     Err(Misread::NoForm)
 }
 
-/// Whether a release is conditional: `C` or `U`.
+/// Reads whether a release is conditional: `C` (conditional) or `U` (unconditional).
 pub(crate) fn conditional(word: &[u8]) -> Result<bool, Misread>
     ensures { result ≡ reads_conditional word.now }
 {

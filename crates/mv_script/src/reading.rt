@@ -1,5 +1,5 @@
-//! The reader of scripts, line by line (`specs/Reading.antt`). What is read is `specs/Script.antt`, sound by
-//! `specs/Sound.antt`, or a fault of `specs/Fault.antt`.
+//! A reader of scripts, line by line (`specs/Reading.antt`). It returns the script of `specs/Script.antt`, which is sound by
+//! `specs/Sound.antt`, or the first fault of `specs/Fault.antt`.
 
 ghost use Rattle.std.specs.Prelude.{◌≡◌, ◌<◌, ◌-◌, ◌^◌, ◌++◌, List, [], ◌∷◌, true, None, not, ◌||◌, nat_lt, is_some};
 ghost use Rattle.std.specs.Prelude.{length, count_by, IfOk, IfErr, OnOk};
@@ -30,21 +30,22 @@ use std::alloc::Global;
 
 /// Reads a script.
 ///
-/// Lines are cut as those of a deck are; empty ones are ignored, and there are no comments. They are counted from 1 in a `u32`,
-/// and so is the line behind the last: hence fewer than 2^32 - 1 bytes. The time is linear in the bytes.
+/// The text is cut into lines as that of a deck is. Empty lines are ignored, and there are no comments. Lines are counted from 1
+/// in a `u32`, and the line after the last has a number, too; so the text has fewer than 2^32 - 1 bytes. The time is linear in
+/// the bytes.
 ///
 /// # Errors
 ///
-/// `Fault` where the text has a fault: its first. `NoMemory` where there is no room for the script, which may show before a
-/// fault is reached.
+/// `Fault`, the first fault of the text, if it has one. `NoMemory` if there is not enough memory for the script, which may happen
+/// before a fault is reached.
 pub fn read_script(alloc: Global, bytes: &[u8]) -> Result<Script, ScriptRefusal>
     requires short { length bytes.now < 2 ^ 32 - 1 }
 
-    // What is read is the script of a text without fault.
+    // A text that is read has no fault, and the result is its script.
     ensures script { IfOk result (λ s. (first_fault bytes.now ≡ None) × (script_data s ≡ script_of bytes.now)) }
-    // It can be run.
+    // The script can be run.
     ensures sound { IfOk result (λ s. IsSound (script_data s)) }
-    // The fault that is told is the first.
+    // A fault that is returned is the first.
     ensures fault { IfErr result (λ e. TellsFirst e (first_fault bytes.now)) }
 {
     let mut reading = Reading::new(alloc);
@@ -58,13 +59,13 @@ pub fn read_script(alloc: Global, bytes: &[u8]) -> Result<Script, ScriptRefusal>
 #[derive(Drop)]
 struct Reading {
     alloc: Global,
-    // How many tasks are stated: none before SCRIPT.
+    // How many tasks SCRIPT states; 0 before it.
     stated: u32,
     owners: Vec<u32>,
     exits: Vec<Exit>,
     // The table of events, from TABLE on.
     table: Option<ValidTable>,
-    // What the calls cost by, from the first TASK on.
+    // The configuration by which costs are computed, from the first TASK on.
     costs: Option<ValidConfig>,
     // The tasks before the last one, and what their calls may cost.
     finished: Vec<CallList>,
@@ -73,7 +74,7 @@ struct Reading {
     calls: Vec<Call>,
     spent: u32,
     obtains: u32,
-    // What the calls may still cost.
+    // How many more events the calls may cost.
     room: u32,
     // Whether END was read.
     ended: bool,
@@ -155,7 +156,7 @@ impl Reading {
         }
     }
 
-    // Takes a SCRIPT of so many tasks.
+    // Takes a SCRIPT of this many tasks.
     fn take_script(&mut self, tasks: u32) -> Result<(), LineRefusal<Kind>>
         requires { IsToTake self.now (statement.Script tasks) }
         ensures { (earlier : List Statement) → IsBehind earlier self.old → IsGoodStatement (sizes_behind earlier) (statement.Script tasks)
@@ -168,7 +169,7 @@ impl Reading {
         Ok(())
     }
 
-    // Whether no ECB may stand here.
+    // Whether an ECB is out of order here.
     fn is_late_for_ecbs(&self) -> bool
         ensures { result ≡ (not (nat_lt 0 self.now.stated)
             || (nat_lt 0 (length self.now.exits.items) || (is_some self.now.table || (is_some self.now.costs || self.now.ended)))) }
@@ -180,7 +181,7 @@ impl Reading {
             || self.ended
     }
 
-    // Whether no EXIT may stand here.
+    // Whether an EXIT is out of order here.
     fn is_late_for_exits(&self) -> bool
         ensures { result ≡ (not (nat_lt 0 self.now.stated)
             || (is_some self.now.table || (is_some self.now.costs || self.now.ended))) }
@@ -188,21 +189,21 @@ impl Reading {
         self.stated == 0 || self.table.is_some() || self.costs.is_some() || self.ended
     }
 
-    // Whether no TABLE may stand here.
+    // Whether a TABLE is out of order here.
     fn is_late_for_table(&self) -> bool
         ensures { result ≡ (not (nat_lt 0 self.now.stated) || (is_some self.now.costs || self.now.ended)) }
     {
         self.stated == 0 || self.costs.is_some() || self.ended
     }
 
-    // Whether no TASK and no END may stand here.
+    // Whether a TASK and an END are out of order here.
     fn is_closed(&self) -> bool
         ensures { result ≡ (not (nat_lt 0 self.now.stated) || self.now.ended) }
     {
         self.stated == 0 || self.ended
     }
 
-    // Takes an ECB of this task.
+    // Takes an ECB whose owner is this task.
     fn take_ecb(&mut self, owner: u32) -> Result<(), LineRefusal<Kind>>
         requires { IsToTake self.now (statement.Ecb owner) }
         ensures { (earlier : List Statement) → IsBehind earlier self.old → IsGoodStatement (sizes_behind earlier) (statement.Ecb owner)
@@ -292,7 +293,7 @@ impl Reading {
         Ok(())
     }
 
-    // How many tasks there are, the last one among them.
+    // How many tasks have begun, the last one included.
     fn task_count(&self) -> u32
         requires { (earlier : List Statement) × IsBehind earlier self.now }
         ensures { (earlier : List Statement) → IsBehind earlier self.now → result ≡ length (tasks_of earlier) }
@@ -353,7 +354,7 @@ impl Reading {
         Ok(())
     }
 
-    // Puts the last task to those before it.
+    // Moves the last task to the finished ones.
     fn finish(&mut self) -> Result<(), NoMemory>
         ensures tasks { OnOk result (self.new.finished.items ≡ self.old.finished.items ++ self.old.calls.items ∷ []) }
         ensures budgets { OnOk result (self.new.budgets.items ≡ self.old.budgets.items ++ self.old.spent ∷ []) }
@@ -370,7 +371,7 @@ impl Reading {
         Ok(())
     }
 
-    // The script of all lines, of which END was the last.
+    // The script that all lines have stated, of which END was the last.
     fn script(mut self) -> Result<Script, NoMemory>
         requires { (statements : List Statement) × (IsBehind statements self × (self.ended ≡ true)) }
         ensures { (statements : List Statement) → IsBehind statements self → IfOk result (λ s. script_data s ≡ script_in statements) }
@@ -397,7 +398,7 @@ fn is_downward(source: u32, targets: &[u32]) -> bool
     targets.iter().any(|target| *target <= source)
 }
 
-// Whether a call means an OBTAIN that is none of so many.
+// Whether a call names an OBTAIN past the task's first `obtains` ones, or number 0.
 fn lacks_obtain(call: &Call, obtains: u32) -> bool
     ensures { (calls : List Call) → count_by is_obtain calls ≡ obtains → result ≡ is_no_obtain calls (obtain_meant call.now) }
 {
@@ -408,7 +409,7 @@ fn lacks_obtain(call: &Call, obtains: u32) -> bool
     }
 }
 
-// How many OBTAINs a call is.
+// 1 if a call is an OBTAIN, otherwise 0.
 fn obtain_count(call: &Call) -> u32
     ensures { result ≡ count_by is_obtain (call.now ∷ []) }
 {

@@ -1,4 +1,4 @@
-//! A script: the configuration that its calls are made in, the calls of each task, and the table of events.
+//! A script: the configuration in which its calls are made, the calls of each task, and the table of events.
 
 use crate::call::CallList;
 use mv_calls::ValidTable;
@@ -7,9 +7,9 @@ use mv_machine::ValidConfig;
 /// A script that was read.
 #[derive(Drop)]
 pub struct Script {
-    /// Its tasks are the callers, and each one's budget is what its calls may cost.
+    /// The configuration. Its callers are the tasks, and the budget of each is what its calls may cost.
     pub config: ValidConfig,
-    /// One list for each task, 1 to 8.
+    /// The calls of each task; there are 1 to 8 tasks.
     pub tasks: Vec<CallList>,
     /// The table of events that its calls name, if it has one.
     pub table: Option<ValidTable>,

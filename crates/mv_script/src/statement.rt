@@ -1,4 +1,4 @@
-//! What a line of a script states, by its words (`specs/Statement.antt`, `specs/Misread.antt`).
+//! The statement of a line of a script, by its words (`specs/Statement.antt`, `specs/Misread.antt`).
 
 ghost use Rattle.std.specs.Prelude.{◌≡◌, ◌≤◌, IfOk};
 ghost use Rattle.mv_line.specs.Field.{fields_of};
@@ -19,14 +19,14 @@ use mv_calls::Table;
 use mv_line::{LineRefusal, begins_with_space, is_word, split_field};
 use std::alloc::{AllocError, Global};
 
-/// What a line states.
+/// The statement of a line.
 #[derive(Drop)]
 pub(crate) enum Statement {
-    /// There are so many tasks.
+    /// The script has this many tasks.
     Script(u32),
-    /// There is an event control block of this task.
+    /// There is an event control block, whose owner is this task.
     Ecb(u32),
-    /// There is an exit.
+    /// There is an exit from the source to the targets.
     Exit { source: u32, targets: Numbers },
     /// There is a table of events.
     Table(Table),
@@ -38,7 +38,7 @@ pub(crate) enum Statement {
     End,
 }
 
-/// What a text without spaces at its end states, where a script has so many tasks and blocks so far.
+/// Returns the statement of a text without spaces at its end; `sizes` says what the script's lines may name so far.
 pub(crate) fn statement_of(
     alloc: Global,
     sizes: Sizes,
@@ -57,7 +57,7 @@ pub(crate) fn statement_of(
     line_of(alloc, sizes, word, words)
 }
 
-// What a line with this first word states, by the words behind it.
+// The statement of a line with this first word, by the words after it.
 fn line_of(
     alloc: Global,
     sizes: Sizes,
@@ -82,7 +82,7 @@ fn line_of(
     line_behind_head(alloc, sizes, word, words)
 }
 
-// What a line behind the head with this first word states: a task, a call or the end.
+// The statement of a line after the head with this first word: a task, a call or the end.
 fn line_behind_head(
     alloc: Global,
     sizes: Sizes,
@@ -106,7 +106,7 @@ fn line_behind_head(
     Ok(Statement::Call(other_call(sizes, word, words)?))
 }
 
-// A source, and one to four targets.
+// Reads an EXIT: a source, and one to four targets.
 fn exit(alloc: Global, sizes: Sizes, words: &[u8]) -> Result<Statement, LineRefusal<Kind>>
     ensures { IsReadAs result (exit_read sizes (fields_of words.now)) }
 {
@@ -119,7 +119,7 @@ fn exit(alloc: Global, sizes: Sizes, words: &[u8]) -> Result<Statement, LineRefu
     Ok(Statement::Exit { source, targets })
 }
 
-// Its owner, latch and volume; its first event, its first slot, and how many of each it has.
+// Reads a TABLE: its owner, latch and volume; its first event, its first slot, and how many of each it has.
 fn table(sizes: Sizes, words: &[u8]) -> Result<Table, Misread>
     ensures { result ≡ table_read sizes (fields_of words.now) }
 {
@@ -141,7 +141,7 @@ fn table(sizes: Sizes, words: &[u8]) -> Result<Table, Misread>
     }
 }
 
-// The first event and the first slot of a table, and how many of each it has.
+// Reads the first event and the first slot of a table, and how many of each it has.
 fn table_blocks(sizes: Sizes, words: &[u8]) -> Result<(u32, (u32, u32)), Misread>
     ensures { result ≡ three (ecb_read sizes) (ecb_read sizes) table_size (fields_of words.now) }
 {
@@ -152,7 +152,7 @@ fn table_blocks(sizes: Sizes, words: &[u8]) -> Result<(u32, (u32, u32)), Misread
     )
 }
 
-/// Event control blocks of the script, one for each word.
+/// Reads event control blocks of the script, one from each word.
 pub(crate) fn ecbs(
     alloc: Global,
     sizes: Sizes,

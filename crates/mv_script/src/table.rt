@@ -1,4 +1,4 @@
-//! Which calls of a script use what is its table's (`specs/Table.antt`).
+//! The calls of a script that use what its table reserves (`specs/Table.antt`).
 
 ghost use Rattle.std.specs.Prelude.{◌≡◌};
 ghost use Rattle.std.specs.List.{list_any};
@@ -11,7 +11,7 @@ use crate::call::Call;
 use mv_calls::Table;
 use mv_latch::LatchForm;
 
-/// Whether a call that is not the table's own uses what is the table's, where there is one.
+/// Returns whether a call other than EVPOST and EVNEXT uses what the table reserves, if there is a table.
 pub(crate) fn uses_any(table: Option<Table>, call: &Call) -> bool
     ensures { result ≡ uses_any_of table call.now }
 {
@@ -21,7 +21,7 @@ pub(crate) fn uses_any(table: Option<Table>, call: &Call) -> bool
     }
 }
 
-// The same of this table.
+// Whether a call uses what this table reserves.
 fn uses(table: Table, call: &Call) -> bool
     ensures { result ≡ uses_what_is table call.now }
 {
@@ -57,7 +57,7 @@ fn is_block(table: Table, ecb: u32) -> bool
     is_in(table.events, table.size, ecb) || is_in(table.slots, table.size, ecb)
 }
 
-// Whether a block is one of so many from the first on.
+// Whether a block is one of the `size` blocks from the first on.
 fn is_in(first: u32, size: u32, ecb: u32) -> bool
     ensures { result ≡ is_in_range first size ecb }
 {
@@ -81,7 +81,7 @@ fn is_any_block(table: Table, ecb: Option<u32>) -> bool
     }
 }
 
-// Whether a request posts a block of the table's.
+// Whether a request posts one of the table's blocks.
 fn posts(table: Table, form: LatchForm) -> bool
     ensures { result ≡ posts_block table form }
 {
@@ -91,7 +91,7 @@ fn posts(table: Table, form: LatchForm) -> bool
     }
 }
 
-// Whether a requestor is one of those by which events are posted.
+// Whether a requestor is one of those by which posts of events request the table's latch.
 fn is_event_requestor(requestor: u64) -> bool
     ensures { result ≡ is_by_event requestor }
 {

@@ -1,4 +1,4 @@
-//! How the words of a line are read (`specs/Words.antt`).
+//! Reading the words of a line into values (`specs/Words.antt`).
 
 ghost use Rattle.std.specs.Prelude.{◌≡◌, length, Some, None, MatchResult};
 ghost use Rattle.mv_line.specs.Field.{fields_of, one_of, two_of};
@@ -7,16 +7,16 @@ ghost use Rattle.mv_script.specs.Words.{both as both_of, worse as worse_of, wors
 
 use mv_line::{one_field, split_field, two_fields};
 
-/// Why words are read as no value.
+/// Why words could not be read as a value.
 #[derive(Clone, Copy)]
 pub(crate) enum Misread {
-    /// They fit no form.
+    /// The words fit no form.
     NoForm,
-    /// A number has a zero in front, is out of its range, or names nothing.
+    /// A number has a leading zero, is out of its range, or names nothing.
     BadNumber,
 }
 
-/// Of two reasons: no form, if one of them is that; otherwise a bad number.
+/// Returns the worse of two reasons: that words fit no form, if one of them is that.
 pub(crate) fn worse(why: Misread, other: Misread) -> Misread
     ensures { result ≡ worse_of why other }
 {
@@ -26,7 +26,7 @@ pub(crate) fn worse(why: Misread, other: Misread) -> Misread
     }
 }
 
-/// The reason so far, if any, joined with one more.
+/// Returns the worse of the reason so far, if there is one, and one more.
 pub(crate) fn worsened(before: Option<Misread>, why: Misread) -> Misread
     ensures { result ≡ worsened before why }
 {
@@ -36,7 +36,7 @@ pub(crate) fn worsened(before: Option<Misread>, why: Misread) -> Misread
     }
 }
 
-/// Two values, where both were read.
+/// Returns both values if both were read, otherwise the worse reason.
 pub(crate) fn both<A: Drop, B: Drop>(
     first: Result<A, Misread>,
     second: Result<B, Misread>,
@@ -51,7 +51,7 @@ pub(crate) fn both<A: Drop, B: Drop>(
     }
 }
 
-/// That a text has no field.
+/// Checks that a text has no field.
 pub(crate) fn no_field(text: &[u8]) -> Result<(), Misread>
     ensures { result ≡ nothing_behind tt (fields_of text.now) }
 {
@@ -63,7 +63,7 @@ pub(crate) fn no_field(text: &[u8]) -> Result<(), Misread>
     }
 }
 
-/// The word of a text that has just one.
+/// Returns the word of a text that has exactly one.
 pub(crate) fn one_word(text: &[u8]) -> Result<&[u8], Misread>
     ensures { MatchResult result (λ w. one_of (fields_of text.now) ≡ Some w.now)
         (λ e. (e ≡ NoForm) × (one_of (fields_of text.now) ≡ None)) }
@@ -74,7 +74,7 @@ pub(crate) fn one_word(text: &[u8]) -> Result<&[u8], Misread>
     }
 }
 
-/// The words of a text that has just two.
+/// Returns the words of a text that has exactly two.
 pub(crate) fn two_words(text: &[u8]) -> Result<(&[u8], &[u8]), Misread>
     ensures { MatchResult result (λ p. two_of (fields_of text.now) ≡ Some (p.0.now, p.1.now))
         (λ e. (e ≡ NoForm) × (two_of (fields_of text.now) ≡ None)) }
@@ -85,7 +85,7 @@ pub(crate) fn two_words(text: &[u8]) -> Result<(&[u8], &[u8]), Misread>
     }
 }
 
-/// The words of a text that has just three.
+/// Returns the words of a text that has exactly three.
 pub(crate) fn three_words(text: &[u8]) -> Result<(&[u8], (&[u8], &[u8])), Misread>
     ensures { MatchResult result (λ p. three_of (fields_of text.now) ≡ Some (p.0.now, (p.1.0.now, p.1.1.now)))
         (λ e. (e ≡ NoForm) × (three_of (fields_of text.now) ≡ None)) }
@@ -98,7 +98,7 @@ pub(crate) fn three_words(text: &[u8]) -> Result<(&[u8], (&[u8], &[u8])), Misrea
     Ok((first, second_and_third))
 }
 
-/// How many fields a text has.
+/// Returns how many fields a text has.
 pub(crate) fn field_count(text: &[u8]) -> usize
     ensures { result ≡ length (fields_of text.now) }
 {
