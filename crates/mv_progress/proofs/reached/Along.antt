@@ -1,5 +1,5 @@
 -- All of this holds at each moment of a history in which no task is lost.
-use Rattle.mv_plan.proofs.Words.{◌≡◌, ℕ, zero, suc, ◌≤◌, List, [], ◌∷◌, ◌++◌, length, None, inl, inr, refl, arith, Entry}
+use Rattle.mv_plan.proofs.Words.{◌≡◌, ℕ, zero, suc, ◌≤◌, List, [], ◌∷◌, ◌++◌, length, None, arith, common_steps, Entry}
 use Rattle.mv_plan.proofs.Words.{IsNext, next, after_from, Setup, System, opening, JobData, spool_setup}
 use Rattle.mv_machine.proofs.Lists.{all_front, all_back}
 use Rattle.mv_plan.proofs.deck.Planned.{IsPlanned}
@@ -39,13 +39,10 @@ reached_start c deck initiators = record {
   entering (suc n) = λ j lt. absurd (omega arith)
 
   no_gone : IsGone None (At Opening) → ⊥
-  no_gone (inl e) = cc e
-  no_gone (inr l) = l
+  no_gone g = grind (arith, common_steps)
 
   none_dismissed : (deck' : List JobData) (m : ℕ) → dismissed_by m (errand (stage_at (length deck) m (Dispatching 0 deck'))) ≡ 0
-  none_dismissed [] zero = refl
-  none_dismissed [] (suc m) = refl
-  none_dismissed (job ∷ jobs) m = refl
+  none_dismissed x m = grind (arith, common_steps)
 
 -- ---- along a history
 

@@ -1,15 +1,15 @@
 -- The initiators that the scheduler has dismissed, and no others, hold code 0 in their elements or are at their ends.
-use Rattle.mv_plan.proofs.Words.{◌≡◌, ℕ, zero, suc, ◌+◌, ◌<◌, if◌then◌else◌, List, [], ◌∷◌, length, Option, Some, None, ◌⊎◌, inl, inr, refl}
+use Rattle.mv_plan.proofs.Words.{◌≡◌, ℕ, suc, ◌+◌, ◌<◌, if◌then◌else◌, List, length, Option, Some, None, ◌⊎◌, inl, inr, refl}
 use Rattle.mv_plan.proofs.Words.{sym, ap, ◌∙◌, subst, arith, common_steps, cases_eq, eq-eqb, Entry, IsNext, next, Setup, System, moved}
-use Rattle.mv_plan.proofs.Words.{Object, Op, Reply, ElementReply, with_at, JobData, job_at, initiator, reader, scheduler, writer, gift_code}
+use Rattle.mv_plan.proofs.Words.{Object, Op, Reply, with_at, JobData, job_at, initiator, reader, scheduler, writer, gift_code}
 use Rattle.mv_plan.proofs.deck.Ends.{never_zero}
 use Rattle.mv_plan.proofs.points.Points.{Point, At, Finished, reader_asks, Stage, Dispatching, Dismissing, SchedulerAt, Releases}
-use Rattle.mv_plan.proofs.points.Points.{scheduler_asks, scheduler_goes, writer_asks, Running, InitiatorAt, Opening, Offering, Pausing}
-use Rattle.mv_plan.proofs.points.Points.{Resuming, Closing, InJob, initiator_asks, initiator_goes, rounds_from, running, given_at}
+use Rattle.mv_plan.proofs.points.Points.{scheduler_asks, scheduler_goes, writer_asks, Running, InitiatorAt, Offering, Pausing}
+use Rattle.mv_plan.proofs.points.Points.{Closing, InJob, initiator_asks, initiator_goes, rounds_from, running, given_at}
 use Rattle.mv_plan.proofs.points.Points.{given_lands, run_of, IsNotLost, errand, errand_in, code_held}
 use Rattle.mv_plan.proofs.points.Programs.{on_posted_keeps, IsReaderAt, IsWriterAt}
 use Rattle.mv_plan.proofs.points.RunningJob.{run_goes, GoesOn, start_run, RunsOn}
-use Rattle.mv_plan.proofs.points.Scheduler.{same_errand, released_errand, after_release, after_dismissals, IsSchedulerAt, IsHanded, IsStage}
+use Rattle.mv_plan.proofs.points.Scheduler.{same_errand, released_errand, after_release, IsSchedulerAt, IsHanded, IsStage}
 use Rattle.mv_plan.proofs.points.Initiator.{IsInitiatorAt}
 use Rattle.mv_plan.proofs.walks.Walks.{Points, Move, entry_of, Each, of_move}
 use Rattle.mv_plan.proofs.walks.Stands.{TasksStand}
@@ -68,53 +68,31 @@ module _ (deck : List JobData) where
 
   -- an initiator that is at its end after an event was so before, or was given code 0
   leaving_by : (x : InitiatorAt) (r : Reply) → IsLeaving (initiator_goes deck x r) → (gift_code r ≡ Some 0) ⊎ IsLeaving (At x)
-  leaving_by Opening (Reply.Element (ElementReply.Opened g)) w = absurd (rounds_stay (length deck + 1) [] g w)
   leaving_by (Offering more before g) r w =
       absurd (on_posted_keeps (λ p. IsLeaving p → ⊥) (At (Pausing more before g)) r (λ z. z) (λ z. z) w)
-  leaving_by (Pausing more before g) (Reply.Element (ElementReply.Given code now)) w =
-      inl (ap (λ z. Some z) (given_stays more before code now w))
-  leaving_by (Resuming more before g) (Reply.Element (ElementReply.Given code now)) w =
-      inl (ap (λ z. Some z) (given_stays more before code now w))
   leaving_by (InJob run j) r w = absurd (goes_stay run _ (run_goes deck (InJob run j) r run refl) w)
-  leaving_by (Closing g) r w = inr tt
-  leaving_by x r w = absurd w
+  leaving_by x r w = grind (arith, common_steps, rounds_stay, given_stays)
 
   leaving_still : (x : InitiatorAt) (r : Reply) → IsLeaving (At x) → IsNotLost (initiator_goes deck x r)
       → IsLeaving (initiator_goes deck x r)
-  leaving_still (Closing g) r w f = grind (arith, common_steps)
-  leaving_still x r w f = absurd w
+  leaving_still x r w f = grind (arith, common_steps)
 
   -- an initiator that is given code 0 is at its end
   leaving_given : (x : InitiatorAt) (r : Reply) → gift_code r ≡ Some 0 → IsNotLost (initiator_goes deck x r)
       → IsLeaving (initiator_goes deck x r)
-  leaving_given (Pausing more before g) (Reply.Element (ElementReply.Given code now)) e f = given_leaves more before code now (cc e)
-  leaving_given (Resuming more before g) (Reply.Element (ElementReply.Given code now)) e f = given_leaves more before code now (cc e)
-  leaving_given x r e f = grind (arith, common_steps)
+  leaving_given x r e f = grind (arith, common_steps, given_leaves)
 
   own_gone : (x : InitiatorAt) (r : Reply) (h h' : Option ℕ) → Deed (At x) (initiator_goes deck x r) h h' r
       → IsNotLost (initiator_goes deck x r)
       → (IsGone h (At x) → IsGone h' (initiator_goes deck x r)) × (IsGone h' (initiator_goes deck x r) → IsGone h (At x))
-  own_gone x r h h' (went_on a d g) f = (
-    λ w. elim w [ inl e ↦ inl (d ∙ e) | inr l ↦ inr (leaving_still x r l f) ],
-    λ w. elim w [ inl e ↦ inl (sym d ∙ e) | inr l ↦ elim (leaving_by x r l) [ inl e ↦ absurd (no_gift e) | inr l ↦ inr l ] ],
-  ) where
-    no_gift : gift_code r ≡ Some 0 → ⊥
-    no_gift e = cc (g, e)
-  own_gone x r h h' (given code had now g more) f = (
-    λ w. elim w [ inl e ↦ inr (leaving_given x r (g ∙ sym had ∙ e) f) | inr l ↦ inr (leaving_still x r l f) ],
-    λ w. elim w [ inl e ↦ absurd (none_here e) | inr l ↦ elim (leaving_by x r l) [ inl e ↦ inl (had ∙ sym g ∙ e) | inr l ↦ inr l ] ],
-  ) where
-    none_here : h' ≡ Some 0 → ⊥
-    none_here e = cc (now, e)
+  own_gone x r h h' (went_on a d g) f = grind (arith, common_steps, leaving_still, leaving_by)
+  own_gone x r h h' (given code had now g more) f = grind (arith, common_steps, leaving_given, leaving_still, leaving_by)
 
 -- an event that changes none of the codes, points and counts
 gone_same : (initiators : ℕ) (codes codes' : ℕ → Option ℕ) (points points' : ℕ → Point InitiatorAt) (d d' : ℕ)
     → ((i : ℕ) → i < initiators → codes' i ≡ codes i) → points' ≡ points → d' ≡ d → AreGone initiators codes points d
     → AreGone initiators codes' points' d'
-gone_same initiators codes codes' points points' d d' c p e w i lt = (
-  λ less. subst (λ z. IsGone (codes' i) (z i)) (sym p) (subst (λ z. IsGone z (points i)) (sym (c i lt)) ((w i lt).0 (omega arith))),
-  λ g. let less : i < d = (w i lt).1 (subst (λ z. IsGone z (points i)) (c i lt) (subst (λ z. IsGone (codes' i) (z i)) p g)) in omega arith,
-)
+gone_same initiators codes codes' points points' d d' c p e w i lt = rw (c i lt, p, e) (w i lt)
 
 -- a release with code 0 dismisses the next initiator; one with another code comes before the first is dismissed
 abbrev pub IsCase : ℕ → ℕ → ℕ → ℕ → Type 0
@@ -124,32 +102,7 @@ IsCase i code d d' = ((code ≡ 0) × (d ≡ i) × (d' ≡ i + 1)) ⊎ ((code �
 gone_released : (initiators i code : ℕ) (codes codes' : ℕ → Option ℕ) (points : ℕ → Point InitiatorAt) (d d' : ℕ) → codes' i ≡ Some code
     → ((m : ℕ) → (i ≡ m → ⊥) → codes' m ≡ codes m) → IsCase i code d d'
     → codes i ≡ None → AreGone initiators codes points d → AreGone initiators codes' points d'
-gone_released initiators i code codes codes' points d d' own others (inl z) none w m lt = elim (cases_eq i m) [
-  | inl same ↦ (
-    λ less. inl (ap codes' (sym same) ∙ own ∙ ap (λ c. Some c) z.0),
-    λ g. let a = z.2 in omega arith,
-  )
-  | inr other ↦ (
-    λ less. subst (λ c. IsGone c (points m)) (sym (others m other)) ((w m lt).0 (let a = z.1 in let b = z.2 in omega arith)),
-    λ g. let less : m < d = (w m lt).1 (subst (λ c. IsGone c (points m)) (others m other) g) in
-        let a = z.1 in let b = z.2 in omega arith,
-  )
-]
-gone_released initiators i code codes codes' points d d' own others (inr z) none w m lt = (
-  λ less. absurd (let b = z.2 in omega arith),
-  λ g. absurd (elim g [
-    | inl e ↦ elim (cases_eq i m) [
-      | inl same ↦ z.0 (code_zero (sym own ∙ ap codes' same ∙ e))
-      | inr other ↦ low m lt (inl (sym (others m other) ∙ e))
-    ]
-    | inr l ↦ low m lt (inr l)
-  ]),
-) where
-  code_zero : Some code ≡ Some 0 → code ≡ 0
-  code_zero e = cc e
-
-  low : (m : ℕ) → m < initiators → IsGone (codes m) (points m) → ⊥
-  low m lt g = let less : m < d = (w m lt).1 g in let a = z.1 in absurd (omega arith)
+gone_released initiators i code codes codes' points d d' own others z none w m lt = grind (arith, common_steps, cases_eq i m)
 
 -- how many were dismissed before a release and after it
 released_count : (initiators i code : ℕ) (after : Stage) (deck : List JobData) → IsStage deck initiators after → IsHanded i code after
@@ -157,13 +110,8 @@ released_count : (initiators i code : ℕ) (after : Stage) (deck : List JobData)
 released_count initiators i code (Dispatching j jobs) deck st h =
     inr ((λ z. never_zero h.0 h.1 (sym h.3 ∙ z)), refl, none initiators jobs) where
       none : (initiators : ℕ) (jobs : List JobData) → dismissed_by initiators (after_release initiators (Dispatching j jobs)) ≡ 0
-      none zero [] = refl
-      none (suc m) [] = refl
-      none m (job ∷ jobs) = refl
-released_count initiators i code (Dismissing m more) deck st h = inl (h.1, (let e = h.0 in omega arith), one more st) where
-  one : (more : ℕ) → m + more ≡ initiators → dismissed_by initiators (after_dismissals m more) ≡ i + 1
-  one zero e = let a = h.0 in omega arith
-  one (suc more) e = h.0
+      none x jobs = grind (arith, common_steps)
+released_count initiators i code (Dismissing m more) deck st h = grind (arith, common_steps)
 
 module _ (c : Setup) (deck : List JobData) (initiators : ℕ) where
   abbrev size : ℕ

@@ -1,10 +1,10 @@
 -- In its wait for ends the scheduler has found each block complete that it settled, if no entry is an early settle.
 use Rattle.mv_plan.proofs.Words.{◌≡◌, ℕ, ◌+◌, ◌<◌, List, [], ◌∷◌, ◌++◌, length, Option, Some, None, refl, sym, ap, ◌∙◌, subst, arith}
 use Rattle.mv_plan.proofs.Words.{common_steps, AllByRecursion, length-append, complete_count, Entry, moved, Ecb, Reply, EcbReply}
-use Rattle.mv_plan.proofs.Words.{ElementReply, JobData, Step, After, end_for_scheduler, scheduler, code_of, ends_of}
+use Rattle.mv_plan.proofs.Words.{JobData, Step, After, end_for_scheduler, scheduler, code_of, ends_of}
 use Rattle.mv_plan.proofs.deck.Planned.{ArePlannedJobs}
 use Rattle.mv_plan.proofs.points.Points.{Point, At, TooSoon, Arming, Settling, Stage, Dispatching, Dismissing, Awaited, ForEntry, ForEnds}
-use Rattle.mv_plan.proofs.points.Points.{ForIdle, ToDismiss, SchedulerAt, Waits, Extends, Clears, Releases, awaited_blocks, scheduler_asks}
+use Rattle.mv_plan.proofs.points.Points.{ForIdle, ToDismiss, SchedulerAt, Waits, Clears, awaited_blocks, scheduler_asks}
 use Rattle.mv_plan.proofs.points.Points.{scheduler_goes, ends_at, stage_at, found_at, settling_from, arming_from, arming_first}
 use Rattle.mv_plan.proofs.points.Programs.{lowest_keeps, on_armed_keeps}
 use Rattle.mv_plan.proofs.points.Scheduler.{IsSchedulerAt, later_below, later_sound}
@@ -82,11 +82,7 @@ module _ (n initiators : ℕ) where
       settling_all a todo (found ++ Some code ∷ []) (found_one a found code w)
   found_goes (Waits a (Settling e todo found)) (Reply.Ecb EcbReply.Open) p w =
       settling_all a todo (found ++ None ∷ []) (found_open a e todo found p)
-  found_goes (Extends j job jobs skipped) (Reply.Ecb EcbReply.Armed) p w =
-      first_all (ForIdle j job jobs skipped) (awaited_blocks n initiators (ForIdle j job jobs skipped))
-  found_goes (Releases i g code after) (Reply.Element ElementReply.Early) p w = stage_all after
-  found_goes (Releases i g code after) (Reply.Element ElementReply.Woke) p w = stage_all after
-  found_goes x r p w = grind (arith, common_steps)
+  found_goes x r p w = grind (arith, common_steps, first_all, stage_all)
 
 -- ---- a settle of the scheduler, if its entry is no early settle
 
