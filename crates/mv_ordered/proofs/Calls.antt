@@ -188,15 +188,19 @@ kept_if true why none = refl
 kept_if false why none = absurd (cc none)
 
 -- an obtain that is not refused finds no request
+few_kept : (c : Setup) (latch requestor : ℕ) (mode : Mode) (form : LatchForm) (kept : Kept)
+    → obtain_refusal c latch requestor mode form kept ≡ None → length kept.requests < c.quota
+few_kept c latch requestor mode form kept none =
+    let within : keeps_quotas c kept.requests form ≡ true =
+    kept_if (keeps_quotas c kept.requests form) refusal.Quota (both_none _ _ (both_none _ _ none).1).1 in
+    ltb-true (length kept.requests) c.quota (and_parts _ _ within).0
+
 none_stands : (c : Setup) (latch requestor k : ℕ) (mode : Mode) (form : LatchForm) (log : List Entry) → c.quota ≤ 1
     → obtain_refusal c latch requestor mode form (kept_of k log) ≡ None → standing log ≡ []
 none_stands c latch requestor k mode form log one none =
-    let kept : List StandingRequest = (kept_of k log).requests in
-    let within : keeps_quotas c kept form ≡ true =
-    kept_if (keeps_quotas c kept form) refusal.Quota (both_none _ _ (both_none _ _ none).1).1 in
-    let few : length kept < c.quota = ltb-true (length kept) c.quota (and_parts _ _ within).0 in
+    let few = few_kept c latch requestor mode form (kept_of k log) none in
     let same = ap length (unnamed_kept (nothing_kept k) [] log refl) in
-    let here = length-map kept unnamed in
+    let here = length-map (kept_of k log).requests unnamed in
     let there = length-map (standing log) unnamed in nil_from_length (standing log) (omega arith)
 
 -- so each obtain of such a caller keeps the discipline: while a request of it stands, an obtain is refused without an event
