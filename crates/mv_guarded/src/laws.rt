@@ -1,0 +1,40 @@
+//! What callers know of state that they guard by a latch.
+
+ghost use Rattle.std.specs.Prelude.{◌≡◌, ◌<◌, ◌++◌, ℕ, List};
+ghost use Rattle.std.specs.List.{AllByRecursion};
+ghost use Rattle.mv_latch.specs.declared.request.Mode.{Mode};
+ghost use Rattle.mv_machine.specs.declared.entry.Entry.{Entry};
+ghost use Rattle.mv_machine.specs.declared.entry.Object.TheVariants.{Volume};
+ghost use Rattle.mv_machine.specs.Kept.{StandingRequest};
+ghost use Rattle.mv_machine.specs.Legal.{Legal, of};
+ghost use Rattle.mv_machine.specs.Setup.{Setup};
+ghost use Rattle.mv_calls.specs.Sections.{HasGrant, IsHolder, IsGuarded, is_write};
+ghost use Rattle.mv_ordered.specs.WaitChain.{HoldsAt};
+ghost use Rattle.mv_guarded.specs.Guarded.{HoldsLatch, GuardsVolume, LeavesVolume, HasRead, IsOnlyWriter, value, value_from, AreAlone};
+
+/// In a history in which every caller guards a volume by a latch, a caller that was granted the latch holds it, and what it reads in a
+/// section of the latch the volume still has later in that section: no other caller writes it there.
+pub fn sections_see_one_number()
+    // By its own log a caller was granted a request that still stands: so it holds that latch.
+    ensures grant { (c : Setup) (es before later : List Entry) (latch n k : ℕ) (t : StandingRequest) → GuardsVolume c es latch n
+        → es ≡ before ++ later → HasGrant t (of k before) → IsHolder k t before }
+    ensures written { (c : Setup) (es : List Entry) (latch n : ℕ) → GuardsVolume c es latch n → IsGuarded is_write latch (Volume n) es }
+    // From a moment at which caller k holds the latch, as long as its own entries are on volumes and do not write this one.
+    ensures stays { (c : Setup) (es start inside later : List Entry) (latch n k : ℕ) (asked : Mode) → GuardsVolume c es latch n
+        → es ≡ start ++ (inside ++ later) → HoldsLatch latch asked k (of k start) → AllByRecursion (LeavesVolume n) (of k inside)
+        → value c (start ++ inside) n ≡ value c start n }
+    ensures read { (c : Setup) (es before later : List Entry) (latch n k x : ℕ) → GuardsVolume c es latch n → es ≡ before ++ later
+        → HasRead latch n k x (of k before) → value c before n ≡ x }
+{}
+
+/// A volume with one writer has what that caller wrote last, or zero.
+pub fn only_writers_know_their_volumes()
+    ensures { (c : Setup) (es : List Entry) (w n : ℕ) → Legal c es → IsOnlyWriter w n es → value c es n ≡ value_from n 0 (of w es) }
+{}
+
+/// If every obtain is exclusive, no latch has two holders at any moment.
+pub fn exclusive_latches_have_one_holder()
+    ensures { (c : Setup) (es before later : List Entry) (latch j k : ℕ) → Legal c es
+        → ((m : ℕ) → m < c.callers → AreAlone (of m es)) → es ≡ before ++ later → HoldsAt c before j latch → HoldsAt c before k latch
+        → j ≡ k }
+{}
