@@ -76,7 +76,7 @@ impl Meeting {
         }
     }
 
-    /// Polls the call: what the task is told once it has an answer, or that it is lost.
+    /// Polls the call, and returns its answer once it has one, or that the task is lost.
     pub(crate) fn poll<R: Wait>(
         &mut self,
         rt: &R,

@@ -99,7 +99,7 @@ impl Polled {
         self.take_up(next);
     }
 
-    // Polls the call that the task waits in, and goes on behind its answer up to the next wait: whether there was one.
+    // Polls the call that the task waits in. If it has an answer, resumes the task up to its next wait. Returns whether it had one.
     fn advance<R: Wait>(&mut self, rt: &R, spool: &Spool<'_, OpenGate>) -> bool
         requires spool { IsSpool spool.now }
         requires polled { (k : ℕ) × (k < spool.now.initiators + 3) × IsPolled spool.now k self.old }

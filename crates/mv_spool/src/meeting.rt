@@ -11,7 +11,11 @@ use mv_work::{Got, Lost, MOST_BLOCKS, Need, slots_in};
 use std::sync::Wait;
 use std::time::Clock;
 
-/// Waits until this is so, and answers what was told.
+/// Blocks until the need is met, and returns the answer.
+///
+/// # Errors
+///
+/// `Lost` if the call was refused or had a reply that the task does not foresee.
 pub(crate) fn meet<R: Wait + Clock>(
     rt: &R,
     station: &Station,

@@ -141,7 +141,7 @@ pub record IsBetween (s : SpoolFace) (me : Initiator) (r : ℕ) : Type 0 where
   pub none : me.noted.notes ≡ []
   pub room : marks_left me.given.items s.jobs ≤ me.noted.room
 
--- an initiator that runs a job, in the round of this number, with marks of so many steps to make
+-- an initiator that runs job j, in the round of this number, with this many marks of its steps to make
 pub record IsAtJob (s : SpoolFace) (me : Initiator) (r j marks : ℕ) : Type 0 where
   pub index : me.index < s.initiators
   pub round : r < length s.jobs

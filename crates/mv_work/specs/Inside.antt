@@ -12,7 +12,7 @@ jobs_in notes [] = []
 jobs_in notes (Step noted ∷ marks) = jobs_in (notes ++ noted ∷ []) marks
 jobs_in notes (Ended job end ∷ marks) = record { job = job; end = end; notes = notes } ∷ jobs_in [] marks
 
--- what is noted behind the last end
+-- what is noted after the last end
 abbrev pub notes_in : List Noted → List Mark → List Noted
 notes_in notes [] = notes
 notes_in notes (Step noted ∷ marks) = notes_in (notes ++ noted ∷ []) marks

@@ -1,4 +1,4 @@
--- What a task waits for, as a call; and what it is told then.
+-- What a task waits for, as a call, and the answer to it.
 use Rattle.std.specs.Prelude.{◌≡◌, ℕ, ◌*◌, List, [], ◌∷◌, Option, Some, length, take}
 use Rattle.mv_latch.specs.declared.request.LatchForm.TheVariants.{Waiting}
 use Rattle.mv_machine.specs.Setup.{Setup}
@@ -25,7 +25,7 @@ pub data Answer : Type 0 where
   Gave : (gift : Gift) → Answer
   Holds : (id : ℕ) → Answer
 
--- to wait until so many of these blocks are complete
+-- a wait until n of these blocks are complete
 pub record IsWaitFor (n : ℕ) (es : List ℕ) (b : Blocks) : Type 0 where
   pub count : b.count ≡ n
   pub len : b.len ≡ length es
@@ -47,7 +47,7 @@ need_events (need.Block e) = 2
 need_events (need.Pause token) = 2
 need_events (need.Latch latch requestor mode) = 2
 
--- what was told
+-- the answer, as the program of the task reads it
 abbrev pub answer_of : Got → Answer
 answer_of (got.Slots s) = Slots (slots_of (take s.len s.of))
 answer_of (got.Code code) = Slots (Some code ∷ [])

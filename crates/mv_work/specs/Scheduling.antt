@@ -85,7 +85,7 @@ IsScheduled s (Ends j) = j < length s.jobs
 IsScheduled s (Idle j skipped) = j < length s.jobs
 IsScheduled s (Dismissal m) = m < s.initiators
 
--- how many blocks a stage waits for, or none where it is told the code of one
+-- how many blocks a stage waits for, or none if it waits for the code of one
 abbrev pub block_count : SpoolFace → SchedulerStage → Option ℕ
 block_count s (Entry j) = None
 block_count s (Ends j) = Some (length (job_at s.jobs j).after)

@@ -31,7 +31,7 @@ pub record AreKept (tokens : List (Option LatchToken)) : Type 0 where
   pub count : length tokens ≡ volume_count
   pub own : (latch : ℕ) (t : LatchToken) → slice_index_or tokens latch None ≡ Some t → t.latch ≡ latch
 
--- the step of a job at this place; what a place behind the last has says nothing
+-- the step of a job at this place; at a place after the last it means nothing
 abbrev pub step_at : SpoolFace → ℕ → ℕ → Step
 step_at s job place = slice_index_or (job_at s.jobs job).steps place (Return 0)
 

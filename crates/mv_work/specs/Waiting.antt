@@ -1,4 +1,4 @@
--- A task that waits, one that was told what it waited for, and one that has come to its next wait. A stage says where a task waits:
+-- A task that waits, one that was given its answer, and one that has come to its next wait. A stage says where a task waits:
 -- what is left to do after the answer, and how many events that may need. What a task of the spool waits for fits its stage.
 use Rattle.std.specs.Prelude.{◌≡◌, ℕ, ◌+◌, ◌≤◌, Option, Some, None, Result, Ok, Err}
 use Rattle.mv_board.specs.Faces.{BoardFace, CallerFace, IsOf, IsSame}
@@ -14,7 +14,7 @@ use Rattle.mv_work.specs.declared.next.Next.TheVariants as next
 use Rattle.mv_work.specs.Needs.{Answer, answer_of, need_call, need_events}
 use Rattle.mv_work.specs.Ran.{Leads, Ran}
 
--- a task of the board that is at rest, with so many events left
+-- a task of the board that is at rest, with at least this many events left
 pub record IsResting (b : BoardFace) (most : ℕ) (u : CallerFace) : Type 0 where
   pub board : IsOf b u
   pub quiet : IsAtRest u.log
@@ -53,8 +53,8 @@ pub record Comes {S A : Type 0} (b : BoardFace) (stages : Stages S A) (Fits : S 
     (next : Result (Next S) Lost) (u : CallerFace) : Type 0 where
   pub come : ComesTo b stages Fits a whole t next u
 
--- This is what is left to do: the call of the need, and behind its answer what the stage says; where nothing is needed, nothing. It
--- needs at most so many events.
+-- This is what is left to do: the call of the need, and after its answer what the stage says; nothing if the program is done. It needs
+-- at most this many events.
 abbrev pub AsksFor : {S A : Type 0} → Setup → Stages S A → (S → Need → Type 0) → A → Call A → ℕ → Next S → Type 0
 AsksFor c stages Fits a later most (next.Wait s n) =
     (later ≡ followed (need_call c n) (stages.then s)) × Fits s n × (need_events n + stages.due s ≤ most)

@@ -40,7 +40,7 @@ writer_due s j = 2 * (length s.jobs - (j + 1))
 abbrev pub writer_stages : SpoolFace → List ℕ → Stages ℕ (List ℕ)
 writer_stages s ends = record { then = writer_left s ends; due = writer_due s }
 
--- the writer waits for one block, and has room for so many ends, all that are to come
+-- the writer waits for one block, and has room for all ends that are to come
 pub record IsWriterNeed (s : SpoolFace) (most j : ℕ) (need : Need) : Type 0 where
   pub number : j < length s.jobs
   pub room : length s.jobs - j ≤ most

@@ -48,7 +48,7 @@ use std::sync::Wait;
 /// What is added to the code of a job that is not to be run.
 pub(crate) const NOT_TO_RUN: u32 = 1 << 23;
 
-/// The code that tells an initiator that no job follows.
+/// The code that an initiator is given if no job follows.
 pub(crate) const NO_JOB: u32 = 0;
 
 /// An initiator between two waits.

@@ -1,5 +1,4 @@
-//! What each task of the spool does from one wait to the next, whoever meets its waits, and what its initiators note of the jobs
-//! that they run.
+//! What each task of the spool does from one wait to the next, for any runner, and what the initiators note of the jobs that they run.
 #![tactic(auto)]
 
 mod closing;

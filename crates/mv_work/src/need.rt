@@ -16,7 +16,7 @@ use mv_wait::WaitSlot;
 /// How many blocks a task waits for at once, at most.
 pub const MOST_BLOCKS: usize = 8;
 
-/// Blocks to wait for: until so many of the first `len` are complete.
+/// Blocks to wait for, the first `len`, until `count` of them are complete.
 #[derive(Clone, Copy)]
 pub struct Blocks {
     pub count: u32,
@@ -37,14 +37,14 @@ pub enum Need {
     Latch(u32, u64, Mode),
 }
 
-/// How the first `len` blocks were found.
+/// How the blocks were found, the first `len`.
 #[derive(Clone, Copy)]
 pub struct Slots {
     pub len: usize,
     pub of: [WaitSlot; MOST_BLOCKS],
 }
 
-/// What a task is told once its need is met.
+/// The answer to a wait, with which the task is resumed.
 #[derive(Clone, Copy)]
 pub enum Got {
     Slots(Slots),
@@ -54,7 +54,7 @@ pub enum Got {
     Granted(LatchToken),
 }
 
-/// These slots, `MOST_BLOCKS` at most, to be told to a task.
+/// These slots, `MOST_BLOCKS` at most, as an answer.
 pub fn slots_in(slots: &[WaitSlot]) -> Slots
     requires { length slots.now ≤ most_blocks }
     ensures len { result.len ≡ length slots.now }

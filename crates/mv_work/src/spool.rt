@@ -52,7 +52,7 @@ impl<'a, G> Model for Spool<'a, G> {
 }
 
 impl<'a, G> Spool<'a, G> {
-    /// The spool of a station that is configured for this deck and so many initiators.
+    /// The spool of a station that is configured for this deck and this many initiators.
     pub fn new(station: &'a Station, deck: &'a Deck, initiators: u32, gate: &'a G) -> Spool<'a, G>
         requires spool { IsSpool (spool_of station.now (deck_data deck.now) initiators) }
         ensures { result ≡ spool_of station.now (deck_data deck.now) initiators }
