@@ -1,0 +1,40 @@
+-- Whether a task has a permit, with more entries in its log; and entries that write nothing and purge no requestor. Used by the functions
+-- that make one call, and by share.
+use Rattle.std.proofs.Common.{◌≡◌, ℕ, Bool, false, List, [], ◌∷◌, ◌++◌, refl, ◌∙◌}
+use Rattle.std.specs.List.{AllByRecursion}
+use Rattle.mv_latch.specs.declared.operation.LatchOp.TheVariants.{Purge}
+use Rattle.mv_machine.specs.declared.entry.Entry.{Entry}
+use Rattle.mv_machine.specs.declared.entry.Object.{Object}
+use Rattle.mv_machine.specs.declared.entry.Object.TheVariants.{Volume}
+use Rattle.mv_machine.specs.declared.entry.Op.{Op}
+use Rattle.mv_machine.specs.declared.entry.Op.TheVariants as op_on
+use Rattle.mv_machine.specs.declared.entry.VolumeOp.TheVariants.{Write}
+use Rattle.mv_permits.specs.Permits.{permit_with, permit_from, has_permit, IsAllowed}
+
+pub permit-append : (has : Bool) (es fs : List Entry) → permit_from has (es ++ fs) ≡ permit_from (permit_from has es) fs
+permit-append has [] fs = refl
+permit-append has (e ∷ es) fs = permit-append (permit_with has e.object e.op) es fs
+
+abbrev pub IsCalm : Object → Op → Type 0
+IsCalm object (op_on.Latch (Purge requestor)) = ⊥
+IsCalm object (op_on.Volume (Write x)) = ⊥
+IsCalm object op = Unit {0}
+
+abbrev pub AreCalm : List Entry → Type 0
+AreCalm es = AllByRecursion (λ e. IsCalm e.object e.op) es
+
+pub calm_allowed : (k : ℕ) (log : List Entry) (o : Object) (op : Op) → IsCalm o op → IsAllowed k log o op
+calm_allowed k log o (op_on.Latch (Purge requestor)) calm = absurd calm
+calm_allowed k log (Volume n) (op_on.Volume (Write x)) calm = absurd calm
+calm_allowed k log o op calm = tt
+
+calm_with : (has : Bool) (o : Object) (op : Op) → IsCalm o op → permit_with has o op ≡ has
+calm_with has (Volume m) (op_on.Volume (Write y)) calm = absurd calm
+calm_with has o op calm = refl
+
+calm_from : (has : Bool) (es : List Entry) → AreCalm es → permit_from has es ≡ has
+calm_from has [] calm = refl
+calm_from has (e ∷ es) calm = calm_from (permit_with has e.object e.op) es calm.1 ∙ calm_with has e.object e.op calm.0
+
+pub calm_permit : (log es : List Entry) → AreCalm es → has_permit (log ++ es) ≡ has_permit log
+calm_permit log es calm = permit-append false log es ∙ calm_from (has_permit log) es calm
