@@ -20,6 +20,7 @@ use mv_wait::{Station, Task, WaitSlot};
 use std::alloc::Global;
 use std::sync::Wait;
 use std::thread::Threads;
+use std::time::Clock;
 
 /// How many workers there are: worker w is caller w, and the manager comes after them.
 const WORKERS: u32 = 3;
@@ -73,7 +74,7 @@ fn configuration(alloc: Global, tries: u32) -> Result<ValidConfig, NoMemory>
 // ---- permits
 
 // Obtains the latch exclusively. It is refused only if the request is purged, and that no task purges is known only after the run.
-fn take_latch<R: Wait>(rt: &R, station: &Station, task: &mut Task) -> Option<LatchToken>
+fn take_latch<R: Wait + Clock>(rt: &R, station: &Station, task: &mut Task) -> Option<LatchToken>
     requires ready { IsPooled station.now task.old }
     requires bare { held task.old.log ≡ [] }
     requires left { 2 ≤ task.old.left }
@@ -153,7 +154,7 @@ fn count_down<R: Wait>(rt: &R, station: &Station, task: &mut Task) -> bool
 }
 
 // Takes a permit, if one is free.
-fn take_permit<R: Wait>(rt: &R, station: &Station, task: &mut Task) -> bool
+fn take_permit<R: Wait + Clock>(rt: &R, station: &Station, task: &mut Task) -> bool
     requires none { has_permit task.old.log ≡ false }
     requires ready { IsPooled station.now task.old }
     requires bare { held task.old.log ≡ [] }
@@ -173,7 +174,7 @@ fn take_permit<R: Wait>(rt: &R, station: &Station, task: &mut Task) -> bool
 }
 
 // Gives the permit back. Returns whether that was done.
-fn give_permit<R: Wait>(rt: &R, station: &Station, task: &mut Task) -> bool
+fn give_permit<R: Wait + Clock>(rt: &R, station: &Station, task: &mut Task) -> bool
     requires has { has_permit task.old.log ≡ true }
     requires ready { IsPooled station.now task.old }
     requires bare { held task.old.log ≡ [] }
@@ -210,7 +211,7 @@ fn tell<R: Wait>(rt: &R, station: &Station, task: &mut Task, block: u32, code: u
 }
 
 // Waits until the manager lets this worker go on.
-fn await_go<R: Wait>(rt: &R, station: &Station, task: &mut Task)
+fn await_go<R: Wait + Clock>(rt: &R, station: &Station, task: &mut Task)
     requires worker { task.old.number < 3 }
     requires ready { IsPooled station.now task.old }
     requires bare { held task.old.log ≡ [] }
@@ -227,7 +228,7 @@ fn await_go<R: Wait>(rt: &R, station: &Station, task: &mut Task)
 }
 
 // Calls the manager, and waits for its answer.
-fn call<R: Wait>(rt: &R, station: &Station, task: &mut Task, code: u32)
+fn call<R: Wait + Clock>(rt: &R, station: &Station, task: &mut Task, code: u32)
     requires worker { task.old.number < 3 }
     requires code { code < 3 }
     requires ready { IsPooled station.now task.old }
@@ -247,7 +248,7 @@ fn call<R: Wait>(rt: &R, station: &Station, task: &mut Task, code: u32)
 // ---- a worker
 
 // Tries once to work a shift, and waits if no permit is free. Returns whether it worked, or nothing if the permit was not given back.
-fn try_shift<R: Wait>(rt: &R, station: &Station, task: &mut Task) -> Option<bool>
+fn try_shift<R: Wait + Clock>(rt: &R, station: &Station, task: &mut Task) -> Option<bool>
     requires worker { task.old.number < 3 }
     requires none { has_permit task.old.log ≡ false }
     requires ready { IsPooled station.now task.old }
@@ -272,7 +273,13 @@ fn try_shift<R: Wait>(rt: &R, station: &Station, task: &mut Task) -> Option<bool
 }
 
 // Works `shifts` shifts by at most `tries` tries. Returns how many it worked.
-fn work_shifts<R: Wait>(rt: &R, station: &Station, task: &mut Task, shifts: u32, tries: u32) -> u32
+fn work_shifts<R: Wait + Clock>(
+    rt: &R,
+    station: &Station,
+    task: &mut Task,
+    shifts: u32,
+    tries: u32,
+) -> u32
     requires worker { task.old.number < 3 }
     requires none { has_permit task.old.log ≡ false }
     requires ready { IsPooled station.now task.old }
@@ -314,7 +321,7 @@ fn first_call(found: &[WaitSlot; WORKERS as usize]) -> Option<(u32, u32)>
 }
 
 // Waits for the next call, and takes it.
-fn next_call<R: Wait>(rt: &R, station: &Station, task: &mut Task) -> Option<(u32, u32)>
+fn next_call<R: Wait + Clock>(rt: &R, station: &Station, task: &mut Task) -> Option<(u32, u32)>
     requires ready { IsPooled station.now task.old }
     requires bare { held task.old.log ≡ [] }
     requires left { 7 ≤ task.old.left }
@@ -418,7 +425,7 @@ fn is_free(station: &Station, task: &mut Task) -> bool
 }
 
 // Answers calls, this many at most, until all workers have left.
-fn manage<R: Wait>(rt: &R, station: &Station, task: &mut Task, calls: u32)
+fn manage<R: Wait + Clock>(rt: &R, station: &Station, task: &mut Task, calls: u32)
     requires ready { IsPooled station.now task.old }
     requires bare { held task.old.log ≡ [] }
     requires left { 9 * calls ≤ task.old.left }
@@ -459,7 +466,7 @@ impl Work for Pool {
     ghost has_done = { λ p b k old t new. HasDone k t.log new };
 
     #[tactic(auto, using(mv_ordered::proofs::Calls::new_keeps_discipline))]
-    fn work<R: Wait>(&self, rt: &R, station: &Station, task: &mut Task, shifts: &mut u32) {
+    fn work<R: Wait + Clock>(&self, rt: &R, station: &Station, task: &mut Task, shifts: &mut u32) {
         if task.number() < WORKERS {
             *shifts = work_shifts(rt, station, task, self.shifts, self.tries);
         } else {
@@ -474,7 +481,7 @@ impl Work for Pool {
 /// # Errors
 ///
 /// `NoMemory` if memory runs out, before the tasks start.
-pub fn share<R: Threads + Wait + Sync>(
+pub fn share<R: Threads + Wait + Clock + Sync>(
     rt: &R,
     alloc: Global,
     shifts: u32,
