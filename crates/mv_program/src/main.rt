@@ -10,7 +10,7 @@ mod texts;
 
 pub use laws::{decks_do_not_deadlock, runs_are_legal};
 pub use mv_task::{Gate, OpenGate, Point};
-pub use program::run_program;
+pub use program::{Host, run_program};
 pub use status::Status;
 
 #[cfg(test)]
@@ -47,15 +47,18 @@ fn main(rt: HostRuntime) -> ExitCode {
         // Arguments that are not text are no command.
         Err(_) => Vec::new(rt.alloc()),
     };
+    let host = Host {
+        rt: &rt,
+        alloc: rt.alloc(),
+        gate: &OpenGate,
+    };
     let status = run_program(
-        &rt,
-        rt.alloc(),
+        &host,
         &words,
         &mut input,
         &mut report,
         &mut journal,
         &mut notes,
-        &OpenGate,
     );
     ExitCode::from(status.exit())
 }

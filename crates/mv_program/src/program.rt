@@ -24,6 +24,17 @@ use std::sync::Wait;
 use std::thread::Threads;
 use std::time::Clock;
 
+/// What the program runs on.
+#[derive(Drop)]
+pub struct Host<'a, X, G> {
+    /// The machine that starts its threads.
+    pub rt: &'a X,
+    /// Where its memory comes from.
+    pub alloc: Global,
+    /// The gate that the tasks of a deck pass, if each has a thread of its own.
+    pub gate: &'a G,
+}
+
 // Judges the journal of the input, and tells how it ended.
 fn judge<D: Source, R: Sink, N: Sink>(
     alloc: Global,
@@ -68,7 +79,8 @@ fn judge<D: Source, R: Sink, N: Sink>(
 /// # Example
 ///
 /// ```
-/// let status = run_program(rt, alloc, &words, &mut input, &mut report, &mut journal, &mut notes, &OpenGate);
+/// let host = Host { rt, alloc, gate: &OpenGate };
+/// let status = run_program(&host, &words, &mut input, &mut report, &mut journal, &mut notes);
 /// ExitCode::from(status.exit())
 /// ```
 pub fn run_program<
@@ -79,14 +91,12 @@ pub fn run_program<
     N: Sink,
     G: Gate + Sync,
 >(
-    rt: &X,
-    alloc: Global,
+    host: &Host<'_, X, G>,
     words: &[String],
     input: &mut D,
     report: &mut R,
     journal: &mut K,
     notes: &mut N,
-    gate: &G,
 ) -> Status
     // Why a run ends as it does.
     ensures words { result ≡ Status.Words ↔ (command_by_words (map string_bytes words.now) ≡ None) }
@@ -125,8 +135,10 @@ pub fn run_program<
 {
     let status = match command_of(words) {
         None => Status::Words,
-        Some(Command::Journal(command)) => return judge(alloc, command, input, report, notes),
-        Some(command) => run(rt, alloc, command, input, report, journal, gate),
+        Some(Command::Journal(command)) => {
+            return judge(host.alloc, command, input, report, notes);
+        }
+        Some(command) => run(host, command, input, report, journal),
     };
     tell(notes, note_of(status));
     status

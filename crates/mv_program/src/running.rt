@@ -10,6 +10,7 @@ ghost use Rattle.mv_program.specs.Program.{extent_of, has_journal, reads_input};
 ghost use Rattle.mv_program.specs.Texts.{deck_limit};
 
 use crate::command::Command;
+use crate::program::Host;
 use crate::status::Status;
 use crate::texts::{Texts, Way, texts_of, texts_of_load, texts_of_script};
 use mv_io::{Sink, Source, read_limited, write_all};
@@ -43,11 +44,9 @@ fn read_text<D: Source>(alloc: Global, command: Command, input: &mut D) -> Resul
 
 // The texts that a command tells of the text that it read, or why it has none.
 fn texts_told<X: Threads + Wait + Clock + Sync, G: Gate + Sync>(
-    rt: &X,
-    alloc: Global,
+    host: &Host<'_, X, G>,
     command: Command,
     text: &[u8],
-    gate: &G,
 ) -> Result<Texts, Status>
     requires runs { has_journal command ≡ true }
     requires runnable { IsRunnable command }
@@ -57,12 +56,10 @@ fn texts_told<X: Threads + Wait + Clock + Sync, G: Gate + Sync>(
     ensures refused { IfErr result (λ status. IsRefused command text.now status) }
 {
     let texts = match command {
-        Command::Spool(initiators) => texts_of(rt, alloc, text, initiators, Way::Threads, gate)?,
-        Command::Polled(initiators, seed) => {
-            texts_of(rt, alloc, text, initiators, Way::Polled(seed), gate)?
-        }
-        Command::Load(jobs, initiators) => texts_of_load(rt, alloc, jobs, initiators, gate)?,
-        Command::Script => texts_of_script(rt, alloc, text)?,
+        Command::Spool(initiators) => texts_of(host, text, initiators, Way::Threads)?,
+        Command::Polled(initiators, seed) => texts_of(host, text, initiators, Way::Polled(seed))?,
+        Command::Load(jobs, initiators) => texts_of_load(host, jobs, initiators)?,
+        Command::Script => texts_of_script(host.rt, host.alloc, text)?,
         // This runs nothing.
         Command::Journal(_) => unreachable!(),
     };
@@ -94,13 +91,11 @@ fn write_texts<R: Sink, K: Sink>(report: &mut R, journal: &mut K, texts: Texts) 
 
 /// Runs what a command asks, and writes its report and its journal. The words of the command are not asked again.
 pub(crate) fn run<X: Threads + Wait + Clock + Sync, D: Source, R: Sink, K: Sink, G: Gate + Sync>(
-    rt: &X,
-    alloc: Global,
+    host: &Host<'_, X, G>,
     command: Command,
     input: &mut D,
     report: &mut R,
     journal: &mut K,
-    gate: &G,
 ) -> Status
     requires runs { has_journal command ≡ true }
     requires runnable { IsRunnable command }
@@ -117,11 +112,11 @@ pub(crate) fn run<X: Threads + Wait + Clock + Sync, D: Source, R: Sink, K: Sink,
     ensures counts { (D.faults input.old ≤ D.faults input.new) × (R.faults report.old ≤ R.faults report.new)
         × (K.faults journal.old ≤ K.faults journal.new) }
 {
-    let text = match read_text(alloc, command, input) {
+    let text = match read_text(host.alloc, command, input) {
         Ok(text) => text,
         Err(status) => return status,
     };
-    match texts_told(rt, alloc, command, &text, gate) {
+    match texts_told(host, command, &text) {
         Ok(texts) => write_texts(report, journal, texts),
         Err(status) => status,
     }

@@ -344,15 +344,18 @@ fn run_by<X: Abort + AllocGlobal + Threads + Wait + Clock + Sync, G: Gate + Sync
     let Ok(words) = words_of(rt.alloc(), text) else {
         panic!(rt; "no memory for words")
     };
-    run_program(
+    let host = Host {
         rt,
-        rt.alloc(),
+        alloc: rt.alloc(),
+        gate,
+    };
+    run_program(
+        &host,
         &words,
         &mut on.input,
         &mut on.report,
         &mut on.journal,
         &mut on.notes,
-        gate,
     )
 }
 

@@ -19,6 +19,7 @@ ghost use Rattle.mv_script.specs.Sound.{IsSound as IsSoundScript};
 ghost use Rattle.mv_program.specs.Program.{IsRefusedDeck, IsRefusedScript};
 ghost use Rattle.mv_program.specs.Texts.{report_of, IsJournalOfRun, IsRunOfScript, deck_limit};
 
+use crate::program::Host;
 use crate::status::Status;
 use mv_deck::{Deck, load_deck, read_deck};
 use mv_entrytext::HistoryText;
@@ -52,12 +53,10 @@ pub(crate) enum Way {
 
 // Runs the deck. The gate is for tasks on threads alone.
 fn run_of<X: Threads + Wait + Clock + Sync, G: Gate + Sync>(
-    rt: &X,
-    alloc: Global,
+    host: &Host<'_, X, G>,
     deck: &Deck,
     initiators: u32,
     way: Way,
-    gate: &G,
 ) -> Result<SpoolRun, NoMemory>
     requires some { 1 ≤ initiators }
     requires few { initiators ≤ most_initiators }
@@ -72,22 +71,20 @@ fn run_of<X: Threads + Wait + Clock + Sync, G: Gate + Sync>(
     ensures volumes { IfOk result (λ run. run.volumes.items ≡ totals (deck_data deck.now)) }
 {
     match way {
-        Way::Threads => run_deck(rt, alloc, deck, initiators, gate),
+        Way::Threads => run_deck(host.rt, host.alloc, deck, initiators, host.gate),
         Way::Polled(seed) => {
             let mut order = RoundOrder::new(seed);
-            run_polled(rt, alloc, deck, initiators, &mut order)
+            run_polled(host.rt, host.alloc, deck, initiators, &mut order)
         }
     }
 }
 
 // The texts of a run of this deck.
 fn texts_of_deck<X: Threads + Wait + Clock + Sync, G: Gate + Sync>(
-    rt: &X,
-    alloc: Global,
+    host: &Host<'_, X, G>,
     deck: &Deck,
     initiators: u32,
     way: Way,
-    gate: &G,
 ) -> Result<Texts, NoMemory>
     requires some { 1 ≤ initiators }
     requires few { initiators ≤ most_initiators }
@@ -95,20 +92,18 @@ fn texts_of_deck<X: Threads + Wait + Clock + Sync, G: Gate + Sync>(
     ensures report { IfOk result (λ texts. texts.report.items ≡ report (deck_data deck.now)) }
     ensures journal { IfOk result (λ texts. IsJournalOfRun (deck_data deck.now) initiators texts.journal) }
 {
-    let run = run_of(rt, alloc, deck, initiators, way, gate)?;
-    let report = write_report(alloc, deck, &run.ends, &run.lines, &run.volumes)?;
-    let journal = HistoryText::open(alloc, run.history)?;
+    let run = run_of(host, deck, initiators, way)?;
+    let report = write_report(host.alloc, deck, &run.ends, &run.lines, &run.volumes)?;
+    let journal = HistoryText::open(host.alloc, run.history)?;
     Ok(Texts { report, journal })
 }
 
 /// The texts of a run of the deck that the input states, by so many initiators.
 pub(crate) fn texts_of<X: Threads + Wait + Clock + Sync, G: Gate + Sync>(
-    rt: &X,
-    alloc: Global,
+    host: &Host<'_, X, G>,
     input: &[u8],
     initiators: u32,
     way: Way,
-    gate: &G,
 ) -> Result<Texts, Status>
     requires short { length input.now ≤ deck_limit }
     requires initiators { (1 ≤ initiators) × (initiators ≤ most_initiators) }
@@ -117,11 +112,11 @@ pub(crate) fn texts_of<X: Threads + Wait + Clock + Sync, G: Gate + Sync>(
     ensures run { IfOk result (λ texts. IsJournalOfRun (deck_of input.now) initiators texts.journal) }
     ensures refused { IfErr result (λ status. IsRefusedDeck initiators input.now status) }
 {
-    let deck = match read_deck(alloc, input, initiators) {
+    let deck = match read_deck(host.alloc, input, initiators) {
         Ok(deck) => deck,
         Err(refusal) => return Err(Status::Deck(refusal.fault()?)),
     };
-    let texts = texts_of_deck(rt, alloc, &deck, initiators, way, gate)?;
+    let texts = texts_of_deck(host, &deck, initiators, way)?;
     Ok(texts)
 }
 
@@ -144,21 +139,19 @@ fn deck_of_load(alloc: Global, jobs: u32, initiators: u32) -> Result<Deck, NoMem
 
 /// The summary of a load of so many jobs, and the journal of its run by so many initiators.
 pub(crate) fn texts_of_load<X: Threads + Wait + Clock + Sync, G: Gate + Sync>(
-    rt: &X,
-    alloc: Global,
+    host: &Host<'_, X, G>,
     jobs: u32,
     initiators: u32,
-    gate: &G,
 ) -> Result<Texts, NoMemory>
     requires jobs { AreJobs jobs }
     requires initiators { AreInitiators initiators }
     ensures report { IfOk result (λ texts. texts.report.items ≡ load_summary jobs initiators) }
     ensures run { IfOk result (λ texts. IsJournalOfRun (deck_of (load_text jobs)) initiators texts.journal) }
 {
-    let deck = deck_of_load(alloc, jobs, initiators)?;
-    let run = run_deck(rt, alloc, &deck, initiators, gate)?;
-    let report = write_summary(alloc, jobs, initiators, &run.ends, &run.volumes)?;
-    let journal = HistoryText::open(alloc, run.history)?;
+    let deck = deck_of_load(host.alloc, jobs, initiators)?;
+    let run = run_deck(host.rt, host.alloc, &deck, initiators, host.gate)?;
+    let report = write_summary(host.alloc, jobs, initiators, &run.ends, &run.volumes)?;
+    let journal = HistoryText::open(host.alloc, run.history)?;
     Ok(Texts { report, journal })
 }
 
