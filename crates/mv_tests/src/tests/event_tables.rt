@@ -8,7 +8,8 @@ ghost use Rattle.mv_calls.specs.Rest.{IsAtRest};
 ghost use Rattle.mv_calls.specs.Table.{IsSoundTable};
 
 use mv_events::{
-    Event, EventAnswer, NextRefusal, PostEventRefusal, Table, ValidTable, next_event, post_event,
+    Event, EventAnswer, NextRefusal, PostEventRefusal, Table, TableRefusal, ValidTable, next_event,
+    post_event,
 };
 use mv_machine::Config;
 use mv_wait::{Station, Task};
@@ -130,6 +131,17 @@ fn break_a_table<R: Abort + Wait + Clock>(rt: &R, station: &Station, task: &mut 
 fn what_others_did_to_the_table_is_told(rt: HostRuntime) {
     let (station, mut task) = open(&rt, rt.alloc());
     break_a_table(&rt, &station, &mut task);
+    end(station, task);
+}
+
+// A TABLE statement has no number for a volume that its configuration lacks, so no script is refused so.
+#[test]
+fn a_table_of_no_volume_is_refused(rt: HostRuntime) {
+    let (station, task) = open(&rt, rt.alloc());
+    let mut other = TABLE;
+    other.volume = 1;
+    let checked = other.check(station.config());
+    assert!(rt; matches!(checked, Err(TableRefusal::BadVolume)));
     end(station, task);
 }
 
