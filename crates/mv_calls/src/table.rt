@@ -79,7 +79,8 @@ impl ValidTable {
 
     /// The table that was checked.
     pub fn table(&self) -> &Table
-        ensures { result.now ≡ self.now }
+        ensures table { result.now ≡ self.now }
+        ensures few { self.now.size ≤ table_limit }
     {
         &self.table
     }
@@ -88,7 +89,6 @@ impl ValidTable {
     pub fn event_ecb(&self, index: u32) -> u32
         requires { index < self.now.size }
         ensures block { result ≡ event_block self.now index }
-        ensures few { self.now.size ≤ table_limit }
     {
         self.table.events + index
     }
@@ -97,7 +97,6 @@ impl ValidTable {
     pub fn slot_ecb(&self, position: u32) -> u32
         requires { position < self.now.size }
         ensures block { result ≡ slot_block self.now position }
-        ensures few { self.now.size ≤ table_limit }
     {
         self.table.slots + position
     }
