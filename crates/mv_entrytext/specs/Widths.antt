@@ -5,6 +5,14 @@ use Rattle.std.specs.Prelude.{ℕ}
 abbrev pub number_width : ℕ
 number_width = 20
 
+-- a number of fewer digits fits eight bytes, whatever its digits are
+abbrev pub short_width : ℕ
+short_width = 18
+
+-- the first number of more than eight digits
+abbrev pub long_number : ℕ
+long_number = 100000000
+
 -- an object: a letter, and its number
 abbrev pub object_width : ℕ
 object_width = 21

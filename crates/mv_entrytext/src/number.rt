@@ -4,6 +4,7 @@ ghost use Rattle.std.specs.Prelude.{◌≡◌, ◌≤◌, ◌<◌, ◌++◌, OnO
 ghost use Rattle.std.specs.Prelude.{nat_eq, option_map, Bool, Some, decimal, take, length};
 ghost use Rattle.std.specs.List.{starts_with};
 ghost use Rattle.mv_line.specs.Number.{is_number, number_of, value_behind, within};
+ghost use Rattle.mv_entrytext.specs.Widths.{short_width};
 ghost use Rattle.mv_entrytext.specs.Words.{◌<+>◌};
 ghost use Rattle.mv_entrytext.specs.Reading.{seen, after, behind, digit_count, number as number_at, any_u32, any_u64, parted};
 
@@ -179,7 +180,7 @@ fn number(strict: bool, low: u64, high: u64, text: &[u8]) -> Option<(u64, &[u8])
     any_number(strict, low, high, text)
 }
 
-// A number within these bounds of fewer than `FEW` digits, with no leading zero. All readers take it so.
+// A number within these bounds of fewer than `SHORT_WIDTH` digits, with no leading zero. All readers take it so.
 #[inline(always)]
 #[tactic(auto, unfolding(crate::specs::Reading::number))]
 fn plain_number(low: u64, high: u64, text: &[u8]) -> Option<(u64, &[u8])>
@@ -187,7 +188,7 @@ fn plain_number(low: u64, high: u64, text: &[u8]) -> Option<(u64, &[u8])>
     ensures bound { IfSome result (λ x. x.0 ≤ high) }
 {
     let (count, value) = leading_digits(text);
-    if count == 0 || count >= FEW {
+    if count == 0 || count >= SHORT_WIDTH {
         return None;
     }
     let value = short_number_within(low, high, text, count, value)?;
@@ -213,17 +214,21 @@ fn any_number(strict: bool, low: u64, high: u64, text: &[u8]) -> Option<(u64, &[
     }
 }
 
-// What so many digits show fits eight bytes.
-const FEW: usize = 18;
+// What fewer digits show fits eight bytes.
+const SHORT_WIDTH: usize = 18;
 
-// How many digits a text begins with, up to `FEW`, and what they show, in one pass. Where they are not fewer there may be more.
+// How many digits a text begins with, up to `SHORT_WIDTH`, and what they show, in one pass. Where they are not fewer there may be more.
 #[inline(always)]
 fn leading_digits(text: &[u8]) -> (usize, u64)
     ensures within { result.0 ≤ length text.now }
     ensures value { result.1 ≡ value_behind 0 (take result.0 text.now) }
-    ensures count { result.0 < 18 → result.0 ≡ digit_count text.now }
+    ensures count { result.0 < short_width → result.0 ≡ digit_count text.now }
 {
-    let most = if text.len() < FEW { text.len() } else { FEW };
+    let most = if text.len() < SHORT_WIDTH {
+        text.len()
+    } else {
+        SHORT_WIDTH
+    };
     let mut count = 0;
     let mut value = 0;
     while count < most && text[count].is_ascii_digit() {

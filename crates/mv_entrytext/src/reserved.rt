@@ -2,13 +2,16 @@
 
 ghost use Rattle.std.specs.Prelude.{◌≡◌, ◌≤◌, ◌<◌, ◌+◌, ◌/◌, ◌%◌, [], ◌∷◌, ◌++◌, decimal, length, vec_len, vec_capacity};
 ghost use Rattle.mv_entrytext.specs.Words.{◌<+>◌};
-ghost use Rattle.mv_entrytext.specs.Widths.{number_width};
+ghost use Rattle.mv_entrytext.specs.Widths.{number_width, long_number};
 
 use itoa::Buffer;
 use std::mem::replace;
 
 /// The digits of a number of eight bytes.
 pub(crate) const NUMBER_WIDTH: usize = 20;
+
+// The first number of more than eight digits.
+const LONG_NUMBER: u64 = 100_000_000;
 
 /// An entry's line with its LF takes no more bytes.
 pub(crate) const LINE_WIDTH: usize = 220;
@@ -71,7 +74,7 @@ pub(crate) fn put_digits(out: &mut Vec<u8>, number: u64)
 {
     if number < 10_000 {
         put_short(out, number);
-    } else if number < 100_000_000 {
+    } else if number < LONG_NUMBER {
         put_short(out, number / 10_000);
         put_four(out, number % 10_000);
     } else {
@@ -82,7 +85,7 @@ pub(crate) fn put_digits(out: &mut Vec<u8>, number: u64)
 // A number of more digits. The text is handed over and back, so that at all other numbers its length stays in a register.
 #[inline(always)]
 fn put_long(out: &mut Vec<u8>, number: u64)
-    requires long { 100000000 ≤ number }
+    requires long { long_number ≤ number }
     requires room { vec_len out.old + number_width ≤ vec_capacity out.old }
     ensures text { out.new.items ≡ out.old.items ++ decimal number }
     ensures within { vec_len out.new ≤ vec_len out.old + number_width }
@@ -96,7 +99,7 @@ fn put_long(out: &mut Vec<u8>, number: u64)
 #[cold]
 #[inline(never)]
 fn with_digits(out: Vec<u8>, number: u64) -> Vec<u8>
-    requires long { 100000000 ≤ number }
+    requires long { long_number ≤ number }
     requires room { vec_len out + number_width ≤ vec_capacity out }
     ensures text { result.items ≡ out.items ++ decimal number }
     ensures within { vec_len result ≤ vec_len out + number_width }
@@ -104,7 +107,7 @@ fn with_digits(out: Vec<u8>, number: u64) -> Vec<u8>
 {
     let mut out = out;
     if number < 1_000_000_000_000 {
-        put_short(&mut out, number / 100_000_000);
+        put_short(&mut out, number / LONG_NUMBER);
         put_four(&mut out, number / 10_000 % 10_000);
         put_four(&mut out, number % 10_000);
     } else {

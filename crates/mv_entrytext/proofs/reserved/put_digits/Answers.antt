@@ -3,11 +3,11 @@ use Rattle.std.proofs.Common.{arith, append_assoc}
 use Rattle.itoa.proofs.Decimal.{decimal_four}
 use Rattle.mv_entrytext.proofs.reserved.put_digits.Goals as goal
 
-pub returns-then-number-lt100000000-clause-text : goal.returns-then-number-lt100000000-clause-text
-returns-then-number-lt100000000-clause-text c =
+pub returns-then-number-lt-LONG_NUMBER-clause-text : goal.returns-then-number-lt-LONG_NUMBER-clause-text
+returns-then-number-lt-LONG_NUMBER-clause-text c =
     rw (
       c.put_four.ensures.text,
-      c.put_short-then-number-lt100000000.ensures.text,
+      c.put_short-then-number-lt-LONG_NUMBER.ensures.text,
       decimal_four c.args.number c.if-number-lt10000.false (omega arith),
       append_assoc,
     )
