@@ -43,10 +43,11 @@ fn linger() {
     }
 }
 
-// Tasks with these budgets, two elements each, eight latches, blocks of these owners, and these exits.
+// Tasks with this posted quota and these budgets, two elements each, eight latches, blocks of these owners, and these exits.
 fn setup(
     rt: &impl Abort,
     alloc: Global,
+    posted_quota: u32,
     budgets: Vec<u32>,
     owners: Vec<u32>,
     exits: Vec<Exit>,
@@ -60,7 +61,7 @@ fn setup(
         volumes: 1,
         latches: 8,
         quota: 8,
-        posted_quota: 1,
+        posted_quota,
         budgets,
         owners,
         exits,
@@ -72,6 +73,7 @@ fn setup(
 fn open(
     rt: &impl Abort,
     alloc: Global,
+    posted_quota: u32,
     first: u32,
     second: u32,
     owners: Vec<u32>,
@@ -82,7 +84,7 @@ fn open(
     ensures second { IsOf result.0 result.2 × (result.2.number ≡ 1) × IsAtRest result.2.log }
 {
     let budgets = vec![in alloc; first, second].expect(rt, "room for two budgets");
-    let config = setup(rt, alloc, budgets, owners, exits);
+    let config = setup(rt, alloc, posted_quota, budgets, owners, exits);
     let (station, mut tasks) = Station::open(alloc, config).expect(rt, "memory for a station");
     let second = station.take_last(&mut tasks);
     let first = station.take_last(&mut tasks);

@@ -17,14 +17,28 @@ use std::sync::Wait;
 use std::thread::{self, Threads, join};
 use std::time::{Clock, Duration};
 
-// A new station of two tasks with these budgets, and one block, of the second.
-fn open_two(rt: &impl Abort, alloc: Global, first: u32, second: u32) -> (Station, Task, Task)
+// A new station of two tasks with this posted quota and these budgets, and one block, of the second.
+fn open_two(
+    rt: &impl Abort,
+    alloc: Global,
+    posted_quota: u32,
+    first: u32,
+    second: u32,
+) -> (Station, Task, Task)
     ensures callers { result.0.config.callers ≡ 2 }
     ensures first { IsOf result.0 result.1 × (result.1.number ≡ 0) × IsAtRest result.1.log }
     ensures second { IsOf result.0 result.2 × (result.2.number ≡ 1) × IsAtRest result.2.log }
 {
     let owners = vec![in alloc; 1].expect(rt, "room for an owner");
-    open(rt, alloc, first, second, owners, Vec::new(alloc))
+    open(
+        rt,
+        alloc,
+        posted_quota,
+        first,
+        second,
+        owners,
+        Vec::new(alloc),
+    )
 }
 
 // ---- the calls
@@ -98,7 +112,7 @@ fn take_three<R: Abort + Wait + Clock>(rt: &R, worker: &mut Worker<'_>) {
 
 #[test]
 fn a_token_has_the_key_of_its_record(rt: HostRuntime) {
-    let (station, task, other) = open_two(&rt, rt.alloc(), 100, 0);
+    let (station, task, other) = open_two(&rt, rt.alloc(), 0, 100, 0);
     let mut worker = Worker::new(&station, task);
     take_three(&rt, &mut worker);
     let task = worker.back();
@@ -142,7 +156,7 @@ fn obtain_behind_a_post<R: Abort + Wait + Clock>(rt: &R, worker: &mut Worker<'_>
 
 #[test]
 fn a_request_is_purged_while_its_task_waits(rt: HostRuntime) {
-    let (station, holder, waiter) = open_two(&rt, rt.alloc(), 200_100, 100);
+    let (station, holder, waiter) = open_two(&rt, rt.alloc(), 0, 200_100, 100);
     let mut holder = Worker::new(&station, holder);
     let mut waiter = Worker::new(&station, waiter);
     let held = take(&rt, &mut holder, 0, 1, LatchForm::Conditional);
@@ -258,7 +272,7 @@ fn judge(rt: &impl Abort, alloc: Global, station: Station, first: Task, second: 
 // Two threads try for one latch.
 #[test]
 fn two_threads_contend_for_one_latch(rt: HostRuntime) {
-    let (station, first, second) = open_two(&rt, rt.alloc(), 2100, 2100);
+    let (station, first, second) = open_two(&rt, rt.alloc(), 0, 2100, 2100);
     let (first, second) = join(
         &rt,
         || try_often(&rt, &station, first, 1, 1000),
@@ -283,7 +297,7 @@ fn contend<R: Abort + Wait + Clock + Threads + Sync>(
     ensures second { IsOf result.0 result.2 × (result.2.number ≡ 1) }
 {
     let budget = 5 * times + 100;
-    let (station, first, second) = open_two(rt, alloc, budget, budget);
+    let (station, first, second) = open_two(rt, alloc, 1, budget, budget);
     let (first, second) = join(
         rt,
         || take_often(rt, &station, first, 1, LatchForm::Waiting, times),
@@ -303,7 +317,7 @@ fn one_task_takes_a_latch_beside_one_that_is_posted_for_it(rt: HostRuntime) {
 // Takes a free latch and gives it back, with two events each time.
 #[test]
 fn a_free_latch_is_taken_and_given_back(rt: HostRuntime) {
-    let (station, task, other) = open_two(&rt, rt.alloc(), 50_010, 0);
+    let (station, task, other) = open_two(&rt, rt.alloc(), 0, 50_010, 0);
     let task = take_often(&rt, &station, task, 1, LatchForm::Waiting, 25_000);
     assert!(rt; task.log().len() == 50_000);
     end(station, task, other);

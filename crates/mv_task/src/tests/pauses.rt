@@ -28,7 +28,15 @@ fn open_two(rt: &impl Abort, alloc: Global, budget: u32) -> (Station, Task, Task
     ensures first { IsOf result.0 result.1 × IsAtRest result.1.log }
     ensures second { IsOf result.0 result.2 × IsAtRest result.2.log }
 {
-    open(rt, alloc, budget, budget, Vec::new(alloc), Vec::new(alloc))
+    open(
+        rt,
+        alloc,
+        0,
+        budget,
+        budget,
+        Vec::new(alloc),
+        Vec::new(alloc),
+    )
 }
 
 // A task that has taken its first element in use, which is this one.

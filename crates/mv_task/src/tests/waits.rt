@@ -105,7 +105,7 @@ fn open_two(rt: &impl Abort, alloc: Global, first: u32, second: u32) -> (Station
     ensures second { IsOf result.0 result.2 × IsAtRest result.2.log }
 {
     let owners = vec![in alloc; 0, 1].expect(rt, "room for two owners");
-    open(rt, alloc, first, second, owners, Vec::new(alloc))
+    open(rt, alloc, 0, first, second, owners, Vec::new(alloc))
 }
 
 #[test]
@@ -191,7 +191,7 @@ fn open_three(rt: &impl Abort, alloc: Global, budget: u32) -> (Station, Task, Ta
 {
     let budgets = vec![in alloc; budget, budget, budget].expect(rt, "room for three budgets");
     let owners = vec![in alloc; 0].expect(rt, "room for an owner");
-    let config = setup(rt, alloc, budgets, owners, Vec::new(alloc));
+    let config = setup(rt, alloc, 0, budgets, owners, Vec::new(alloc));
     let (station, mut tasks) = Station::open(alloc, config).expect(rt, "memory for a station");
     let third = station.take_last(&mut tasks);
     let second = station.take_last(&mut tasks);
