@@ -38,7 +38,7 @@ fn open_chain(rt: &impl Abort, alloc: Global, exits: u32) -> (Station, Task, Tas
 {
     let owners = vec![in alloc; 0u32; exits as usize + 1].expect(rt, "room for owners");
     let exits = chain(alloc, exits).expect(rt, "room for exits");
-    open(rt, alloc, 4000, 0, owners, exits)
+    open(rt, alloc, 0, 4000, 0, owners, exits)
 }
 
 // Extends an own block with an exit.
@@ -163,7 +163,7 @@ fn open_exit(rt: &impl Abort, alloc: Global) -> (Station, Task, Task)
     };
     let exits = vec![in alloc; exit].expect(rt, "room for an exit");
     let owners = vec![in alloc; 0, 1, 0].expect(rt, "room for owners");
-    open(rt, alloc, 700, 400, owners, exits)
+    open(rt, alloc, 0, 700, 400, owners, exits)
 }
 
 #[test]
@@ -363,7 +363,7 @@ fn wait_for_many<R: Abort + Wait + Clock + Threads + Sync>(rt: &R, alloc: Global
     requires { blocks < 2 ^ 16 }
 {
     let owners = vec![in alloc; 0u32; blocks as usize].expect(rt, "room for owners");
-    let (station, first, second) = open(rt, alloc, 2 * blocks, blocks, owners, Vec::new(alloc));
+    let (station, first, second) = open(rt, alloc, 0, 2 * blocks, blocks, owners, Vec::new(alloc));
     let mut first = Worker::new(&station, first);
     let mut second = Worker::new(&station, second);
     join(
