@@ -30,4 +30,4 @@ pub use mv_line::{TextFault, TextRefusal};
 pub use reader::{EntryReader, OpenJournal, open_journal};
 pub use reading::{Journal, read_journal};
 pub use version::Version;
-pub use writing::{JournalWriter, write_journal, write_old_journal};
+pub use writing::{JournalWriter, push_entry_line, write_journal, write_old_journal};

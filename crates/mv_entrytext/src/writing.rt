@@ -204,7 +204,12 @@ pub(crate) fn put_end_line(out: &mut Vec<u8>, count: u64)
     put_word(out, b"\n");
 }
 
-fn push_entry_line(out: &mut Vec<u8>, call: Option<u32>, entry: &Entry) -> Result<(), NoMemory>
+/// Appends the line of an entry with its LF, and with the number of its call, if it is given.
+///
+/// # Errors
+///
+/// `NoMemory` if there is no room for the line.
+pub fn push_entry_line(out: &mut Vec<u8>, call: Option<u32>, entry: &Entry) -> Result<(), NoMemory>
     ensures text { OnOk result (out.new.items ≡ out.old.items ++ line (EntryOf call entry.now)) }
     ensures typed { OnOk result (IsTyped entry.now) }
 {
