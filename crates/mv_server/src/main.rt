@@ -11,6 +11,7 @@ use std::alloc::Global;
 use std::io::{self, Print};
 use std::sync::Wait;
 use std::thread::Threads;
+use std::time::Clock;
 
 // What is asked: how many days so many weeks have.
 const REQUESTS: [u32; 8] = [2, 7, 1, 8, 28, 18, 28, 52];
@@ -25,7 +26,7 @@ fn tell_answers(rt: &impl Print, answers: &[u32]) -> io::Result<()> {
     Ok(())
 }
 
-fn tell_rounds<R: Print + Threads + Wait + Sync>(rt: &R, alloc: Global) -> io::Result<()> {
+fn tell_rounds<R: Print + Threads + Wait + Clock + Sync>(rt: &R, alloc: Global) -> io::Result<()> {
     let answers = serve_in_rounds(rt, alloc, &REQUESTS, ROUND)?;
     println!(rt; "IN ROUNDS OF {ROUND} {answers:?}")?;
     Ok(())

@@ -189,7 +189,7 @@ fn take_after_a_post<R: Abort + Wait + Clock>(rt: &R, worker: &mut Worker<'_>) {
 
 #[test]
 fn a_task_that_parked_for_a_latch_is_woken_at_its_grant(rt: HostRuntime) {
-    let (station, waiter, holder) = open_two(&rt, rt.alloc(), 100, 100);
+    let (station, waiter, holder) = open_two(&rt, rt.alloc(), 0, 100, 100);
     let mut holder = Worker::new(&station, holder);
     let mut waiter = Worker::new(&station, waiter);
     let held = take(&rt, &mut holder, 0, 1, LatchForm::Conditional);
