@@ -27,7 +27,7 @@ use std::time::Clock;
 /// What the program runs on.
 #[derive(Drop)]
 pub struct Host<'a, X, G> {
-    /// The machine that starts its threads.
+    /// The runtime, which starts the threads.
     pub rt: &'a X,
     /// Where its memory comes from.
     pub alloc: Global,
