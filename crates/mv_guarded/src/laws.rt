@@ -12,8 +12,9 @@ ghost use Rattle.mv_calls.specs.Sections.{HasGrant, IsHolder, IsGuarded, is_writ
 ghost use Rattle.mv_ordered.specs.WaitChain.{HoldsAt};
 ghost use Rattle.mv_guarded.specs.Guarded.{HoldsLatch, GuardsVolume, LeavesVolume, HasRead, IsOnlyWriter, value, value_from, AreAlone};
 
-/// In a history in which every caller guards a volume by a latch, a caller that was granted the latch holds it, and what it reads in a
-/// section of the latch the volume still has later in that section: no other caller writes it there.
+/// In a history in which every caller guards a volume by a latch, a caller that was granted a latch holds it, and the volume is written
+/// only under its latch. What a caller read in a section of the latch the volume still has, as long as the caller's own events since then
+/// are on volumes and do not write it.
 pub fn sections_see_one_number()
     // By its own log a caller was granted a request that still stands: so it holds that latch.
     ensures grant { (c : Setup) (es before later : List Entry) (latch n k : ℕ) (t : StandingRequest) → GuardsVolume c es latch n

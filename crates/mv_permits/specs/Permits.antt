@@ -85,6 +85,6 @@ at_work es = one (has_permit (of 0 es)) + one (has_permit (of 1 es)) + one (has_
 abbrev pub IsBounded : List Entry → Type 0
 IsBounded es = (before later : List Entry) → es ≡ before ++ later → at_work before ≤ permits
 
--- at each moment the volume has their number
+-- at each moment the volume has the number of the permits that are out
 abbrev pub IsCounted : Setup → List Entry → Type 0
 IsCounted c es = (before later : List Entry) → es ≡ before ++ later → value c before 0 ≡ at_work before

@@ -490,10 +490,10 @@ pub fn share<R: Threads + Wait + Clock + Sync>(
     requires tries { tries ≤ tries_limit }
     // At no moment are more permits out than there are.
     ensures bounded { IfOk result (λ shared. IsBounded shared.history.coming) }
+    // At each moment the volume has the number of the permits that are out.
+    ensures counted { IfOk result (λ shared. IsCounted shared.history.config shared.history.coming) }
     // At each moment a task that waits for the latch leads to one that can continue.
     ensures no_deadlock { IfOk result (λ shared. HasNoLatchDeadlock shared.history.config shared.history.coming) }
-    // The volume has their number, at each moment.
-    ensures counted { IfOk result (λ shared. IsCounted shared.history.config shared.history.coming) }
     ensures config { IfOk result (λ shared. shared.history.config ≡ pool_setup tries) }
     ensures legal { IfOk result (λ shared. Legal shared.history.config shared.history.coming) }
     ensures places { IfOk result (λ shared. All (λ e. e.place ≤ highest_place) shared.history.coming) }
