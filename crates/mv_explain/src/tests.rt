@@ -1,0 +1,134 @@
+//! Each kind of fault through the whole command, with its exact text; and what is said of texts without fault.
+//!
+//! A row is an input, and behind a line `--` the whole report on it. Rows are parted by a line `==`.
+
+use super::*;
+use mv_io::{MemSink, MemSource};
+use std::process::Abort;
+
+mod deck_rows;
+mod journal_rows;
+mod script_rows;
+
+fn source<X: Abort + AllocGlobal>(rt: &X, bytes: &[u8], fail: &[u64]) -> MemSource {
+    match MemSource::new(rt.alloc(), bytes, 4096, fail) {
+        Ok(source) => source,
+        Err(_) => panic!(rt; "no memory for a source"),
+    }
+}
+
+fn sink<X: Abort + AllocGlobal>(rt: &X, room: usize) -> MemSink {
+    match MemSink::new(rt.alloc(), room, &[]) {
+        Ok(sink) => sink,
+        Err(_) => panic!(rt; "no memory for a sink"),
+    }
+}
+
+fn assert_text<X: Abort>(rt: &X, text: &[u8], expected: &str, row: &str) {
+    assert_eq!(rt; text, expected.as_bytes(), "{row}");
+}
+
+fn assert_exit<X: Abort>(rt: &X, status: ExplainStatus, exit: u8, row: &str) {
+    assert_eq!(rt; status.exit(), exit, "{row}");
+}
+
+// What is said of an input is this.
+fn assert_explained<X: Abort + AllocGlobal>(rt: &X, bytes: &[u8], expected: &str) {
+    let mut input = source(rt, bytes, &[]);
+    let mut report = sink(rt, 10_000);
+    let mut notes = sink(rt, 100);
+    let status = explain(rt.alloc(), &mut input, &mut report, &mut notes);
+    assert_text(rt, report.bytes(), expected, expected);
+    assert_text(rt, notes.bytes(), "", expected);
+    assert_exit(rt, status, 0, expected);
+}
+
+// What stands before and behind a piece of a text, which has it.
+fn parted<'a, X: Abort>(rt: &X, text: &'a str, piece: &str) -> (&'a str, &'a str) {
+    let Some(parts) = text.split_once(piece) else {
+        panic!(rt; "{text} has no {piece}")
+    };
+    parts
+}
+
+fn assert_rows<X: Abort + AllocGlobal>(rt: &X, rows: &str) {
+    for row in rows.split("==\n") {
+        let (input, expected) = parted(rt, row, "--\n");
+        assert_explained(rt, input.as_bytes(), expected);
+    }
+}
+
+#[test]
+fn inputs_that_are_none(rt: HostRuntime) {
+    assert_explained(&rt, b"", "the input is empty\n");
+    assert_explained(&rt, b" \r\n\t\n", "the input is empty\n");
+}
+
+#[test]
+fn decks(rt: HostRuntime) {
+    assert_rows(&rt, deck_rows::FAULTS);
+    assert_rows(&rt, deck_rows::OTHERS);
+}
+
+// A byte order mark, and a byte outside ASCII that begins none.
+#[test]
+fn decks_that_are_no_utf_8(rt: HostRuntime) {
+    assert_explained(
+        &rt,
+        b"\xef\xbb\xbf//A JOB\n//\n",
+        deck_rows::BYTE_ORDER_MARK,
+    );
+    assert_explained(&rt, b"//A JOB\n// PRINT \xe9\n//\n", deck_rows::FOREIGN);
+}
+
+#[test]
+fn scripts(rt: HostRuntime) {
+    assert_rows(&rt, script_rows::FAULTS);
+    assert_rows(&rt, script_rows::OTHERS);
+}
+
+#[test]
+fn journals(rt: HostRuntime) {
+    assert_rows(&rt, journal_rows::FAULTS);
+    assert_rows(&rt, journal_rows::JUDGED);
+}
+
+// A deck and a script of one byte more than the limit.
+#[test]
+fn long_texts(rt: HostRuntime) {
+    for (word, expected) in [
+        ("//*\n", deck_rows::LONG),
+        ("SCRIPT 1\n", script_rows::LONG),
+    ] {
+        let Ok(text) = word.repeat(rt.alloc(), 262_145) else {
+            panic!(&rt; "no memory for a text")
+        };
+        assert_explained(&rt, text.as_bytes(), expected);
+    }
+}
+
+// A stream that fails, and the note of it.
+fn assert_ends<X: Abort + AllocGlobal>(
+    rt: &X,
+    fail: &[u64],
+    room: usize,
+    exit: u8,
+    report: &str,
+    note: &str,
+) {
+    let mut input = source(rt, b"//\n", fail);
+    let mut written = sink(rt, room);
+    let mut notes = sink(rt, 100);
+    let status = explain(rt.alloc(), &mut input, &mut written, &mut notes);
+    assert_exit(rt, status, exit, note);
+    assert_text(rt, written.bytes(), report, note);
+    assert_text(rt, notes.bytes(), note, note);
+}
+
+#[test]
+fn streams_that_fail(rt: HostRuntime) {
+    assert_ends(&rt, &[0], 1000, 5, "", "READ FAILED\n");
+    assert_ends(&rt, &[1], 1000, 5, "", "READ FAILED\n");
+    assert_ends(&rt, &[], 0, 6, "", "REPORT FAILED\n");
+    assert_ends(&rt, &[], 6, 6, "a deck", "REPORT FAILED\n");
+}
