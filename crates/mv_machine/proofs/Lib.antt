@@ -1,6 +1,6 @@
 -- lists
 pub mod Lists
--- legal lists: one entry more, one object's part, one caller's; what many laws are proved along
+-- legal lists: one more entry, the part of one object, the part of one caller; lemmas that many laws use
 pub mod Histories
 pub mod EntryRuns
 pub mod Objects
@@ -34,10 +34,10 @@ pub mod OneHistory
 pub mod MergeSteps
 pub mod Gives
 pub mod InLogs
--- what an entry is to one object, and the object's own run
+-- the entries on one object, and the object's own run
 pub mod OneObject
 pub mod Subjects
--- generations_fit, and what a history keeps to at one element
+-- generations_fit, and the order of a history at one element
 pub mod ElementLaws
 pub mod ElementRuns
 -- posts_complete_once

@@ -1,4 +1,4 @@
--- Which configurations are refused, and with what.
+-- Which configurations are refused, and with which refusal.
 use Rattle.std.specs.Prelude.{◌≡◌, ℕ, ◌==◌, nat_le, nat_lt, Bool, not, ◌&&◌, ◌||◌, List, [], ◌∷◌, length, sum, find, Option, Some}
 use Rattle.std.specs.Prelude.{None, option_map, if◌then◌else◌}
 use Rattle.std.specs.List.{list_all, list_any, position_from}
@@ -11,11 +11,11 @@ use Rattle.mv_machine.specs.Limits.{callers_limit, elements_limit, volumes_limit
 use Rattle.mv_machine.specs.Limits.{exits_limit, targets_limit, events_limit}
 use Rattle.mv_machine.specs.Setup.{Setup, SetupExit}
 
--- whether a number is one of these
+-- whether a number is in this range, its ends included
 abbrev pub is_within : ℕ → ℕ → ℕ → Bool
 is_within low high n = nat_le low n && nat_le n high
 
--- whether a limit is kept
+-- whether a configuration keeps a limit
 abbrev pub keeps : ConfigLimit → Setup → Bool
 keeps Callers c = is_within 1 callers_limit c.callers
 keeps Elements c = is_within 1 elements_limit c.elements_per_caller
@@ -28,19 +28,19 @@ keeps Ecbs c = nat_le (length c.owners) ecbs_limit
 keeps Exits c = nat_le (length c.exits) exits_limit
 keeps Targets c = list_all (λ x. is_within 1 targets_limit (length x.targets)) c.exits
 
--- the limits in the order in which they are asked
+-- the limits in the order in which they are checked
 abbrev pub limits : List ConfigLimit
 limits = Callers ∷ Elements ∷ Volumes ∷ Latches ∷ Quota ∷ Posted ∷ Budgets ∷ Ecbs ∷ Exits ∷ Targets ∷ []
 
--- the first limit that is not kept
+-- the first limit that a configuration does not keep
 abbrev pub first_limit : Setup → Option ConfigLimit
 first_limit c = find (λ l. not (keeps l c)) limits
 
--- the first event control block whose owner is no caller
+-- the first event control block whose owner is not a caller
 abbrev pub first_bad_owner : Setup → Option ℕ
 first_bad_owner c = position_from (λ owner. nat_le c.callers owner) 0 c.owners
 
--- whether an exit's source is no block, or one of its targets is no block or not above the source
+-- whether an exit's source is not a block, or one of its targets is not a block or not above the source
 abbrev pub is_bad_exit : ℕ → SetupExit → Bool
 is_bad_exit ecbs x = nat_le ecbs x.source || list_any (λ target. nat_le ecbs target || nat_le target x.source) x.targets
 
@@ -48,16 +48,16 @@ is_bad_exit ecbs x = nat_le ecbs x.source || list_any (λ target. nat_le ecbs ta
 abbrev pub first_bad_exit : Setup → Option ℕ
 first_bad_exit c = position_from (is_bad_exit (length c.owners)) 1 c.exits
 
--- the sum of the budgets, where it is above what a run may have
+-- the sum of the budgets, if it is above the limit of a run's events
 abbrev pub bad_budget : Setup → Option ℕ
 bad_budget c = if nat_lt events_limit (sum c.budgets) then Some (sum c.budgets) else None
 
--- the first of two answers
+-- the first of two options that has a value
 abbrev pub or_else : {A : Type 0} → Option A → Option A → Option A
 or_else (Some a) b = Some a
 or_else None b = b
 
--- why a configuration is refused, if it is
+-- the reason why a configuration is refused, if it is
 abbrev pub refusal_of : Setup → Option CheckRefusal
 refusal_of c =
     or_else (option_map (λ l. Limit l) (first_limit c))
@@ -65,6 +65,6 @@ refusal_of c =
     (or_else (option_map (λ x. BadExit x) (first_bad_exit c))
     (option_map (λ b. Budget b) (bad_budget c))))
 
--- a configuration that nothing refuses
+-- a configuration that no rule refuses
 abbrev pub IsValid : Setup → Type 0
 IsValid c = refusal_of c ≡ None

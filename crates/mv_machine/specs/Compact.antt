@@ -1,5 +1,5 @@
--- What a compact entry stands for: its kinds say which operation and which reply, and its numbers are theirs. What a kind has not is
--- not asked.
+-- The entry that a compact entry encodes: its kinds say which operation and which reply, and its numbers are theirs. A field
+-- that a kind does not use is ignored.
 use Rattle.std.specs.Prelude.{ℕ, true, false}
 use Rattle.mv_ecb.specs.declared.operation.EcbOp.TheVariants as ecb_op
 use Rattle.mv_ecb.specs.declared.operation.EcbReply.TheVariants as ecb_reply
@@ -50,7 +50,7 @@ op_by op.LatchRelease mode r a b = op_on.Latch (latch_op.Release a b false)
 op_by op.LatchReleaseConditional mode r a b = op_on.Latch (latch_op.Release a b true)
 op_by op.LatchPurge mode r a b = op_on.Latch (latch_op.Purge r)
 
--- the operation that a compact entry keeps
+-- the operation that these parts encode
 abbrev pub op_of : OpParts → Op
 op_of p = op_by p.kind p.mode p.requestor p.first p.second
 
@@ -87,11 +87,11 @@ reply_by reply.LatchGone phase a b = of.Latch latch_reply.Gone
 reply_by reply.LatchReleased phase a b = of.Latch (latch_reply.Released a)
 reply_by reply.LatchPurged phase a b = of.Latch (latch_reply.Purged a b)
 
--- the reply that it keeps
+-- the reply that these parts encode
 abbrev pub reply_of : ReplyParts → Reply
 reply_of p = reply_by p.kind p.phase p.first p.second
 
--- the entry of a caller
+-- the entry of a caller that a compact entry encodes
 abbrev pub entry_of : ℕ → CompactEntry → Entry
 entry_of caller p = record {
   caller = caller;

@@ -8,7 +8,7 @@ use Rattle.mv_machine.specs.Setup.{Setup, SetupExit}
 abbrev pub exit_of : Exit → SetupExit
 exit_of x = record { source = x.source; targets = x.targets.items }
 
--- a configuration as plain lists
+-- a configuration as a record of plain numbers and lists
 abbrev pub setup_of : Config → Setup
 setup_of c = record {
   callers = c.callers;

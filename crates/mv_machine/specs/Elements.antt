@@ -1,4 +1,4 @@
--- What every legal list of entries keeps to at each pause element.
+-- The order that every legal list of entries keeps at each pause element.
 use Rattle.std.specs.Prelude.{◌≡◌, ℕ, ◌+◌, ◌*◌, ◌≤◌, ◌==◌, Bool, true, false, IsTrue, IfSome, List, [], ◌∷◌, ◌++◌, length, Option}
 use Rattle.std.specs.Prelude.{Some, None, if◌then◌else◌}
 use Rattle.std.specs.List.{filter_map, AllByRecursion}
@@ -29,13 +29,13 @@ pub record Event (O R : Type 0) : Type 0 where
 abbrev pub ElementEvent : Type 0
 ElementEvent = Event ElementOp ElementReply
 
--- an entry, where it is an event on this element
+-- an entry's fields as an event on this element, if they are one
 abbrev pub element_event : ℕ → ℕ → Object → ℕ → Op → Reply → Option ElementEvent
 element_event n k (Element m) p (op_on.Element op) (reply_of.Element r) =
     if m == n then Some (record { caller = k; place = p; op = op; reply = r }) else None
 element_event n k _ p _ _ = None
 
--- an entry as an event on this element, where it is one
+-- an entry as an event on this element, if it is one
 abbrev pub as_element_event : ℕ → Entry → Option ElementEvent
 as_element_event n e = element_event n e.caller e.object e.place e.op e.reply
 
@@ -43,11 +43,11 @@ as_element_event n e = element_event n e.caller e.object e.place e.op e.reply
 abbrev pub element_events : ℕ → List Entry → List ElementEvent
 element_events n es = filter_map (as_element_event n) es
 
--- a value where a test holds
+-- a value if a test holds, otherwise none
 abbrev pub only_if : {A : Type 0} → Bool → A → Option A
 only_if b a = if b then Some a else None
 
--- the generation that an operation carries
+-- the generation that an operation carries, if it carries one
 abbrev pub carried : ElementOp → Option ℕ
 carried Open = None
 carried (Pause g) = Some g
@@ -56,7 +56,7 @@ carried (Release g d) = Some g
 carried (Close g) = Some g
 carried Test = None
 
--- the code that ended generation g, where the reply gave one
+-- the code that ended generation g, if the reply gave one
 abbrev pub given_code : ℕ → ElementReply → Option ℕ
 given_code g (Given code next) = only_if (next == g + 1) code
 given_code g _ = None
@@ -67,12 +67,12 @@ is_accepted Early = true
 is_accepted Woke = true
 is_accepted _ = false
 
--- the code of a release that carries g
+-- the code of a release, if the operation is a release that carries g
 abbrev pub carried_code : ℕ → ElementOp → Option ℕ
 carried_code g (Release h d) = only_if (h == g) d
 carried_code g _ = None
 
--- the code of a release of generation g that was accepted
+-- the code of a release of generation g, if the event is one and was accepted
 abbrev pub accepted_code : ℕ → ElementEvent → Option ℕ
 accepted_code g v = if is_accepted v.reply then carried_code g v.op else None
 
@@ -100,25 +100,25 @@ abbrev pub is_spent : ElementReply → Bool
 is_spent (Spent g) = true
 is_spent _ = false
 
--- an event that carries a generation of at most g is answered Spent
+-- if an event carries a generation of at most g, its reply is Spent
 abbrev pub IsSpentUpTo : ℕ → ElementEvent → Type 0
 IsSpentUpTo g v = IfSome (carried v.op) (λ h. h ≤ g → IsTrue (is_spent v.reply))
 
--- each gift of a code has its one release, no pause is given twice, no token is accepted twice, and what is over is answered Spent
--- for ever
+-- An element is orderly: each given code has its one release, no generation is given twice, no two releases of a generation are
+-- accepted, and an operation on a generation that has ended gets the reply Spent.
 pub record IsOrderlyElement (vs : List ElementEvent) : Type 0 where
-  -- what a pause was given was released once, before it, with that code
+  -- a code that a pause was given was released once, before the pause, with that code
   pub reached : (g code : ℕ) (before later : List ElementEvent) (v : ElementEvent) → vs ≡ before ++ v ∷ later
       → given_code g v.reply ≡ Some code → (releases g before ≡ code ∷ []) × (releases g later ≡ [])
   -- no generation is given twice
   pub once : (g : ℕ) → length (givens g vs) ≤ 1
   -- at most one release of a generation is accepted
   pub accepted : (g : ℕ) → length (releases g vs) ≤ 1
-  -- what carries a generation that has ended is answered Spent
+  -- after a generation has ended, an operation that carries it, or an earlier one, gets the reply Spent
   pub spent : (g : ℕ) (before later : List ElementEvent) (v : ElementEvent) → vs ≡ before ++ v ∷ later → IsTrue (ends_by g v.op v.reply)
       → AllByRecursion (IsSpentUpTo g) later
 
--- how many events at least the pause at hand has had
+-- the least number of events that an element has had in its current generation, by its phase
 abbrev pub extra : Phase → ℕ
 extra Free = 0
 extra Reset = 1
@@ -126,6 +126,6 @@ extra Prereleased = 2
 extra Paused = 2
 extra Released = 3
 
--- two events at least go into each generation
+-- an element's place is at least twice its generation plus the extra of its phase: each generation takes at least two events
 abbrev pub FitsItsPlace : Cell ElementState → Type 0
 FitsItsPlace cell = 2 * cell.state.generation + extra cell.state.phase ≤ cell.place

@@ -23,7 +23,7 @@ pub mod Kept
 pub mod Parked
 pub mod Owned
 pub mod Orderly
--- what replies and wakes say, and what takes a request out
+-- the contents of replies and wakes, and how a request is taken out
 pub mod Replies
 pub mod Leaving
 pub mod Waking

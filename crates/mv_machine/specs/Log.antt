@@ -1,4 +1,5 @@
--- How contracts see a log: as the list of its entries, and one that may get more with the room that it has for them.
+-- How contracts see logs: a closed log as the list of its entries, an open log also with its caller and the room that it has
+-- left.
 use Rattle.std.specs.Prelude.{ℕ, ◌-◌, List, [], ◌∷◌, ◌++◌, length, map, vec_capacity}
 use Rattle.mv_machine.specs.declared.entry.Entry.{Entry}
 use Rattle.mv_machine.specs.declared.entry.Object.{Object}
@@ -14,17 +15,17 @@ entries_of l = map (entry_of l.caller) l.compact.items
 abbrev pub subject_of : Entry → Object × ℕ
 subject_of e = (e.object, e.place)
 
--- a log that may get more: whose it is, its entries, and for how many more it has room
+-- an open log: its caller, its entries, and the number of further entries that it has room for
 pub record OpenLogFace : Type 0 where
   pub caller : ℕ
   pub entries : List Entry
   pub room : ℕ
 
--- one more entry
+-- an open log with one more entry, and room for one less
 abbrev pub with_entry : OpenLogFace → Entry → OpenLogFace
 with_entry l e = record l { entries = l.entries ++ e ∷ []; room = l.room - 1 }
 
--- what contracts see of an open log: whose it is, its entries, and for how many more it has room
+-- how contracts see an open log
 abbrev pub open_log_of : OpenInside → OpenLogFace
 open_log_of l = record {
   caller = l.caller;

@@ -1,4 +1,4 @@
--- Which operations are an object's owner's alone.
+-- Which operations only an object's owner may make.
 use Rattle.std.specs.Prelude.{◌≡◌, ℕ, Bool, true, false, ◌&&◌, List, Option, Some, None}
 use Rattle.std.specs.List.{AllByRecursion, list_any}
 use Rattle.mv_ecb.specs.declared.operation.EcbOp.TheVariants as ecb_op
@@ -15,14 +15,14 @@ use Rattle.mv_machine.specs.Legal.{same_object}
 use Rattle.mv_machine.specs.Setup.{Setup, owner_of, element_owner}
 use Rattle.mv_machine.specs.System.{System}
 
--- whose an object is. Volumes and the latch set are nobody's
+-- the owner of an object. Volumes and the latch set have none
 abbrev pub owner_at : Setup → Object → Option ℕ
 owner_at c (Ecb n) = Some (owner_of c n)
 owner_at c (Element n) = Some (element_owner c n)
 owner_at c (Volume n) = None
 owner_at c Latches = None
 
--- whether an operation is its object's owner's alone
+-- whether only the object's owner may make an operation
 abbrev pub is_owners : Op → Bool
 is_owners (op_on.Ecb ecb_op.Arm) = true
 is_owners (op_on.Ecb (ecb_op.Extend exit)) = true
@@ -52,6 +52,6 @@ HasNo test o es = AllByRecursion (λ e. (same_object e.object o && test e.op) �
 abbrev pub IsGranted : ℕ → ℕ → ℕ → System → Type 0
 IsGranted k latch id s = list_any (is_own k id) (granted (list_of s.latches.state latch)) ≡ true
 
--- or it is gone: in the list no more
+-- a caller has no request of this number in a latch's list
 abbrev pub IsGone : ℕ → ℕ → ℕ → System → Type 0
 IsGone k latch id s = list_any (is_own k id) (list_of s.latches.state latch) ≡ false

@@ -1,4 +1,4 @@
--- A history taken apart by its callers, and what is said of it by their parts.
+-- The parts of a history by its callers, and what holds of the history by its parts.
 use Rattle.std.specs.Prelude.{◌≡◌, ℕ, zero, suc, ◌<◌, ◌≤◌, List, [], ◌∷◌, length, take, drop, slice_index, Some}
 use Rattle.std.specs.List.{AllByRecursion}
 use Rattle.mv_latch.specs.declared.operation.Wake.{Wake}
@@ -23,7 +23,7 @@ parts n es = parts_from 0 n es
 abbrev pub KeepsBudgets : Setup → List Entry → Type 0
 KeepsBudgets c es = (k : ℕ) → k < c.callers → length (of k es) ≤ slice_index c.budgets k
 
--- a caller's log and what it was told may be its part of a legal history within the budgets
+-- a caller's log and the wakes that it was shown may be its part of a legal history within the budgets
 pub record IsPossible (c : Setup) (k : ℕ) (log : List Entry) (shown : List (List Wake)) : Type 0 where
   pub history : List Entry
   pub legal : Legal c history
@@ -35,12 +35,12 @@ pub record IsPossible (c : Setup) (k : ℕ) (log : List Entry) (shown : List (Li
 abbrev pub IsBelow : Object → ℕ → List Entry → Type 0
 IsBelow o p es = AllByRecursion (λ e. e.object ≡ o → e.place < p) es
 
--- or a place of p and more
+-- each of these entries that is on the object has a place of at least p
 abbrev pub IsFrom : Object → ℕ → List Entry → Type 0
 IsFrom o p es = AllByRecursion (λ e. e.object ≡ o → p ≤ e.place) es
 
--- the object had this word in the history, after those of the caller's first n entries that are on it, and before
--- those of the rest that are on it
+-- The object had this word at some moment of the history: after those of the caller's first n entries that are on the object,
+-- and before those of its other entries that are on it.
 pub record Had (c : Setup) (es : List Entry) (k n : ℕ) (o : Object) (w : ℕ) : Type 0 where
   pub place : ℕ
   pub state : WordState

@@ -1,4 +1,4 @@
--- What replay answers of a list of entries.
+-- The results of `replay` for a list of entries.
 use Rattle.std.specs.Prelude.{◌≡◌, ◌≢◌, List, ◌∷◌, ◌++◌, length, Some}
 use Rattle.mv_machine.specs.declared.entry.Entry.{Entry}
 use Rattle.mv_machine.specs.declared.replaying.Illegal.{Illegal}
@@ -8,7 +8,7 @@ use Rattle.mv_machine.specs.Legal.{LegalFrom, after_from}
 use Rattle.mv_machine.specs.Setup.{Setup}
 use Rattle.mv_machine.specs.System.{System, answer, opening}
 
--- the entries up to one are legal, and there the machine answers otherwise than was kept
+-- the entries before this one are legal, and at this one the machine's answer is not the place and the reply that were kept
 pub record IsFirstIllegal (c : Setup) (s : System) (es : List Entry) (i : Illegal) : Type 0 where
   pub before : List Entry
   pub entry : Entry
@@ -20,7 +20,7 @@ pub record IsFirstIllegal (c : Setup) (s : System) (es : List Entry) (i : Illega
   pub machine : i.machine ≡ answer c (after_from s before) entry.caller entry.object entry.op
   pub differs : i.machine ≢ Some i.kept
 
--- why a list is refused
+-- the refusal of a list: its first illegal entry, or no memory
 abbrev pub IsRefused : Setup → List Entry → ReplayRefusal → Type 0
 IsRefused c es (refusal.Illegal i) = IsFirstIllegal c (opening c) es i
 IsRefused c es refusal.NoMemory = Unit {0}

@@ -1,11 +1,11 @@
--- What a configuration says.
+-- The contents of a configuration, as contracts see them.
 use Rattle.std.specs.Prelude.{ℕ, zero, suc, ◌==◌, ◌-◌, ◌*◌, ◌/◌, ◌<◌, nat_lt, Bool, false, ◌&&◌, ◌||◌, List, [], length, Option, Some, None}
 use Rattle.std.specs.Prelude.{slice_get, slice_index}
 use Rattle.std.specs.List.{list_any, range_with_len}
 use Rattle.mv_machine.specs.declared.entry.Object.{Object}
 use Rattle.mv_machine.specs.declared.entry.Object.TheVariants.{Ecb, Element, Volume, Latches}
 
--- an exit: the event control block that it starts from, and those that it posts
+-- an exit: the event control block that it starts from, and the blocks that it posts
 pub record SetupExit : Type 0 where
   pub source : ℕ
   pub targets : List ℕ
@@ -26,26 +26,26 @@ pub record Setup : Type 0 where
 abbrev pub owner_of : Setup → ℕ → ℕ
 owner_of c ecb = slice_index c.owners ecb
 
--- how many elements there are
+-- the number of elements
 abbrev pub element_count : Setup → ℕ
 element_count c = c.callers * c.elements_per_caller
 
--- whose an element is
+-- the caller that owns an element
 abbrev pub element_owner : Setup → ℕ → ℕ
 element_owner c element = element / c.elements_per_caller
 
--- a caller's own elements, which follow one another
+-- the elements that a caller owns, whose numbers follow one another
 abbrev pub own_elements : Setup → ℕ → List ℕ
 own_elements c k = range_with_len (k * c.elements_per_caller) c.elements_per_caller
 
--- whether a configuration has an object
+-- a configuration has this object
 abbrev pub IsObjectOf : Setup → Object → Type 0
 IsObjectOf c (Ecb n) = n < length c.owners
 IsObjectOf c (Element n) = n < element_count c
 IsObjectOf c (Volume n) = n < c.volumes
 IsObjectOf c Latches = Unit {0}
 
--- whether an exit is there and starts from this block
+-- whether there is an exit and it starts from this block
 abbrev pub starts_from : ℕ → Option SetupExit → Bool
 starts_from ecb None = false
 starts_from ecb (Some x) = x.source == ecb
@@ -54,7 +54,7 @@ starts_from ecb (Some x) = x.source == ecb
 abbrev pub is_on : SetupExit → ℕ → Bool
 is_on x ecb = (x.source == ecb) || list_any (λ target. target == ecb) x.targets
 
--- whether a block is on any exit
+-- whether a block is the source or a target of any exit
 abbrev pub is_on_exit : Setup → ℕ → Bool
 is_on_exit c ecb = list_any (λ x. is_on x ecb) c.exits
 
@@ -67,7 +67,7 @@ abbrev pub targets_at : Option SetupExit → List ℕ
 targets_at None = []
 targets_at (Some x) = x.targets
 
--- the targets of an exit, which is counted from 1. Exit 0 is none
+-- the targets of the exit of this number, counted from 1. No exit has the number 0
 abbrev pub targets_of : Setup → ℕ → List ℕ
 targets_of c zero = []
 targets_of c (suc x) = targets_at (slice_get c.exits x)

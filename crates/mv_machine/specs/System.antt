@@ -34,14 +34,14 @@ pub record Cell (A : Type 0) : Type 0 where
   pub place : ℕ
   pub state : A
 
--- the cell of each object. Cells of numbers that no object has are never looked at
+-- the machine: the cell of each object. Cells of numbers that no object has are never read
 pub record System : Type 0 where
   pub ecb : ℕ → Cell EcbState
   pub element : ℕ → Cell ElementState
   pub volume : ℕ → Cell ℕ
   pub latches : Cell (List (List Request))
 
--- before the first event
+-- the machine before the first event
 abbrev pub opening : Setup → System
 opening c = record {
   ecb = λ n. record { place = 0; state = Zero };
@@ -50,7 +50,7 @@ opening c = record {
   latches = record { place = 0; state = replicate c.latches [] };
 }
 
--- a read keeps the number and answers it; a write sets it
+-- an operation on a volume: a read keeps the number and replies with it; a write sets it
 abbrev pub volume_step : VolumeOp → ℕ → ℕ × VolumeReply
 volume_step Read n = (n, Value n)
 volume_step (Write m) n = (m, Stored)
@@ -62,7 +62,8 @@ place_of s (Element n) = (s.element n).place
 place_of s (Volume n) = (s.volume n).place
 place_of s Latches = s.latches.place
 
--- anyone may post a block and read it; its owner alone arms, extends, settles and clears it
+-- which operations a caller may make on a block: any caller may post it and read it; only its owner may arm, extend, settle and
+-- clear it
 abbrev pub ecb_admitted : Setup → ℕ → ℕ → EcbOp → Bool
 ecb_admitted c k n ecb_op.Arm = owner_of c n == k
 ecb_admitted c k n (ecb_op.Extend x) = (owner_of c n == k) && (nat_lt x code_limit && is_exit_of c x n)
@@ -71,7 +72,8 @@ ecb_admitted c k n ecb_op.Clear = owner_of c n == k
 ecb_admitted c k n (ecb_op.Post d) = nat_lt d code_limit
 ecb_admitted c k n ecb_op.Test = true
 
--- anyone may release an element and read it; its owner alone opens it, pauses with it and closes it
+-- which operations a caller may make on an element: any caller may release it and read it; only its owner may open it, pause
+-- with it, resume and close it
 abbrev pub element_admitted : Setup → ℕ → ℕ → ElementOp → Bool
 element_admitted c k n element_op.Open = element_owner c n == k
 element_admitted c k n (element_op.Pause g) = element_owner c n == k
@@ -80,29 +82,29 @@ element_admitted c k n (element_op.Release g d) = nat_lt d release_limit
 element_admitted c k n (element_op.Close g) = element_owner c n == k
 element_admitted c k n element_op.Test = true
 
--- a volume's number has 32 bits
+-- which operations may be made on a volume: a number that is written has 32 bits
 abbrev pub volume_admitted : VolumeOp → Bool
 volume_admitted Read = true
 volume_admitted (Write m) = nat_lt m (2 ^ 32)
 
--- the latch set as it stands, with the configuration's quotas
+-- the latch set with these lists and the configuration's quotas
 abbrev pub latches_of : Setup → List (List Request) → LatchLists
 latches_of c lists = record { lists = lists; callers = c.callers; quota = c.quota; posted = c.posted_quota }
 
--- the Posted form names a block that is there and the caller's, and no other form names one
+-- whether a form that names a block, Posted, names one that exists and is the caller's
 abbrev pub names_own_ecb : Setup → ℕ → LatchForm → Bool
 names_own_ecb c k Conditional = true
 names_own_ecb c k Waiting = true
 names_own_ecb c k (Posted e) = nat_lt e (length c.owners) && (owner_of c e == k)
 
--- and so does an obtain, and no other operation names one
+-- whether an operation that names a block, an obtain of the Posted form, names one that exists and is the caller's
 abbrev pub posts_own_ecb : Setup → ℕ → LatchOp → Bool
 posts_own_ecb c k (Obtain latch requestor mode form) = names_own_ecb c k form
 posts_own_ecb c k (Confirm latch id) = true
 posts_own_ecb c k (Release latch id conditional) = true
 posts_own_ecb c k (Purge requestor) = true
 
--- whether the operation of a caller on an object is admitted: both exist, it is of the object's kind, and may be made
+-- whether an operation of a caller on an object is admitted: both exist, it is of the object's kind, and the caller may make it
 abbrev pub admitted : Setup → System → ℕ → Object → Op → Bool
 admitted c s k (Ecb n) (op_on.Ecb op) = nat_lt k c.callers && nat_lt n (length c.owners) && ecb_admitted c k n op
 admitted c s k (Element n) (op_on.Element op) = nat_lt k c.callers && nat_lt n (element_count c) && element_admitted c k n op
@@ -115,7 +117,7 @@ admitted c s k _ _ = false
 abbrev pub with_at : {A : Type 0} → (ℕ → A) → ℕ → A → ℕ → A
 with_at f n a k = if k == n then a else f k
 
--- an object after one more event
+-- the cell of an object after one more event
 abbrev pub advanced : {A : Type 0} → Cell A → A → Cell A
 advanced cell a = record { place = cell.place + 1; state = a }
 
@@ -127,8 +129,8 @@ reply_to s k (Volume n) (op_on.Volume op) = Some (reply_of.Volume (volume_step o
 reply_to s k Latches (op_on.Latch op) = Some (reply_of.Latch (latch_step k s.latches.place op s.latches.state).1)
 reply_to s k _ _ = None
 
--- the machine after an operation of the object's kind: that object is changed, all else stays. An obtain's request
--- has the place as its number
+-- the machine after an operation of the object's kind: the object gets its new state, and nothing else changes. The request of
+-- an obtain has the place as its number
 abbrev pub moved : System → ℕ → Object → Op → System
 moved s k (Ecb n) (op_on.Ecb op) =
     record s { ecb = with_at s.ecb n (advanced (s.ecb n) (ecb_step op (s.ecb n).state).0) }
@@ -140,15 +142,15 @@ moved s k Latches (op_on.Latch op) =
     record s { latches = advanced s.latches (latch_step k s.latches.place op s.latches.state).0 }
 moved s k _ _ = s
 
--- what the machine answers: the place and the reply, where the operation is admitted
+-- the answer of the machine: the place and the reply, if the operation is admitted
 abbrev pub answer : Setup → System → ℕ → Object → Op → Option (ℕ × Reply)
 answer c s k o op = if admitted c s k o op then option_map (λ r. (place_of s o, r)) (reply_to s k o op) else None
 
--- the machine after an operation: nothing changes where it is not admitted
+-- the machine after an operation: nothing changes if it is not admitted
 abbrev pub after_step : Setup → System → ℕ → Object → Op → System
 after_step c s k o op = if admitted c s k o op then moved s k o op else s
 
--- the wakes that are shown after an operation: those of the last one on the latch set that was admitted
+-- the wakes that are shown after an operation: those of the last admitted operation on the latch set
 abbrev pub wakes_after : Setup → System → List Wake → ℕ → Object → Op → List Wake
 wakes_after c s shown k Latches (op_on.Latch op) = if admitted c s k Latches (op_on.Latch op) then wakes k op s.latches.state else shown
 wakes_after c s shown k _ _ = shown

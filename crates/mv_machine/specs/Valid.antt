@@ -5,7 +5,7 @@ use Rattle.mv_machine.specs.Check.{IsValid}
 use Rattle.mv_machine.specs.Reach.{release_cost}
 use Rattle.mv_machine.specs.Setup.{Setup}
 
--- nothing refuses it, and these are its reaches and what a release may cost
+-- no rule refuses the configuration, and these are its reaches and the cost of a release
 pub record IsChecked (c : Setup) (reaches : List ℕ) (cost : ℕ) : Type 0 where
   pub valid : IsValid c
   pub known : AreReaches c reaches

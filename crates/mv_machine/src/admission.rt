@@ -1,4 +1,5 @@
-//! Who may do what with which object, by specs/System.antt. Each operation is named: a new one has to be placed here.
+//! Which caller may make which operation on which object, by specs/System.antt. The matches name each operation, so a new
+//! operation must be added here.
 
 ghost use Rattle.std.specs.Prelude.{◌≡◌, ◌<◌, length};
 ghost use Rattle.mv_machine.specs.System.{ecb_admitted, element_admitted};
@@ -9,7 +10,7 @@ use mv_ecb::{CODE_LIMIT, EcbOp};
 use mv_element::{ElementOp, RELEASE_LIMIT};
 use mv_latch::{LatchForm, LatchOp};
 
-/// Whether a caller may make this operation on an event control block that is there.
+/// Returns whether a caller may make this operation on an event control block that exists.
 pub(crate) fn admits_ecb(config: &ValidConfig, caller: u32, ecb: u32, op: EcbOp) -> bool
     requires { ecb < length config.now.owners }
     ensures { result ≡ ecb_admitted config.now caller ecb op }
@@ -23,7 +24,7 @@ pub(crate) fn admits_ecb(config: &ValidConfig, caller: u32, ecb: u32, op: EcbOp)
     }
 }
 
-/// Whether a caller may make this operation on an element.
+/// Returns whether a caller may make this operation on an element.
 pub(crate) fn admits_element(config: &ValidConfig, caller: u32, element: u32, op: ElementOp) -> bool
     ensures { result ≡ element_admitted config.now caller element op }
 {
@@ -35,7 +36,8 @@ pub(crate) fn admits_element(config: &ValidConfig, caller: u32, element: u32, op
     }
 }
 
-/// Whether the block that an obtain of the Posted form names is there and the caller's.
+/// Returns whether the block that an obtain of the Posted form names exists and is the caller's. True of every other operation
+/// and form.
 pub(crate) fn posts_own_ecb(config: &ValidConfig, caller: u32, op: LatchOp) -> bool
     ensures { result ≡ posts_own_ecb_of config.now caller op }
 {

@@ -1,4 +1,4 @@
-//! The check of a configuration: its limits, owners, exits and budgets in their order, by specs/Check.antt.
+//! The check of a configuration by specs/Check.antt: its limits, owners, exits and budgets, in this order.
 
 ghost use Rattle.std.specs.List.{list_all, list_any};
 ghost use Rattle.std.specs.Prelude.{◌≡◌, ◌≢◌, ◌≤◌, ◌||◌, nat_le, sum, vec_len, OnOk, IfOk, IfErr, IsErrOf, Some};
@@ -16,7 +16,7 @@ use crate::valid::ValidConfig;
 use std::alloc::Global;
 
 impl Config {
-    // The first limit that is not kept.
+    // Returns the first limit that the configuration does not keep.
     fn first_limit(&self) -> Option<ConfigLimit>
         ensures { result ≡ first_limit (setup_of self.now) }
     {
@@ -53,7 +53,7 @@ impl Config {
         None
     }
 
-    // The first event control block whose owner is no caller.
+    // Returns the first event control block whose owner is not a caller.
     fn first_bad_owner(&self) -> Option<u32>
         requires { vec_len self.now.owners ≤ ecbs_limit }
         ensures { result ≡ first_bad_owner (setup_of self.now) }
@@ -68,7 +68,8 @@ impl Config {
         None
     }
 
-    // The first exit that leads nowhere or not up, counted from 1.
+    // Returns the number, counted from 1, of the first exit whose source or a target is not a block, or with a target that is
+    // not above the source.
     fn first_bad_exit(&self) -> Option<u32>
         requires { vec_len self.now.exits ≤ exits_limit }
         ensures { result ≡ first_bad_exit (setup_of self.now) }
@@ -83,7 +84,7 @@ impl Config {
         None
     }
 
-    // The sum of the budgets.
+    // Returns the sum of the budgets.
     pub(crate) fn budget_sum(&self) -> u64
         requires { vec_len self.now.budgets ≤ callers_limit }
         ensures { result ≡ sum self.now.budgets.items }
@@ -95,7 +96,7 @@ impl Config {
         sum
     }
 
-    // The sum of the budgets, where it is too high.
+    // Returns the sum of the budgets if it is above the limit.
     fn bad_budget(&self) -> Option<u64>
         requires { vec_len self.now.budgets ≤ callers_limit }
         ensures { result ≡ bad_budget (setup_of self.now) }
@@ -107,7 +108,8 @@ impl Config {
         None
     }
 
-    /// The first rule that refuses the configuration, in the order of `CheckRefusal`, if there is one. It takes no memory.
+    /// Returns the first rule that refuses the configuration, in the order of `CheckRefusal`, if there is one. It takes no
+    /// memory.
     pub fn refusal(&self) -> Option<CheckRefusal>
         ensures { result ≡ refusal_of (setup_of self.now) }
     {
@@ -126,13 +128,13 @@ impl Config {
         None
     }
 
-    /// Makes a checked configuration of this one, with what it computes from it once: how many posts one post leads to. Linear in
-    /// the blocks and the exits.
+    /// Checks this configuration, and returns it with what is computed from it once: how many posts one post leads to. Takes
+    /// time linear in the blocks and the exits.
     ///
     /// # Errors
     ///
-    /// The first refusal that holds, in the order of `CheckRefusal`; the configuration is dropped then. Want of memory comes
-    /// behind all others.
+    /// Returns the first refusal that holds, in the order of `CheckRefusal`; the configuration is then dropped. It returns
+    /// `NoMemory` only if no rule refuses the configuration.
     ///
     /// # Example
     ///
@@ -153,14 +155,14 @@ impl Config {
     }
 }
 
-// Whether each exit has 1 to 8 targets.
+// Returns whether each exit has 1 to 8 targets.
 fn has_few_targets(exits: &[Exit]) -> bool
     ensures { result ≡ list_all (λ x. is_within 1 targets_limit (vec_len x.targets)) exits.now }
 {
     exits.iter().all(|exit| exit.targets.len() >= 1 && exit.targets.len() <= TARGETS_LIMIT)
 }
 
-// Whether an exit's source is no block, or one of its targets is no block or not above the source.
+// Returns whether an exit's source is not a block, or one of its targets is not a block or not above the source.
 fn is_bad_exit(exit: &Exit, ecbs: usize) -> bool
     ensures { result ≡ is_bad_exit_at ecbs (exit_of exit.now) }
 {

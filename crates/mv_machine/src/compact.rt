@@ -1,5 +1,5 @@
-//! An entry in 40 bytes, by `specs/Compact.antt`: which operation and which reply it has, as kinds, and beside them the numbers that
-//! any of them have.
+//! An entry in 40 bytes, by `specs/Compact.antt`: the kinds of its operation and of its reply, and the numbers that any of
+//! these kinds have.
 
 ghost use Rattle.std.specs.Prelude.{◌≡◌, ℕ};
 ghost use Rattle.mv_machine.specs.Compact.{op_of, reply_of, entry_of};
@@ -70,7 +70,7 @@ pub(crate) enum ReplyKind {
     LatchPurged,
 }
 
-/// An operation by its kind. What its kind has not is 0, or the first of its type.
+/// An operation as its kind and its numbers. A field that its kind does not use is 0, or the first value of its type.
 #[derive(Clone, Copy)]
 pub(crate) struct OpParts {
     pub kind: OpKind,
@@ -80,7 +80,7 @@ pub(crate) struct OpParts {
     pub second: u32,
 }
 
-/// A reply by its kind. What its kind has not is 0, or the first of its type.
+/// A reply as its kind and its numbers. A field that its kind does not use is 0, or the first value of its type.
 #[derive(Clone, Copy)]
 pub(crate) struct ReplyParts {
     pub kind: ReplyKind,
@@ -105,7 +105,7 @@ pub(crate) struct CompactEntry {
     pub phase: Phase,
 }
 
-// An operation that has at most two numbers.
+// Makes an operation of a kind with at most two numbers.
 #[inline(always)]
 fn op(kind: OpKind, first: u32, second: u32) -> OpParts
     ensures { result ≡ record { kind = kind; mode = Mode.Shared; requestor = 0; first = first; second = second } }
@@ -206,7 +206,7 @@ fn compact_op(whole: Op) -> OpParts
 }
 
 impl OpParts {
-    // The operation.
+    // Returns the operation that these parts encode.
     #[inline(always)]
     fn whole(self) -> Op
         ensures { result ≡ op_of self }
@@ -275,7 +275,7 @@ fn release(latch: u32, id: u32, conditional: bool) -> Op
     })
 }
 
-// A reply that has at most two numbers.
+// Makes a reply of a kind with at most two numbers.
 #[inline(always)]
 fn reply(kind: ReplyKind, first: u32, second: u32) -> ReplyParts
     ensures { result ≡ record { kind = kind; phase = Phase.Free; first = first; second = second } }
@@ -360,7 +360,7 @@ fn compact_reply(whole: Reply) -> ReplyParts
 }
 
 impl ReplyParts {
-    // The reply.
+    // Returns the reply that these parts encode.
     #[inline(always)]
     fn whole(self) -> Reply
         ensures { result ≡ reply_of self }
@@ -415,7 +415,7 @@ impl ReplyParts {
 }
 
 impl CompactEntry {
-    /// An entry in its compact form.
+    /// Returns the compact form of an entry, which leaves out its caller.
     #[inline(always)]
     pub(crate) fn of(object: Object, place: u32, op: Op, reply: Reply) -> CompactEntry
         ensures { (caller : ℕ) → entry_of caller result
@@ -438,7 +438,7 @@ impl CompactEntry {
         }
     }
 
-    /// The entry, which is this caller's.
+    /// Returns the whole entry, which is this caller's.
     #[inline(always)]
     pub(crate) fn entry(&self, caller: u32) -> Entry
         ensures { result ≡ entry_of caller self.now }

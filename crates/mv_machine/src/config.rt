@@ -1,50 +1,51 @@
-//! A configuration as it is given, and why it may be refused. Contracts see it as the setup of specs/Setup.antt, by
+//! A configuration as it is given, and the reasons to refuse it. Contracts see it as the setup of specs/Setup.antt, by
 //! specs/Config.antt.
 
 use mv_io::NoMemory;
 use thiserror::Error;
 
-/// An exit: a post of its source, while the owner holds that extended with this exit, also posts its targets, in this order and
-/// with the same code. Exits are this project's own.
+/// An exit. A post of its source, while the owner holds the source extended with this exit, also posts its targets, in this
+/// order and with the same code. Exits are this project's own.
 #[derive(Debug, Drop)]
 pub struct Exit {
-    /// The event control block that it starts from.
+    /// The event control block that the exit starts from.
     pub source: u32,
-    /// 1 to 8 blocks with numbers above the source, of any owners; one may stand twice.
+    /// The blocks that the exit posts: 1 to 8, with numbers above the source, of any owners. A block may be listed twice.
     pub targets: Vec<u32>,
 }
 
-/// A configuration as it was given: which callers and objects there are, and what each caller may do. Callers, elements, volumes,
-/// latches and event control blocks are numbered from 0, exits from 1. `check` makes it one that a machine can open.
+/// A configuration as it was given: which callers and objects there are, and what each caller may do. Callers, elements,
+/// volumes, latches and event control blocks are numbered from 0, exits from 1. `check` turns it into one that a machine can
+/// open.
 #[derive(Debug, Drop)]
 pub struct Config {
-    /// How many tasks act on their own: 1 to 16.
+    /// The number of callers, which are independent tasks: 1 to 16.
     pub callers: u32,
-    /// How many pause elements each caller has: 1 to 16. Element e belongs to caller `e / elements_per_caller`.
+    /// The number of pause elements that each caller has: 1 to 16. Element e belongs to caller `e / elements_per_caller`.
     pub elements_per_caller: u32,
-    /// How many shared numbers there are: 1 to 8.
+    /// The number of volumes, which are shared numbers: 1 to 8.
     pub volumes: u32,
-    /// How many latches the one latch set has: 1 to 8.
+    /// The number of latches in the one latch set: 1 to 8.
     pub latches: u32,
-    /// How many latch requests of a caller may stand at once: 1 to 16.
+    /// The most latch requests that a caller may have at once: 1 to 16.
     pub quota: u32,
-    /// How many of them may be of the Posted form: at most the quota.
+    /// The most of these requests that may be of the Posted form: at most the quota.
     pub posted_quota: u32,
-    /// How many events each caller may make, one number for each caller: at most 524,287 in all.
+    /// The number of events that each caller may make, one number for each caller: at most 524,287 in all.
     pub budgets: Vec<u32>,
-    /// The one caller that waits on each event control block, and clears it: at most 131,072 blocks.
+    /// For each event control block, the one caller that waits on it and clears it: at most 131,072 blocks.
     pub owners: Vec<u32>,
-    /// Numbered from 1: at most 32,768.
+    /// The exits, numbered from 1: at most 32,768.
     pub exits: Vec<Exit>,
 }
 
-/// A limit of a configuration, in the order in which they are asked.
+/// A limit of a configuration. The variants are in the order in which they are checked.
 #[derive(Clone, Copy, Debug, PartialEq, Eq, Error)]
 pub enum ConfigLimit {
     /// There are 1 to 16 callers.
     #[error("there are 1 to 16 callers")]
     Callers,
-    /// Each has 1 to 16 elements.
+    /// Each caller has 1 to 16 elements.
     #[error("a caller has 1 to 16 pause elements")]
     Elements,
     /// There are 1 to 8 volumes.
@@ -53,10 +54,10 @@ pub enum ConfigLimit {
     /// There are 1 to 8 latches.
     #[error("there are 1 to 8 latches")]
     Latches,
-    /// The quota of requests is 1 to 16.
+    /// The quota of latch requests is 1 to 16.
     #[error("the quota of latch requests is 1 to 16")]
     Quota,
-    /// That of the Posted form is no higher.
+    /// The quota of requests of the Posted form is at most the quota of all requests.
     #[error("the quota of requests of the Posted form is no higher than that of all")]
     Posted,
     /// There is a budget for each caller.
@@ -73,23 +74,23 @@ pub enum ConfigLimit {
     Targets,
 }
 
-/// Why a configuration is refused: the first of these that holds.
+/// Why a configuration is refused: the first of these reasons that applies.
 #[derive(Clone, Copy, Debug, PartialEq, Eq, Error)]
 pub enum CheckRefusal {
-    /// The first limit that does not hold.
+    /// The configuration does not keep a limit. This is the first such limit.
     #[error("a limit does not hold: {0}")]
     Limit(ConfigLimit),
-    /// The first event control block whose owner is no caller.
+    /// The owner of an event control block is not a caller. This is the first such block.
     #[error("the owner of block {0} is no caller")]
     BadOwner(u32),
-    /// The first exit, numbered from 1, whose source is no block, or with a target that is no block or not above
-    /// the source.
+    /// An exit's source is not a block, or one of its targets is not a block or not above the source. This is the number of the
+    /// first such exit, counted from 1.
     #[error("exit {0} has a source or a target that it can't have")]
     BadExit(u32),
-    /// The sum of the budgets, which is above 524,287.
+    /// The sum of the budgets is above 524,287. This is the sum.
     #[error("the budgets come to {0} events, above 524,287")]
     Budget(u64),
-    /// There was no memory. Nothing else is wrong with the configuration.
+    /// There is not enough memory. Nothing else is wrong with the configuration.
     #[error("there is not enough memory for the configuration")]
     NoMemory,
 }

@@ -1,4 +1,4 @@
-//! What an entry of a history says: who made which operation on which object, at which place, and what was answered.
+//! The entry of a history: which caller made which operation on which object, at which place, and what the reply was.
 
 ghost use Rattle.std.specs.Prelude.{◌≡◌, ◌↔◌, IsTrue};
 
@@ -6,38 +6,38 @@ use mv_ecb::{EcbOp, EcbReply};
 use mv_element::{ElementOp, ElementReply};
 use mv_latch::{LatchOp, LatchReply};
 
-/// An object of the machine, by its number. There is one latch set.
+/// An object of the machine, by its number. There is only one latch set.
 #[derive(Clone, Copy, Debug, PartialEq, Eq)]
 pub enum Object {
     /// An event control block.
     Ecb(u32),
     /// A pause element.
     Element(u32),
-    /// A shared number.
+    /// A volume: one shared number.
     Volume(u32),
     /// The latch set, with all its latches.
     Latches,
 }
 
-/// What is done with a volume, which is one shared number of 32 bits. Volumes are this project's own, and no disks.
+/// An operation on a volume, which is one shared number of 32 bits. Volumes are this project's own, and are not disks.
 #[derive(Clone, Copy, Debug, PartialEq, Eq)]
 pub enum VolumeOp {
-    /// Its number is read.
+    /// Reads the volume's number.
     Read,
-    /// It gets this number in place of its own.
+    /// Replaces the volume's number by this one.
     Write(u32),
 }
 
-/// What a volume answers.
+/// The reply to an operation on a volume.
 #[derive(Clone, Copy, Debug, PartialEq, Eq)]
 pub enum VolumeReply {
-    /// The number that was read.
+    /// The volume's number.
     Value(u32),
-    /// The number was written.
+    /// The number is written.
     Stored,
 }
 
-/// What is done with an object. Each kind of object has operations of its own; an operation on an object of another kind is not
+/// An operation on an object. Each kind of object has its own operations; an operation of another kind of object is not
 /// admitted.
 #[derive(Clone, Copy, Debug, PartialEq, Eq)]
 pub enum Op {
@@ -47,7 +47,7 @@ pub enum Op {
     Latch(LatchOp),
 }
 
-/// What an object answers, by the table of its kind.
+/// The reply of an object, by the table of its kind.
 #[derive(Clone, Copy, Debug, PartialEq, Eq)]
 pub enum Reply {
     Ecb(EcbReply),
@@ -57,7 +57,7 @@ pub enum Reply {
 }
 
 impl Reply {
-    /// Whether two replies are the same. It is `==`, of which contracts say less.
+    /// Returns whether two replies are the same. It is `==`, whose contracts say less.
     pub fn is_same(self, other: Reply) -> bool
         ensures { IsTrue result ↔ (self ≡ other) }
     {
@@ -71,14 +71,14 @@ impl Reply {
     }
 }
 
-/// One event: who did what with which object, and what was answered. A list of entries is legal where each in turn is the one that
-/// the machine makes; `replay` judges it.
+/// One event: which caller made which operation on which object, and what the reply was. A list of entries is legal if each
+/// entry in turn is the one that the machine makes; `replay` judges it.
 #[derive(Clone, Copy, Debug, PartialEq, Eq)]
 pub struct Entry {
-    /// Counted from 0.
+    /// The caller that made the event, numbered from 0.
     pub caller: u32,
     pub object: Object,
-    /// How many events the object had before this one.
+    /// The number of events that the object had before this one.
     pub place: u32,
     pub op: Op,
     pub reply: Reply,

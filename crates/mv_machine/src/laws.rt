@@ -1,5 +1,5 @@
-//! Laws of whole histories: generations, places, parts, words, owners and requests, by specs/Elements.antt, OnePost.antt, Parts.antt,
-//! Merge.antt, Packing.antt, Owned.antt, Kept.antt and Orderly.antt. Each function is there for its clauses alone.
+//! Laws of whole histories: generations, places, parts, words, owners and requests, by specs/Elements.antt, OnePost.antt,
+//! Parts.antt, Merge.antt, Packing.antt, Owned.antt, Kept.antt and Orderly.antt. A law has no body: call it for its clauses.
 
 ghost use Rattle.std.specs.Prelude.{◌≡◌, ◌↔◌, ◌⊎◌, ◌<◌, ◌≤◌, ◌++◌, ◌∷◌, ◌+◌, ◌^◌, ℕ, true, false, List, [], length, filter, Some};
 ghost use Rattle.std.specs.Prelude.{option_map, option_and_then, IfSome, IsSome};
@@ -31,9 +31,9 @@ ghost use Rattle.mv_machine.specs.Setup.{Setup, owner_of, element_owner};
 ghost use Rattle.mv_machine.specs.System.{System, place_of, admitted, reply_to, moved};
 ghost use Rattle.mv_machine.specs.Told.{told};
 
-/// After every legal list twice an element's generation, and the extra of its phase, is at most its place. So within
-/// the events that the budgets of a run may allow, no place passes 524,287, no entry has one above 524,286, and no
-/// generation passes 262,143.
+/// Shows that after every legal list an element's place is at least twice its generation plus the extra of its phase. So within
+/// the events that the budgets of a run may allow, no object's place is above 524,287, no entry's place is above 524,286, and
+/// no generation is above 262,143.
 pub fn generations_fit()
     ensures fits { (c : Setup) (es : List Entry) (n : ℕ) → Legal c es → FitsItsPlace ((after c es).element n) }
     ensures places { (c : Setup) (es : List Entry) (o : Object) → Legal c es → length es ≤ events_limit
@@ -43,14 +43,15 @@ pub fn generations_fit()
         → ((after c es).element n).state.generation ≤ highest_generation }
 {}
 
-/// The entries on one object have the places 0, 1, 2 and so on, and its place after the list is their number.
+/// Shows that the entries on one object have the places 0, 1, 2 and so on, and that the object's place after the list is the
+/// number of these entries.
 pub fn places_count_entries()
     ensures places { (c : Setup) (es : List Entry) (o : Object) → Legal c es → CountsFrom 0 («at» o es) }
     ensures after { (c : Setup) (es : List Entry) (o : Object) → Legal c es → place_of (after c es) o ≡ length («at» o es) }
 {}
 
-/// All that a history says of an object goes by its entries on that object, and all that it says of a caller by that
-/// caller's entries beside them: two lists that agree in these are one history.
+/// Shows that what a history says of an object depends only on its entries on that object, and what it says of a caller only on
+/// these and on that caller's entries. So two lists that agree in them are one history.
 pub fn histories_are_their_parts()
     ensures legal { (c : Setup) (es : List Entry) → Legal c es ↔ ((o : Object) → Legal c («at» o es)) }
     ensures after { (c : Setup) (es : List Entry) (o : Object) → Legal c es → SameAt o (after c es) (after c («at» o es)) }
@@ -62,21 +63,23 @@ pub fn histories_are_their_parts()
         → Had c es k n o w → Had c fs k n o w }
 {}
 
-/// Every legal history is orderly: what a pause was given was released once, before it, with that code; no pause is given
-/// twice; what is over is answered Spent for ever; the granted requests of a latch are the first of its list, whose numbers
-/// rise, an exclusive one is alone, and a granted one stays granted until it is taken out; and a purged requestor has no
-/// request in any list until one of its own is granted or queued.
+/// Shows that every legal history is orderly. A code that a pause is given was released once, before the pause, and no pause is
+/// given a code twice. Each later operation on a generation that has ended gets the reply Spent. The granted requests of a
+/// latch are a prefix of its list, in which the numbers rise; a granted exclusive request is the only granted one; and a
+/// granted request stays granted until it is taken out. A purged requestor has no request in any list until one of its own
+/// requests is granted or queued.
 pub fn histories_are_orderly()
     ensures orderly { (c : Setup) (es : List Entry) → Legal c es → IsOrderly c es }
 {}
 
-/// Between two clears of an event control block, before its first and after its last, at most one post is taken: nobody waited, or
-/// a task was woken or an exit begun. Every other post there comes after it and is told its code.
+/// Shows that between two clears of an event control block, before its first clear and after its last, at most one post is
+/// taken: no task waited, or it woke a task or began an exit. Every other post in this stretch comes after it and gets its code
+/// as the reply.
 pub fn posts_complete_once()
     ensures posts { (c : Setup) (es : List Entry) → Legal c es → TakePosts es }
 {}
 
-/// A word that an object has now was had, and stays had with every further entry.
+/// Shows that a word that an object has now was had, and that further entries do not change what was had.
 pub fn words_stay_had()
     ensures now { (c : Setup) (es : List Entry) (k : ℕ) (o : Object) → Legal c es → length es ≤ events_limit
         → IsSome (state_at (after c es) o)
@@ -85,9 +88,9 @@ pub fn words_stay_had()
         → Had c es k n o w → Had c (es ++ e ∷ []) k n o w }
 {}
 
-/// The merge of the callers' parts of a legal list is legal, and is the same history: each caller's part, each object's
-/// part, what each caller was told, what was had, and where it leads. It never gets stuck: as many picks as the list has
-/// entries give an entry each.
+/// Shows that the merge of the callers' parts of a legal list is legal, and is the same history: it has the same part of each
+/// caller and of each object, each caller was shown the same wakes, the same words were had, and it ends in the same state. The
+/// merge never gets stuck: `n` picks give `n` entries, if the list has at least `n`.
 pub fn merging_keeps_a_history()
     ensures legal { (c : Setup) (es : List Entry) → Legal c es → Legal c (merged (parts c.callers es)) }
     ensures callers { (c : Setup) (es : List Entry) (k : ℕ) → Legal c es → of k (merged (parts c.callers es)) ≡ of k es }
@@ -101,16 +104,17 @@ pub fn merging_keeps_a_history()
     ensures total { (c : Setup) (es : List Entry) → Legal c es → entry_count (parts c.callers es) ≡ length es }
 {}
 
-/// What a task waits for stays until the task itself goes on; a granted request alone may go earlier, by anyone's purge of
-/// its requestor, and is then gone for good. The premises on blocks and elements look at the owner's own entries alone.
+/// Shows that what a task waits for stays until the task's own next operation on it. Only a granted request may go earlier, by
+/// any caller's purge of its requestor, and is then gone for good. The premises on blocks and elements concern only the owner's
+/// own entries.
 pub fn others_keep_what_is_owned()
-    // An operation that is its object's owner's alone is made by no other caller.
+    // Only the owner of an object makes the operations that are reserved for its owner.
     ensures owners { (c : Setup) (xs ys : List Entry) (e : Entry) → Legal c (xs ++ e ∷ ys) → is_owners e.op ≡ true
         → owner_at c e.object ≡ Some e.caller }
     // A complete block stays complete with its code until its owner clears it.
     ensures complete { (c : Setup) (xs ys : List Entry) (n code : ℕ) → Legal c (xs ++ ys) → HasNo is_clear (Ecb n) (of (owner_of c n) ys)
         → ((after c xs).ecb n).state ≡ Complete code → ((after c (xs ++ ys)).ecb n).state ≡ Complete code }
-    // An element's generation, and whether it is free, change by its owner's operations alone.
+    // Only its owner's operations change an element's generation, and whether it is free.
     ensures generation { (c : Setup) (xs ys : List Entry) (n : ℕ) → Legal c (xs ++ ys)
         → HasNo is_owners (Element n) (of (element_owner c n) ys)
         → ((after c (xs ++ ys)).element n).state.generation ≡ ((after c xs).element n).state.generation }
@@ -120,7 +124,7 @@ pub fn others_keep_what_is_owned()
     ensures released { (c : Setup) (xs ys : List Entry) (n : ℕ) → Legal c (xs ++ ys)
         → HasNo is_owners (Element n) (of (element_owner c n) ys)
         → ((after c xs).element n).state.phase ≡ Released → ((after c (xs ++ ys)).element n).state ≡ ((after c xs).element n).state }
-    // A release before its pause is kept for it.
+    // A release that comes before its pause is kept for the pause.
     ensures prereleased { (c : Setup) (xs ys : List Entry) (n : ℕ) → Legal c (xs ++ ys)
         → HasNo is_owners (Element n) (of (element_owner c n) ys)
         → ((after c xs).element n).state.phase ≡ Prereleased → ((after c (xs ++ ys)).element n).state ≡ ((after c xs).element n).state }
@@ -128,16 +132,16 @@ pub fn others_keep_what_is_owned()
     ensures held { (c : Setup) (xs ys : List Entry) (t : StandingRequest) → Legal c (xs ++ ys) → NoneTakesOut t ys
         → Contains (granted (list_of (after c xs).latches.state t.latch)) t.request
         → Contains (granted (list_of (after c (xs ++ ys)).latches.state t.latch)) t.request }
-    // It goes at once and altogether: it is granted or gone, and never waits again.
+    // A request that was granted is later either still granted or gone. It never waits again.
     ensures granted { (c : Setup) (xs ys : List Entry) (k latch id : ℕ) → Legal c (xs ++ ys)
         → IsGranted k latch id (after c xs) → IsGranted k latch id (after c (xs ++ ys)) ⊎ IsGone k latch id (after c (xs ++ ys)) }
-    // One that is gone stays gone: later requests have higher numbers.
+    // A request that is gone stays gone, since later requests have higher numbers.
     ensures gone { (c : Setup) (xs ys : List Entry) (k latch id : ℕ) → Legal c (xs ++ ys) → id < place_of (after c xs) Latches
         → IsGone k latch id (after c xs) → IsGone k latch id (after c (xs ++ ys)) }
 {}
 
-/// Each request in the lists stands by its own caller's entries, and each has its own number, above those of all earlier
-/// ones. So a caller that keeps within its quotas by its own entries keeps within them in the lists.
+/// Shows that each request in the lists is a standing one by its own caller's entries, and that each has its own number, above
+/// the numbers of all earlier ones. So a caller that keeps its quotas by its own entries keeps them in the lists.
 pub fn requests_stand_by_their_callers_entries()
     ensures stands { (c : Setup) (es : List Entry) (latch : ℕ) (q : Request) → Legal c es
         → Contains (list_of (after c es).latches.state latch) q
@@ -156,8 +160,8 @@ pub fn requests_stand_by_their_callers_entries()
         → admitted c (after c es) k o op ≡ true }
 {}
 
-/// Within the events that the budgets of a run may allow, no place leaves its 19 bits and no generation its 18: the word
-/// of each object has 64 bits and stands for the object's place and state.
+/// Shows that within the events that the budgets of a run may allow, places fit 19 bits and generations fit 18: the word of
+/// each object has 64 bits and represents the object's place and state.
 pub fn reached_states_have_words()
     ensures budgets { (c : Setup) (es : List Entry) → IsValid c → Legal c es → KeepsBudgets c es → length es ≤ events_limit }
     ensures word { (c : Setup) (es : List Entry) (o : Object) → Legal c es → length es ≤ events_limit → word_at (after c es) o < 2 ^ 64 }
@@ -167,8 +171,8 @@ pub fn reached_states_have_words()
         → IfSome (state_at (after c es) o) (λ s. HasFields s) }
 {}
 
-/// An admitted operation on an object that has a word changes it, and is answered, as `state_step` says of its state
-/// alone; its place rises by one. The words of all other objects stay.
+/// Shows that an admitted operation on an object that has a word changes its state, and gets the reply, as `state_step` says
+/// from this state only. The object's place rises by one. The words of all other objects stay.
 pub fn words_go_by_the_machine()
     ensures fields { (c : Setup) (m : System) (k : ℕ) (o : Object) (op : Op) → admitted c m k o op ≡ true → HasOpFields op }
     ensures reply { (c : Setup) (m : System) (k : ℕ) (o : Object) (op : Op) → admitted c m k o op ≡ true → IsSome (state_at m o)
@@ -180,8 +184,8 @@ pub fn words_go_by_the_machine()
     ensures others { (m : System) (k : ℕ) (o q : Object) (op : Op) → same_object o q ≡ false → SameAt q (moved m k o op) m }
 {}
 
-/// A word that stands for a place and a state is their packing, and no other word stands for them; and the packing of a
-/// state of the object's kind, whose numbers have their bits, stands for it.
+/// Shows that a word that represents a place and a state is their packing, and no other word represents them; and that the
+/// packing of a state of the object's kind, whose numbers fit their bits, represents that state.
 pub fn words_are_packings()
     ensures unpacks { (o : Object) (place : ℕ) (s : WordState) → IsStateOf o s → unpack o (pack place s) ≡ Some (place, s) }
     ensures packs { (o : Object) (w place : ℕ) (s : WordState) → unpack o w ≡ Some (place, s) → pack place s ≡ w }

@@ -1,5 +1,5 @@
 //! The machine of one thread: a configuration, the state of all its objects, the one step that an operation of a caller makes,
-//! and what holds of every legal history.
+//! and laws of every legal history.
 #![tactic(auto)]
 
 mod admission;

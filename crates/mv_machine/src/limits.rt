@@ -1,37 +1,37 @@
-//! The limits of a run, by their names. Clauses have them from specs/Limits.antt.
+//! The limits of a run, by name. Clauses have them from specs/Limits.antt.
 
-/// How many events a run may have.
+/// The most events that a run may have.
 pub(crate) const EVENTS_LIMIT: u64 = 524_287;
 
-/// The highest place that an entry may have: the budgets allow one event more.
+/// The highest place of an entry: places count from 0, and the budgets allow one event more.
 pub const HIGHEST_PLACE: u32 = 524_286;
 
-/// The highest generation that the events of a run lead an element to: 18 bits.
+/// The highest generation that an element reaches within the events of a run: it has 18 bits.
 pub const HIGHEST_GENERATION: u32 = 262_143;
 
-/// How many callers a configuration may have.
+/// The most callers of a configuration.
 pub(crate) const CALLERS_LIMIT: u32 = 16;
 
-/// How many elements each caller may have.
+/// The most elements of each caller.
 pub(crate) const ELEMENTS_LIMIT: u32 = 16;
 
-/// How many volumes a configuration may have.
+/// The most volumes of a configuration.
 pub(crate) const VOLUMES_LIMIT: u32 = 8;
 
-/// How many latches a configuration may have.
+/// The most latches of a configuration.
 pub(crate) const LATCHES_LIMIT: u32 = 8;
 
-/// How many latch requests of a caller may stand at once.
+/// The most latch requests that a caller may have at once.
 pub(crate) const REQUESTS_LIMIT: u32 = 16;
 
-/// How many event control blocks a configuration may have.
+/// The most event control blocks of a configuration.
 pub(crate) const ECBS_LIMIT: usize = 131_072;
 
-/// How many exits it may have.
+/// The most exits of a configuration.
 pub(crate) const EXITS_LIMIT: usize = 32_768;
 
-/// How many blocks an exit may post.
+/// The most blocks that an exit may post.
 pub(crate) const TARGETS_LIMIT: usize = 8;
 
-/// The highest number of posts that is told apart: it stands for all above it, too.
+/// The bound at which counts of posts saturate: it represents itself and all higher counts.
 pub(crate) const HIGHEST_REACH: u32 = 524_288;

@@ -10,7 +10,7 @@ use mv_io::NoMemory;
 use std::alloc::Global;
 use std::marker::Model;
 
-/// The entries of one caller, in the order in which it made them. Contracts see them as a list.
+/// The entries of one caller, in the order in which it made them. Contracts see a log as a list.
 #[derive(Drop)]
 pub struct Log {
     caller: u32,
@@ -28,7 +28,7 @@ impl Model for Log {
 }
 
 impl Log {
-    /// How many entries it has.
+    /// Returns the number of entries.
     #[inline]
     pub fn len(&self) -> usize
         ensures { result ≡ length self.now }
@@ -36,7 +36,7 @@ impl Log {
         self.compact.len()
     }
 
-    /// The object and the place of the entry at this position, from 0, where there is one.
+    /// Returns the object and the place of the entry at this index, counted from 0, if there is one.
     #[inline]
     pub fn subject(&self, at: usize) -> Option<(Object, u32)>
         ensures subject { result ≡ option_map subject_of (slice_get self.now at) }
@@ -46,7 +46,7 @@ impl Log {
         Some((compact.object, compact.place))
     }
 
-    /// The entry at this position, from 0, where there is one.
+    /// Returns the entry at this index, counted from 0, if there is one.
     #[inline]
     pub fn get(&self, at: usize) -> Option<Entry>
         ensures { result ≡ slice_get self.now at }
@@ -55,7 +55,7 @@ impl Log {
     }
 }
 
-/// The log of a caller that may make more entries, for which there is room.
+/// The log of a caller that may make more entries, with room for them.
 #[derive(Drop)]
 pub struct OpenLog {
     caller: u32,
@@ -71,11 +71,11 @@ impl Model for OpenLog {
 }
 
 impl OpenLog {
-    /// An empty log of this caller, with room for so many entries.
+    /// Returns an empty log of this caller, with room for `room` entries.
     ///
     /// # Errors
     ///
-    /// `NoMemory` where there is not so much.
+    /// Returns `NoMemory` if there is not enough memory for that.
     pub fn with_room(alloc: Global, caller: u32, room: usize) -> Result<OpenLog, NoMemory>
         ensures empty { IfOk result (λ l. (l.caller ≡ caller) × (l.entries ≡ [])) }
         ensures room { IfOk result (λ l. l.room ≡ room) }
@@ -86,7 +86,7 @@ impl OpenLog {
         })
     }
 
-    /// One more entry of the caller, for which there is room.
+    /// Appends one more entry of the caller, for which there is room.
     #[inline(always)]
     pub fn push(&mut self, object: Object, place: u32, op: Op, reply: Reply)
         requires room { 0 < self.old.room }
@@ -97,21 +97,21 @@ impl OpenLog {
             .push_reserved(CompactEntry::of(object, place, op, reply));
     }
 
-    /// How many entries it has.
+    /// Returns the number of entries.
     pub fn len(&self) -> usize
         ensures { result ≡ length self.now.entries }
     {
         self.compact.len()
     }
 
-    /// The entry at this position, from 0, where there is one.
+    /// Returns the entry at this index, counted from 0, if there is one.
     pub fn get(&self, at: usize) -> Option<Entry>
         ensures { result ≡ slice_get self.now.entries at }
     {
         entry_at(&self.compact, self.caller, at)
     }
 
-    /// The log, which gets no more entries.
+    /// Closes the log, which gets no more entries.
     pub fn close(self) -> Log
         ensures { result ≡ self.entries }
     {
@@ -122,7 +122,7 @@ impl OpenLog {
     }
 }
 
-// The entry at this position, which is this caller's.
+// Returns the entry of this caller at this index.
 #[inline]
 fn entry_at(compact: &[CompactEntry], caller: u32, at: usize) -> Option<Entry>
     ensures { result ≡ slice_get (map (entry_of caller) compact.now) at }

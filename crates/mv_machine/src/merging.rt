@@ -1,4 +1,4 @@
-//! The callers' logs as the one history that they are parts of, by specs/Merge.antt, specs/History.antt and specs/Room.antt.
+//! The one history whose parts are the callers' logs, by specs/Merge.antt, specs/History.antt and specs/Room.antt.
 
 ghost use Rattle.std.specs.Prelude.{◌≡◌, [], ◌++◌, All, length, IfOk, MatchOption, None};
 ghost use Rattle.std.specs.List.{AllByRecursion};
@@ -19,21 +19,21 @@ use mv_io::NoMemory;
 use std::alloc::Global;
 use std::marker::Model;
 
-/// The memory of a history: with it `History::new` takes none. It serves one history.
+/// The memory of one history: `History::new` takes it, and so allocates none.
 #[derive(Drop)]
 pub struct MergeRoom {
     // The machine before the first entry.
     state: State,
-    // For each log how many of its entries were given: none.
+    // For each log, how many of its entries were given: 0.
     merged: Vec<usize>,
 }
 
 impl MergeRoom {
-    /// Room for the history of a run of this configuration.
+    /// Allocates the room for the history of a run of this configuration.
     ///
     /// # Errors
     ///
-    /// `NoMemory` where there is not so much.
+    /// Returns `NoMemory` if there is not enough memory for that.
     pub fn new(alloc: Global, config: &ValidConfig) -> Result<MergeRoom, NoMemory>
         ensures { IfOk result (λ r. IsRoomFor config.now r) }
     {
@@ -43,7 +43,7 @@ impl MergeRoom {
     }
 }
 
-// What a merge takes next: an entry, its caller, and how many of the caller's entries are merged then.
+// The next pick of a merge: an entry, its caller, and how many of the caller's entries are merged after it.
 #[derive(Clone, Copy)]
 struct Picked {
     caller: usize,
@@ -51,7 +51,7 @@ struct Picked {
     entry: Entry,
 }
 
-// The lowest caller whose next entry has its object's next place gives that entry.
+// Returns the next entry of the lowest-numbered caller whose next entry has its object's next place.
 fn ready(logs: &[Log], merged: &[usize], state: &State) -> Option<Picked>
     requires merged { length merged.now ≡ length logs.now }
     requires objects { AllByRecursion (λ log. AllByRecursion (λ e. Exists state.now e.object) log) logs.now }
@@ -77,15 +77,15 @@ fn ready(logs: &[Log], merged: &[usize], state: &State) -> Option<Picked>
 }
 
 /// The one history of some callers, kept as their logs: it gives the entries in their order, each once, and takes the machine
-/// through them. Again and again the lowest caller whose next entry has its object's next place gives that entry. It needs no
-/// memory; an entry costs at most a look at each log.
+/// through them. Each time, the lowest-numbered caller whose next entry has its object's next place gives that entry. It needs
+/// no memory; an entry costs at most one look at each log.
 #[derive(Drop)]
 pub struct History {
     config: ValidConfig,
     logs: Vec<Log>,
-    // The machine behind what was given, which has the place of each object's next entry.
+    // The machine after the entries that were given: it has the place of each object's next entry.
     state: State,
-    // How many entries of each log were given.
+    // For each log, how many of its entries were given.
     merged: Vec<usize>,
 }
 
@@ -103,15 +103,16 @@ impl Model for History {
 /// A history as a list.
 #[derive(Drop)]
 pub struct Listed {
-    /// The configuration that it is of.
+    /// The configuration of the history.
     pub config: ValidConfig,
     pub journal: Vec<Entry>,
-    /// The state of each object behind the last entry.
+    /// The state of each object after the last entry.
     pub state: State,
 }
 
 impl History {
-    /// The history of which these logs are the callers' parts, in the order of their numbers. Nothing of it is given yet.
+    /// Makes the history of which these logs are the callers' parts, in the order of the callers' numbers. No entry of it is
+    /// given yet.
     pub fn new(config: ValidConfig, logs: Vec<Log>, room: MergeRoom) -> History
         requires history { AreOneHistory config logs.items }
         requires room { IsRoomFor config room }
@@ -130,14 +131,15 @@ impl History {
         }
     }
 
-    /// The configuration that it is of.
+    /// Returns the configuration of the history.
     pub fn config(&self) -> &ValidConfig
         ensures { result.now ≡ self.now.config }
     {
         &self.config
     }
 
-    /// The callers' logs, in the order of their numbers, with what was given and what is still to come.
+    /// Returns the callers' logs, in the order of the callers' numbers: they hold the entries that were given and those to
+    /// come.
     pub fn logs(&self) -> &[Log]
         ensures logs { parts self.now.config.callers (self.now.past ++ self.now.coming) ≡ result.now }
         ensures coming { All (StandsIn result.now) self.now.coming }
@@ -145,7 +147,7 @@ impl History {
         &self.logs
     }
 
-    /// The machine behind the last entry that was given, with the wakes of the last event on the latch set.
+    /// Returns the machine after the last entry that was given, with the wakes of the last event on the latch set.
     pub fn state(&self) -> &State
         ensures state { system_of result.now ≡ after self.now.config self.now.past }
         ensures wakes { wakes_of result.now ≡ last_wakes self.now.config self.now.past }
@@ -154,7 +156,7 @@ impl History {
         &self.state
     }
 
-    /// The next entry, which the machine then makes; nothing behind the last.
+    /// Gives the next entry, and makes its step on the machine. Returns `None` after the last entry.
     pub fn next(&mut self) -> Option<Entry>
         ensures { MatchOption result ((self.old.coming ≡ []) × (self.new ≡ self.old)) (λ e. IsGiven self.old e self.new) }
     {
@@ -166,11 +168,11 @@ impl History {
         Some(entry)
     }
 
-    /// What is still to come, as a list, and where it leads.
+    /// Returns the entries that are still to come as a list, with the state after the last one.
     ///
     /// # Errors
     ///
-    /// `NoMemory` where there is none for the list; the history is dropped then.
+    /// Returns `NoMemory` if there is not enough memory for the list; the history is then dropped.
     pub fn listed(self, alloc: Global) -> Result<Listed, NoMemory>
         ensures config { IfOk result (λ listed. listed.config ≡ self.config) }
         ensures journal { IfOk result (λ listed. listed.journal.items ≡ self.coming) }

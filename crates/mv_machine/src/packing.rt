@@ -12,19 +12,19 @@ use crate::state::volume_apply;
 use mv_ecb::{EcbWord, ecb_apply};
 use mv_element::{ElementState, Phase, element_apply};
 
-/// The state of an object that has a word of its own. The latch set has none.
+/// The state of an object that has a word. The latch set has none.
 #[derive(Clone, Copy, Debug, PartialEq, Eq)]
 pub enum WordState {
-    /// In 32 bits, as its fullword.
+    /// A block, as its fullword: 32 bits.
     Ecb(EcbWord),
-    /// Generation, phase and code, in 18, 3 and 24 bits.
+    /// An element's generation, phase and code: 18, 3 and 24 bits.
     Element(ElementState),
-    /// In 32 bits.
+    /// A volume's number: 32 bits.
     Volume(u32),
 }
 
-/// A word: a place in its 19 high bits, a state in the 45 low ones. So one exchange of a word changes both, and no word that was
-/// changed comes back.
+/// Returns a word: the place in its 19 high bits, the state in its 45 low bits. So one exchange of a word changes both, and no
+/// word that was changed comes back.
 pub fn pack(place: u32, state: WordState) -> u64
     requires place { place < place_limit }
     requires fields { HasFields state }
@@ -33,7 +33,7 @@ pub fn pack(place: u32, state: WordState) -> u64
     (u64::from(place) << 45) + bits_of(state)
 }
 
-// The bits of a state.
+// Returns the 45 bits of a state.
 fn bits_of(state: WordState) -> u64
     requires { HasFields state }
     ensures { result ≡ state_bits state }
@@ -61,8 +61,8 @@ fn phase_number(phase: Phase) -> u64
     }
 }
 
-/// The place and the state that a word of an object stands for, where it stands for one: its bits are those of a state
-/// of the object's kind. Of the object its kind alone is asked.
+/// Returns the place and the state that a word of an object represents, or `None` if its bits are not those of a state of the
+/// object's kind. Only the object's kind matters.
 pub fn unpack(object: Object, word: u64) -> Option<(u32, WordState)>
     ensures word { result ≡ unpack_of object word }
     ensures fields { IfSome result (λ r. HasFields r.1) }
@@ -71,7 +71,7 @@ pub fn unpack(object: Object, word: u64) -> Option<(u32, WordState)>
     Some(((word >> 45) as u32, state))
 }
 
-// The state of an object of this kind that these bits stand for.
+// Returns the state of an object of this kind that these bits represent.
 fn state_in(object: Object, bits: u64) -> Option<WordState>
     requires { bits < 2 ^ 45 }
     ensures { result ≡ state_by_bits object bits }
@@ -97,7 +97,7 @@ fn state_in(object: Object, bits: u64) -> Option<WordState>
     }
 }
 
-// The element of this generation, in the phase of this number.
+// Returns the element of this generation, in the phase of this number. A phase that keeps no code must have code 0.
 fn element_in(generation: u32, phase: u64, code: u32) -> Option<ElementState>
     requires { code < release_limit }
     ensures { result ≡ element_by_fields generation phase code }
@@ -112,8 +112,8 @@ fn element_in(generation: u32, phase: u64, code: u32) -> Option<ElementState>
     }
 }
 
-/// One operation on the state of an object: the state after it, and the reply. There is none where the operation is
-/// of another kind of object. Who may make it is not asked.
+/// Makes one operation on the state of an object, and returns the state after it and the reply, or `None` if the operation is
+/// of another kind of object. It does not check which caller may make the operation.
 #[inline(always)]
 pub fn state_apply(op: Op, state: WordState) -> Option<(WordState, Reply)>
     requires op { HasOpFields op }

@@ -1,4 +1,4 @@
-//! How many posts one post can lead to over the exits, by specs/Reach.antt and specs/Chains.antt.
+//! How many posts one post can lead to through exits, by specs/Reach.antt and specs/Chains.antt.
 
 ghost use Rattle.std.specs.Prelude.{◌≡◌, ◌<◌, ◌≤◌, ◌^◌, ◌*◌, length, map, IfOk, slice_index};
 ghost use Rattle.std.specs.List.{AllByRecursion};
@@ -12,12 +12,12 @@ use crate::config::{Config, Exit};
 use crate::limits::HIGHEST_REACH;
 use std::alloc::{AllocError, Global};
 
-// The exits of each block, from the last to the first. Exits are counted from 1, and 0 is none.
+// The exits of each block as a chain, from the last to the first. Exits are counted from 1, and 0 ends a chain.
 #[derive(Drop)]
 struct Chains {
-    // For each block.
+    // For each block, its last exit.
     last: Vec<u32>,
-    // For each exit the one before it with the same source.
+    // For each exit, the exit before it with the same source.
     before: Vec<u32>,
 }
 
@@ -36,7 +36,7 @@ fn chains_of(alloc: Global, ecbs: usize, exits: &[Exit]) -> Result<Chains, Alloc
     Ok(Chains { last, before })
 }
 
-// The sum of the reaches of some blocks.
+// Returns the sum of the reaches of some blocks.
 fn total(targets: &[u32], reaches: &[u32]) -> u32
     requires few { length targets.now ≤ targets_limit }
     requires good { AllByRecursion (λ t. t < length reaches.now) targets.now }
@@ -51,7 +51,7 @@ fn total(targets: &[u32], reaches: &[u32]) -> u32
     sum
 }
 
-// The greatest sum that an exit of a block leads to.
+// Returns the greatest sum of reaches that an exit of a block leads to.
 fn greatest_total(exits: &[Exit], chains: &Chains, ecb: usize, reaches: &[u32]) -> u32
     requires good { AllByRecursion (HasFewGoodTargets (length reaches.now)) (map exit_of exits.now) }
     requires chains { AreChains (length reaches.now) (map exit_of exits.now)
@@ -72,7 +72,7 @@ fn greatest_total(exits: &[Exit], chains: &Chains, ecb: usize, reaches: &[u32]) 
     best
 }
 
-/// The reach of each block, from the last to the first: exits lead up.
+/// Computes the reach of each block, from the last block to the first: exits lead to higher blocks.
 pub(crate) fn reaches_of(alloc: Global, config: &Config) -> Result<Vec<u32>, AllocError>
     requires { IsValid (setup_of config.now) }
     ensures { IfOk result (λ v. AreReaches (setup_of config.now) v.items) }
@@ -89,7 +89,7 @@ pub(crate) fn reaches_of(alloc: Global, config: &Config) -> Result<Vec<u32>, All
     Ok(reaches)
 }
 
-/// What a release of a latch may cost.
+/// Returns the most events that a release of a latch makes.
 pub(crate) fn release_cost_of(config: &Config, reaches: &[u32]) -> u32
     requires valid { IsValid (setup_of config.now) }
     requires reaches { AreReaches (setup_of config.now) reaches.now }

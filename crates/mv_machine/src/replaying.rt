@@ -1,4 +1,4 @@
-//! The judgement of a list of entries: is it legal, and which entry is the first that is not, by specs/Legal.antt and
+//! The judgement of a list of entries: whether it is legal, and otherwise its first illegal entry, by specs/Legal.antt and
 //! specs/Replay.antt.
 
 ghost use Rattle.std.specs.Prelude.{◌≡◌, ◌≢◌, ◌<◌, ◌≤◌, ◌↔◌, IsTrue, MatchOption, OnOk, IfOk, IfErr, All, Some};
@@ -19,15 +19,15 @@ use mv_io::NoMemory;
 use std::alloc::Global;
 use thiserror::Error;
 
-/// The first entry that is not the machine's.
+/// The first entry that is not the one that the machine makes.
 #[derive(Clone, Copy, Debug, PartialEq, Eq, Error)]
 #[error("entry {index} is not the machine's next")]
 pub struct Illegal {
-    /// Counted from 0.
+    /// The entry's index, counted from 0.
     pub index: usize,
-    /// The place and the reply that the entry has.
+    /// The place and the reply of the entry.
     pub kept: (u32, Reply),
-    /// Those that the machine gives, or nothing where it does not admit the operation.
+    /// The place and the reply that the machine gives, or `None` if it does not admit the operation.
     pub machine: Option<(u32, Reply)>,
 }
 
@@ -52,13 +52,16 @@ impl From<NoMemory> for ReplayRefusal {
     }
 }
 
-/// Goes through a list of entries from the opening on. Ok exactly where the list is legal, with the state after it,
-/// unless there is no memory for the opening state. The budgets are not asked. Its places are at
-/// most 524,286, as those of every run are. The time is that of a step of the machine for each entry.
+/// Steps the machine through a list of entries, from the opening state on. Returns the state after the list if the list is
+/// legal.
+///
+/// It does not check the budgets. The places are at most 524,286, as in every run. It takes the time of one step of the machine
+/// for each entry, and no memory but that of the opening state.
 ///
 /// # Errors
 ///
-/// Those of `ReplayRefusal`.
+/// Returns the first entry that is not the machine's if the list is not legal, or `NoMemory` if there is no memory for the
+/// opening state.
 ///
 /// # Example
 ///
@@ -91,7 +94,7 @@ pub fn replay(
     }
 }
 
-// Steps through the entries as long as they are the machine's. What the state is after an illegal one is not said.
+// Steps through the entries as long as they are the machine's. No contract gives the state after an illegal entry.
 fn first_illegal(state: &mut State, config: &ValidConfig, entries: &[Entry]) -> Option<Illegal>
     requires opened { IsOpenedWith config.now state.old }
     requires places { All (λ e. e.place ≤ highest_place) entries.now }
@@ -116,7 +119,7 @@ fn first_illegal(state: &mut State, config: &ValidConfig, entries: &[Entry]) -> 
     None
 }
 
-// Whether the machine's answer is this one.
+// Returns whether the machine's answer is this place and this reply.
 fn is_answer(machine: Option<(u32, Reply)>, place: u32, reply: Reply) -> bool
     ensures { IsTrue result ↔ (machine ≡ Some (place, reply)) }
 {

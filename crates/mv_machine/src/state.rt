@@ -50,12 +50,12 @@ pub struct State {
 }
 
 impl State {
-    /// The state before the first event, with room for all that `step` will do: blocks are zero, elements free and of generation
-    /// 0, volumes 0, and nothing is requested.
+    /// Returns the state before the first event, with room for all that `step` will do. Blocks are zero, elements are free and
+    /// of generation 0, volumes are 0, and no latch has a request.
     ///
     /// # Errors
     ///
-    /// `NoMemory` where there is not enough.
+    /// Returns `NoMemory` if there is not enough memory for that.
     pub fn opening(alloc: Global, config: &ValidConfig) -> Result<State, NoMemory>
         ensures system { IfOk result (λ s. system_of s ≡ opening_of config.now) }
         ensures wakes { IfOk result (λ s. wakes_of s ≡ []) }
@@ -89,7 +89,7 @@ impl State {
         })
     }
 
-    /// Whether there is this object.
+    /// Returns whether the machine has this object.
     pub fn has(&self, object: Object) -> bool
         ensures { IsTrue result ↔ Exists self.now object }
     {
@@ -101,7 +101,7 @@ impl State {
         }
     }
 
-    /// How many events an object has had: the place of its next.
+    /// Returns the number of events that an object has had, which is the place of its next event.
     pub fn place(&self, object: Object) -> u32
         requires { Exists self.now object }
         ensures { result ≡ place_of (system_of self.now) object }
@@ -114,7 +114,7 @@ impl State {
         }
     }
 
-    /// The word of an event control block.
+    /// Returns the word of an event control block.
     pub fn ecb(&self, ecb: u32) -> EcbWord
         requires { Exists self.now (Object.Ecb ecb) }
         ensures { result ≡ ((system_of self.now).ecb ecb).state }
@@ -122,7 +122,7 @@ impl State {
         self.ecbs[ecb as usize].word
     }
 
-    /// The state of a pause element.
+    /// Returns the state of a pause element.
     pub fn element(&self, element: u32) -> ElementState
         requires { Exists self.now (Object.Element element) }
         ensures { result ≡ ((system_of self.now).element element).state }
@@ -130,7 +130,7 @@ impl State {
         self.elements[element as usize].state
     }
 
-    /// The number in a volume.
+    /// Returns the number in a volume.
     pub fn volume(&self, volume: u32) -> u32
         requires { Exists self.now (Object.Volume volume) }
         ensures { result ≡ ((system_of self.now).volume volume).state }
@@ -138,7 +138,7 @@ impl State {
         self.volumes[volume as usize].number
     }
 
-    /// The requests of a latch, in order of arrival.
+    /// Returns the requests of a latch, in the order of their arrival.
     pub fn requests(&self, latch: u32) -> &[Request]
         requires { HasLatch self.now latch }
         ensures { result.now ≡ list_of (system_of self.now).latches.state latch }
@@ -146,18 +146,20 @@ impl State {
         self.latches.requests(latch)
     }
 
-    /// Who was to be woken after the last event that `step` made on the latch set, in order. Before one it is empty.
+    /// Returns the wakes of the last event that `step` made on the latch set, in order. Before the first such event there are
+    /// none.
     pub fn wakes(&self) -> &[Wake]
         ensures { result.now ≡ wakes_of self.now }
     {
         &self.wakes
     }
 
-    /// One operation of a caller on an object: the place that the object had, and the reply. The place rises by one,
-    /// and is the number of an obtain's request. There is no answer, and nothing changes, exactly where the operation
-    /// is not admitted: there is no such caller or object, or the operation is not for that caller or not within its limits. It
-    /// never waits, and needs no memory.
-    // Inlined with its parts: an operation and a reply that are handed on through memory cost more than the step.
+    /// Makes one operation of a caller on an object, and returns the place that the object had and the reply. The object's
+    /// place rises by one; the old place is the number of an obtain's request.
+    ///
+    /// Returns `None`, and changes nothing, exactly if the operation is not admitted: the caller or the object does not exist,
+    /// or the caller may not make the operation, or it is not within the limits. It never waits, and needs no memory.
+    // Inlined with its parts: to hand an operation and a reply on through memory costs more than the step.
     #[inline(always)]
     pub fn step(
         &mut self,
@@ -176,8 +178,8 @@ impl State {
         self.advance(config, caller, object, op)
     }
 
-    // A step at any place that has 19 bits. The place behind the last of them has not, so this is for those who do
-    // not go on from there.
+    // Makes a step at any place of 19 bits. A step at the last such place leaves a place of 20 bits, so it must be the last
+    // step on the object.
     #[inline(always)]
     pub(crate) fn advance(
         &mut self,
@@ -300,7 +302,7 @@ impl State {
     }
 }
 
-// One operation on a volume: the number after it, and the reply.
+// Makes one operation on a volume, and returns the number after it and the reply.
 pub(crate) fn volume_apply(op: VolumeOp, number: u32) -> (u32, VolumeReply)
     ensures { result ≡ volume_step op number }
 {

@@ -18,11 +18,11 @@ use std::alloc::Global;
 use std::marker::Model;
 use std::ops::Range;
 
-/// A configuration that was checked, by `Config::check`. It does not change.
+/// A configuration that no rule refuses: `Config::check` and `ValidConfig::of` make it. It does not change.
 #[derive(Drop)]
 pub struct ValidConfig {
     config: Config,
-    // For each event control block.
+    // The reach of each event control block.
     reaches: Vec<u32>,
     release_cost: u32,
 }
@@ -43,12 +43,13 @@ impl ValidConfig {
     ghost use Rattle.mv_machine.specs.Config.{setup_of};
     ghost use Rattle.mv_machine.specs.Check.{IsValid};
 
-    /// The checked form of a configuration that no rule refuses. It computes once how many posts one post leads to, in time linear
-    /// in the blocks and the exits. If a caller does not know that no rule refuses the configuration, `Config::check` finds out.
+    /// Makes the checked form of a configuration that no rule refuses. It computes once how many posts one post leads to, in
+    /// time linear in the blocks and the exits. If a caller does not know that no rule refuses the configuration,
+    /// `Config::check` finds out.
     ///
     /// # Errors
     ///
-    /// `NoMemory` if there is no room for what it computes; the configuration is dropped then.
+    /// Returns `NoMemory` if there is no memory for what it computes; the configuration is then dropped.
     pub fn of(alloc: Global, config: Config) -> Result<ValidConfig, NoMemory>
         requires { IsValid (setup_of config) }
         ensures { IfOk result (λ v. v ≡ setup_of config) }
@@ -62,7 +63,7 @@ impl ValidConfig {
         })
     }
 
-    /// The configuration as it was given.
+    /// Returns the configuration as it was given.
     pub fn config(&self) -> &Config
         ensures given { setup_of result.now ≡ self.now }
         ensures valid { IsValid self.now }
@@ -70,8 +71,9 @@ impl ValidConfig {
         &self.config
     }
 
-    /// At most how many posts one post of an event control block leads to, itself among them: 1 to 524,288, where
-    /// 524,288 also stands for all above. It takes the one exit that leads to most. So many events a post of it may take.
+    /// Returns the most posts that one post of an event control block leads to, itself included: 1 to 524,288, where 524,288
+    /// means that many or more. A post starts at most one exit, so only the exit that leads to the most posts counts. A post of
+    /// the block makes at most this many events.
     pub fn reach(&self, ecb: u32) -> u32
         requires { ecb < length self.now.owners }
         ensures { result ≡ reach self.now ecb }
@@ -79,64 +81,64 @@ impl ValidConfig {
         self.reaches[ecb as usize]
     }
 
-    /// At most how many events one release of a latch makes, with the posts of the requests that it grants: 1 to
-    /// 524,288, where 524,288 also stands for all above.
+    /// Returns the most events that one release of a latch makes, with the posts of the requests that it grants: 1 to 524,288,
+    /// where 524,288 means that many or more.
     pub fn release_cost(&self) -> u32
         ensures { result ≡ release_cost self.now }
     {
         self.release_cost
     }
 
-    /// How many wakes one event on the latch set may have: one for each request that the quotas allow.
+    /// Returns the most wakes of one event on the latch set: one for each request that the quotas allow.
     pub fn most_wakes(&self) -> usize
         ensures { result ≡ self.now.callers * self.now.quota }
     {
         self.config.callers as usize * self.config.quota as usize
     }
 
-    // Whether there is this caller.
+    // Returns whether the configuration has this caller.
     pub(crate) fn has_caller(&self, caller: u32) -> bool
         ensures { result ≡ nat_lt caller self.now.callers }
     {
         caller < self.config.callers
     }
 
-    /// Whether there is this event control block.
+    /// Returns whether the configuration has this event control block.
     pub fn has_ecb(&self, ecb: u32) -> bool
         ensures there { result ≡ nat_lt ecb (length self.now.owners) }
     {
         (ecb as usize) < self.config.owners.len()
     }
 
-    // How many elements there are.
+    // Returns the number of elements.
     pub(crate) fn elements(&self) -> u32
         ensures { result ≡ element_count self.now }
     {
         self.config.callers * self.config.elements_per_caller
     }
 
-    // Whether there is this element.
+    // Returns whether the configuration has this element.
     pub(crate) fn has_element(&self, element: u32) -> bool
         ensures { result ≡ nat_lt element (element_count self.now) }
     {
         element < self.elements()
     }
 
-    /// Whether there is this volume.
+    /// Returns whether the configuration has this volume.
     pub fn has_volume(&self, volume: u32) -> bool
         ensures there { result ≡ nat_lt volume self.now.volumes }
     {
         volume < self.config.volumes
     }
 
-    /// Whether there is this latch.
+    /// Returns whether the configuration has this latch.
     pub fn has_latch(&self, latch: u32) -> bool
         ensures there { result ≡ nat_lt latch self.now.latches }
     {
         latch < self.config.latches
     }
 
-    /// The caller that waits on an event control block.
+    /// Returns the caller that waits on an event control block: its owner.
     pub fn ecb_owner(&self, ecb: u32) -> u32
         requires exists { ecb < length self.now.owners }
         ensures owner { result ≡ owner_of self.now ecb }
@@ -145,7 +147,7 @@ impl ValidConfig {
         self.config.owners[ecb as usize]
     }
 
-    /// Whether an event control block is this caller's.
+    /// Returns whether this caller owns an event control block.
     pub fn owns_ecb(&self, caller: u32, ecb: u32) -> bool
         requires exists { ecb < length self.now.owners }
         ensures owned { result ≡ (owner_of self.now ecb == caller) }
@@ -153,14 +155,14 @@ impl ValidConfig {
         self.ecb_owner(ecb) == caller
     }
 
-    /// The caller whose an element is; of one that is not there, no caller.
+    /// Returns the caller that owns an element. For a number that no element has, the result is not the number of a caller.
     pub fn element_owner(&self, element: u32) -> u32
         ensures owner { result ≡ element_owner self.now element }
     {
         element / self.config.elements_per_caller
     }
 
-    /// The elements of a caller, by their numbers: those that it may open, pause and close.
+    /// Returns the elements that a caller owns, by their numbers: it may open, pause and close them.
     #[tactic(auto, using(crate::proofs::OwnElements::is_own))]
     pub fn own_elements(&self, caller: u32) -> Range<u32>
         requires caller { caller < self.now.callers }
@@ -175,21 +177,21 @@ impl ValidConfig {
         first..first + count
     }
 
-    /// Whether an element is this caller's.
+    /// Returns whether this caller owns an element.
     pub fn owns_element(&self, caller: u32, element: u32) -> bool
         ensures owned { result ≡ (element_owner self.now element == caller) }
     {
         self.element_owner(element) == caller
     }
 
-    /// Whether an event control block is the source or a target of an exit.
+    /// Returns whether an event control block is the source or a target of any exit.
     pub fn is_on_exit(&self, ecb: u32) -> bool
         ensures on { result ≡ is_on_exit self.now ecb }
     {
         is_on_any(&self.config.exits, ecb)
     }
 
-    /// Whether there is an exit of this number, counted from 1, and it starts from this block.
+    /// Returns whether there is an exit of this number, counted from 1, and it starts from this block.
     pub fn is_exit_of(&self, exit: u32, ecb: u32) -> bool
         ensures starts { result ≡ is_exit_of self.now exit ecb }
         ensures few { IsTrue result → exit ≤ exits_limit }
@@ -203,7 +205,8 @@ impl ValidConfig {
         }
     }
 
-    /// The blocks that an exit posts, in their order. Exits are counted from 1; one that is not there has none.
+    /// Returns the blocks that an exit posts, in their order. Exits are counted from 1; a number that no exit has gives no
+    /// blocks.
     #[tactic(auto, using(crate::proofs::Targets::targets_found, crate::proofs::Targets::targets_missing))]
     pub fn targets(&self, exit: u32) -> &[u32]
         ensures targets { result.now ≡ targets_of self.now exit }
@@ -217,11 +220,11 @@ impl ValidConfig {
         }
     }
 
-    /// A latch set with this configuration's latches and quotas, in which nothing is requested.
+    /// Returns a latch set with this configuration's latches and quotas, and without requests.
     ///
     /// # Errors
     ///
-    /// `NoMemory` where there is no room for the requests that the quotas allow.
+    /// Returns `NoMemory` if there is no memory for the requests that the quotas allow.
     pub fn open_latches(&self, alloc: Global) -> Result<LatchSet, NoMemory>
         ensures { IfOk result (λ s. s ≡ opened self.now.latches self.now.callers self.now.quota self.now.posted_quota) }
     {
@@ -237,14 +240,14 @@ impl ValidConfig {
     }
 }
 
-// Whether a block is the source or a target of one of these exits.
+// Returns whether a block is the source or a target of one of these exits.
 fn is_on_any(exits: &[Exit], ecb: u32) -> bool
     ensures { result ≡ list_any (λ x. is_on (exit_of x) ecb) exits.now }
 {
     exits.iter().any(|exit| exit.source == ecb || has_target(&exit.targets, ecb))
 }
 
-// Whether a block is one of these targets.
+// Returns whether a block is one of these targets.
 fn has_target(targets: &[u32], ecb: u32) -> bool
     ensures { result ≡ list_any (λ target. target == ecb) targets.now }
 {
