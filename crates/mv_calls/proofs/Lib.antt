@@ -1,14 +1,14 @@
--- programs over what was heard, and calls one after the other
+-- programs over what was observed, and calls one after the other
 pub mod Programs
 pub mod Making
--- what a caller hears in a history, and histories in which each follows its program
+-- what a caller observes in a history, and histories in which each caller follows its program
 pub mod Hearing
 pub mod Interleaved
 -- lists of different numbers
 pub mod Distinct
--- the program that a call is where it is not refused
+-- the program of a call that is not refused
 pub mod Unrefused
--- what a call is behind each reply, and the calls of one event: for calls_keep_to_their_events, posts_reach and number_calls
+-- the rest of a call after each reply, and the calls of one event: for calls_keep_to_their_events, posts_reach and number_calls
 pub mod Replies
 -- calls_keep_to_their_events
 pub mod Needs
@@ -34,11 +34,11 @@ pub mod Queues
 pub mod Sections
 -- posts_reach
 pub mod Posting
--- the laws in the words of a caller's own log
+-- the laws as a caller's own log has them
 pub mod Uses
 -- number_calls, replay_calls
 pub mod call_numbers
--- worked rows: calls that are computed, the histories that several rows are made of, and the rows
+-- worked rows: calls that are computed, the histories that several rows use, and the rows
 pub mod Computed
 pub mod Examples
 pub mod WaitRows
@@ -50,5 +50,5 @@ pub mod EventRows
 -- Table::check
 pub mod Tables
 pub mod TableFacts
--- an exit starts from what a task holds extended: for waits
+-- an exit starts from a block that a task holds extended: for waits
 pub mod ExtendedBlocks

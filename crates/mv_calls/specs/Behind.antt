@@ -1,4 +1,4 @@
--- What lies behind an event: the legal history after which it was the machine's next one.
+-- The legal history before an event: the event was the machine's next one after it.
 use Rattle.std.specs.Prelude.{◌≡◌, ℕ, List, [], ◌∷◌, ◌++◌}
 use Rattle.mv_latch.specs.declared.operation.Wake.{Wake}
 use Rattle.mv_machine.specs.declared.entry.Entry.{Entry}
@@ -16,8 +16,8 @@ pub record IsEvent (c : Setup) (before : List Entry) (e : Entry) (o : Object) (o
   pub object : e.object ≡ o
   pub operation : e.op ≡ op
 
--- The entry was the caller's, and the machine's next one after a legal history of which the log is the caller's part. What
--- was told is what was told of that history and of the entry.
+-- The entry was the caller's, and the machine's next one after a legal history of which the log is the caller's part. The
+-- caller was shown these wakes in that history and by the entry.
 pub record IsBehind (c : Setup) (k : ℕ) (log : List Entry) (e : Entry) (shown : List (List Wake)) : Type 0 where
   pub before : List Entry
   pub legal : Legal c before

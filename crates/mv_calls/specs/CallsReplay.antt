@@ -1,4 +1,4 @@
--- What a list of entries with call numbers is refused for.
+-- Why a list of entries with call numbers is refused.
 use Rattle.std.specs.Prelude.{◌≡◌, ◌≢◌, ℕ, ◌+◌, List, take, slice_get, Some}
 use Rattle.mv_machine.specs.declared.entry.Entry.{Entry}
 use Rattle.mv_machine.specs.declared.replaying.Illegal.{Illegal}
@@ -14,19 +14,19 @@ use Rattle.mv_calls.specs.declared.judge.Judge.{Judge}
 use Rattle.mv_calls.specs.Judge.{HasJudged}
 use Rattle.mv_calls.specs.Numbers.{calls}
 
--- Two lists agree before `index`; there the first has x, and the second has y, another number.
+-- two lists agree before `index`, and there have two different numbers: x in the first list, y in the second
 pub record IsFirstOther (xs ys : List ℕ) (index x y : ℕ) : Type 0 where
   pub same : take index xs ≡ take index ys
   pub one : slice_get xs index ≡ Some x
   pub other : slice_get ys index ≡ Some y
   pub differs : x ≢ y
 
--- the entries up to this one are legal and have their call numbers, but for the last, which has another
+-- the entries up to this one are legal, and each has its call number but this one, which has another
 pub record IsFirstNumber (c : Setup) (es : List Entry) (kept : List ℕ) (index k machine : ℕ) : Type 0 where
   pub legal : Legal c (take (index + 1) es)
   pub other : IsFirstOther kept (calls c (take (index + 1) es)) index k machine
 
--- the entries up to one are legal and have their call numbers, and that one is not the machine's
+-- the entries before this one are legal and have their call numbers, and this one is not the machine's
 pub record IsFirstBad (c : Setup) (es : List Entry) (kept : List ℕ) (i : Illegal) : Type 0 where
   pub illegal : IsFirstIllegal c (opening c) es i
   pub numbers : take i.index kept ≡ calls c (take i.index es)
@@ -42,13 +42,13 @@ abbrev pub of_replay : ReplayRefusal → CallsRefusal
 of_replay (replay.Illegal i) = refusal.Illegal i
 of_replay replay.NoMemory = refusal.NoMemory
 
--- the same of a list that is known not to be legal, whatever numbers it has
+-- the refusal of a list that is known not to be legal, whatever call numbers it has
 abbrev pub IsIllegalRefused : Setup → List Entry → CallsRefusal → Type 0
 IsIllegalRefused c es (refusal.Illegal i) = IsFirstIllegal c (opening c) es i
 IsIllegalRefused c es (refusal.Number index k machine) = ⊥
 IsIllegalRefused c es refusal.NoMemory = Unit {0}
 
--- all of them were judged, and have their numbers
+-- all entries were judged, and have their call numbers
 pub record IsReplayed (c : Setup) (es : List Entry) (kept : List ℕ) (j : Judge) : Type 0 where
   pub judged : HasJudged c es j
   pub numbers : kept ≡ calls c es

@@ -1,4 +1,4 @@
--- The calls on tables of events: each is made of other calls, one after the other.
+-- The calls on tables of events. Each is made of other calls, one after the other.
 use Rattle.std.specs.Prelude.{ℕ, ◌+◌, ◌^◌, ◌==◌, nat_lt, false, not, List, [], ◌∷◌, Option, Some, Result, Ok, Err, if◌then◌else◌}
 use Rattle.mv_latch.specs.declared.request.LatchForm.TheVariants.{Waiting}
 use Rattle.mv_latch.specs.declared.request.Mode.TheVariants.{Exclusive}
@@ -14,38 +14,39 @@ use Rattle.mv_calls.specs.Refusal as refusal
 use Rattle.mv_calls.specs.Table.{event_block, slot_block}
 use Rattle.mv_calls.specs.Waits.{refused_if, wait, test_ecb, read_volume, write_volume}
 
--- what a post of an event comes to: the event has this position; or it was complete with this code before
+-- the outcome of a post of an event: the event has this position, or it was complete with this code before
 pub data Entering : Type 0 where
   EnteredAt : (position : ℕ) → Entering
   WasComplete : (code : ℕ) → Entering
 
--- an event that was handed out: its index, and its block's word
+-- an event that was handed out: its index, and the word of its block
 pub record Finding : Type 0 where
   pub index : ℕ
   pub word : ℕ
 
 -- ---- post of an event
 
--- requestors from this one on are those of posts of events: one for each caller
+-- the requestors of posts of events begin with this one: there is one for each caller
 abbrev pub first_event_requestor : ℕ
 first_event_requestor = 2 ^ 63
 
--- a caller's requestor
+-- the requestor of a caller's posts of events
 abbrev pub event_requestor : ℕ → ℕ
 event_requestor k = first_event_requestor + k
 
--- The latch is released, and this is answered, whatever the release answers: a purge may have taken the request out.
+-- The latch is released, and the call returns this answer, whatever the reply to the release is: a purge may have taken the
+-- request out.
 abbrev pub freed : {A : Type 0} → Setup → Table → ℕ → A → Call A
 freed c t id answer = followed (release_latch c t.latch id false) (λ released. finished answer)
 
--- the event has position k: the next is counted from then on, and slot k is posted with the event's index
+-- the event has position k: the volume now counts k + 1 events, and slot k is posted with the event's index
 abbrev pub entered : Setup → Table → ℕ → ℕ → ℕ → Call (Result Entering Refusal)
 entered c t index id k =
     followed (write_volume t.volume (k + 1)) (λ stored.
     followed (post c (slot_block t k) index) (λ posting.
     freed c t id (Ok (EnteredAt k))))
 
--- so many events were complete before. There is no slot for one more than the table has
+-- the table has counted k events before this one, which gets slot k if the table has that slot
 abbrev pub counted : Setup → Table → ℕ → ℕ → ℕ → Call (Result Entering Refusal)
 counted c t index id k = if nat_lt k t.size then entered c t index id k else freed c t id (Err (refusal.Broken k))
 
@@ -54,7 +55,7 @@ abbrev pub event_posted : Setup → Table → ℕ → ℕ → Posting → Call (
 event_posted c t index id (Already code) = freed c t id (Ok (WasComplete code))
 event_posted c t index id posting = followed (read_volume t.volume) (counted c t index id)
 
--- with the latch, the event's block is posted; without it nothing is
+-- with the latch the event's block is posted; without it nothing is
 abbrev pub with_latch : Setup → Table → ℕ → ℕ → Result Requested Refusal → Call (Result Entering Refusal)
 with_latch c t index code (Ok (GrantedAs id)) = followed (post c (event_block t index) code) (event_posted c t index id)
 with_latch c t index code (Ok (PendingAs id)) = wrong
@@ -67,27 +68,27 @@ post_event c t index code kept =
 
 -- ---- the next event
 
--- another caller's table; there is no such position
+-- why a next event is refused: the table is another caller's, or has no such position
 abbrev pub next_event_refusal : Table → ℕ → Kept → Option Refusal
 next_event_refusal t position kept =
     or_else (refused_if (not (t.owner == kept.caller)) refusal.NotOwner)
     (refused_if (not (nat_lt position t.size)) refusal.Drained)
 
--- the word of an event's block is what is handed out with its index
+-- the index of the event is handed out with the word of its block
 abbrev pub handed_out : Table → ℕ → Call (Result Finding Refusal)
 handed_out t index =
     followed (test_ecb (event_block t index)) (λ word. finished (Ok (record { index = index; word = word })))
 
--- the slot has this code, which is to be an event's index
+-- the slot has this code, which should be an event's index
 abbrev pub indexed : Table → ℕ → Call (Result Finding Refusal)
 indexed t index = if nat_lt index t.size then handed_out t index else finished (Err (refusal.Strange index))
 
--- a wait for one block that was not refused has found it complete
+-- a wait for one block that was not refused has found the block complete
 abbrev pub slot_found : Table → Result (List (Option ℕ)) Refusal → Call (Result Finding Refusal)
 slot_found t (Ok (Some index ∷ [])) = indexed t index
 slot_found t answer = wrong
 
--- next event: the slot of this position is waited for, and then its event's block is looked at
+-- next event: waits for the slot of this position, and then reads the block of the slot's event
 abbrev pub next_event : Setup → Table → ℕ → Call (Result Finding Refusal)
 next_event c t position kept =
     unless_refused (next_event_refusal t position kept)

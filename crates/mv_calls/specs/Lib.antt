@@ -1,5 +1,5 @@
--- What calls of the services are, and what a log says of the machine.
--- what is kept, what a call is, and what it is that one was made
+-- The calls of the services as programs, and what a log says of the machine.
+-- what a task keeps, what a call is, and when one was made
 pub mod Refusal
 pub mod Keeping
 pub mod Program

@@ -1,4 +1,4 @@
--- The entries of one call have one number.
+-- All entries of one call have one number.
 use Rattle.std.specs.Prelude.{◌≡◌, ℕ, List, ◌++◌, length}
 use Rattle.std.specs.List.{AllByRecursion}
 use Rattle.mv_machine.specs.declared.entry.Entry.{Entry}
@@ -13,7 +13,7 @@ use Rattle.mv_calls.specs.Services.{Service, Answer, program, Wait, Post, TryPos
 use Rattle.mv_calls.specs.Services.{Allocate, Pause, Release, TryRelease, Transfer, Deallocate, TestElement, Obtain, CheckLatch}
 use Rattle.mv_calls.specs.Services.{ReleaseLatch, Purge, EndOfJob, EndOfTask, PostEvent, NextEvent}
 
--- the calls, apart from the ends of jobs and tasks and the calls on tables of events, which are made of other calls
+-- the calls that are not made of other calls: all but the ends of jobs and tasks and the calls on tables of events
 abbrev pub IsSingle : Service → Type 0
 IsSingle (Wait count blocks) = Unit {0}
 IsSingle (Post block code) = Unit {0}
@@ -50,8 +50,8 @@ pub record IsOneCall (c : Setup) (k : ℕ) (es : List Entry) (old piece : List H
   pub answer : Answer service
   pub done : IsDoneOn (program c service (kept_of k (entries old))) piece answer
 
--- In a history with these numbers the piece of a caller's entries has one: the numbers of the caller's entries are as many as
--- went before, then as many as the piece has, all the same, and then what is left.
+-- In a history with these numbers, the piece of a caller's entries has one number: the numbers of the caller's entries are as
+-- many as `old` has, then as many as the piece has, all the same, and then the rest.
 pub record HasOneNumber (k : ℕ) (es : List Entry) (numbers : List ℕ) (old piece : List Heard) : Type 0 where
   pub before : List ℕ
   pub mine : List ℕ

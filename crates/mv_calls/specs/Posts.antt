@@ -1,4 +1,4 @@
--- Posts of event control blocks: each with the posts of its exit, and these with theirs.
+-- Posts of event control blocks, each with the posts of its exit, and these with the posts of their exits.
 use Rattle.std.specs.Prelude.{ℕ, suc, zero, ◌==◌, Bool, true, false, ◌&&◌, List, [], ◌∷◌, length, Option, Some, None, option_map}
 use Rattle.std.specs.Prelude.{option_and_then, if◌then◌else◌}
 use Rattle.mv_ecb.specs.declared.operation.EcbOp.TheVariants as ecb_op
@@ -16,44 +16,45 @@ use Rattle.mv_machine.specs.Setup.{Setup, targets_of}
 use Rattle.mv_calls.specs.Keeping.{Kept}
 use Rattle.mv_calls.specs.Program.{Program, Do, Done, Wrong, Call, and_then, on_ecb}
 
--- what a post comes to: nobody waited; a waiting task was woken, or an exit of this number, where it is not 0; the block was
--- complete with this code before
+-- the outcome of a post: no task waited; it woke a waiting task, or started the exit of this number if that is not 0; or the
+-- block was complete with this code before
 pub data Posting : Type 0 where
   Posted : Posting
   Woke : (exit : ℕ) → Posting
   Already : (code : ℕ) → Posting
 
--- what the reply to a post says
+-- the rest of a program after the reply to a post
 abbrev pub posting : {A : Type 0} → (Posting → Program A) → EcbReply → Program A
 posting f ecb_reply.Posted = f Posted
 posting f (ecb_reply.Woke x) = f (Woke x)
 posting f (ecb_reply.Already c) = f (Already c)
 posting f reply = Wrong
 
--- the blocks that are posted after a first post
+-- the blocks that are posted after a first post: the targets of the exit that it started
 abbrev pub posted_next : Setup → Posting → List ℕ
 posted_next c (Woke x) = targets_of c x
 posted_next c p = []
 
--- these blocks are posted in order, and then the answer is given
+-- these blocks are posted in order, and then the program is done with this answer
 abbrev pub each_posted : (ℕ → Program Posting) → List ℕ → Posting → Program Posting
 each_posted post [] answer = Done answer
 each_posted post (e ∷ es) answer = and_then (post e) (λ p. each_posted post es answer)
 
--- a post, where exits are followed this deep: depth first, each target with its own exit before the next target
+-- a post, with exits followed this deep: depth first, each target with its own exit before the next target
 abbrev pub post_within : ℕ → Setup → ℕ → ℕ → Program Posting
 post_within zero c code e = Wrong
 post_within (suc depth) c code e =
     Do (Ecb e) (op_on.Ecb (ecb_op.Post code))
     (λ h. on_ecb h.entry.reply (posting (λ p. each_posted (post_within depth c code) (posted_next c p) p)))
 
--- a post; the answer is that of the block itself. Exits lead up from block to block, so none is deeper than there are blocks
+-- post: the answer is the outcome at the block itself. Exits lead to higher blocks, so no chain of exits is deeper than there
+-- are blocks
 abbrev pub post : Setup → ℕ → ℕ → Call Posting
 post c e code kept = post_within (length c.owners) c code e
 
 -- ---- what a word lets a caller expect
 
--- the place and the reply that an operation has on an object with this word
+-- the place and the reply that an operation has on an object with this word, if the word represents a state
 abbrev pub expected_of : Object → Op → ℕ → Option (ℕ × Reply)
 expected_of o op w = option_and_then (λ u. option_map (λ r. (u.0, r)) (reply_in op u.1)) (unpack o w)
 
@@ -62,36 +63,36 @@ abbrev pub is_expected : (Reply → Reply → Bool) → Option (ℕ × Reply) �
 is_expected same None place reply = false
 is_expected same (Some e) place reply = (e.0 == place) && same e.1 reply
 
--- whether two replies to a post are one
+-- whether two replies of blocks are the same reply to a post
 abbrev pub same_posting : EcbReply → EcbReply → Bool
 same_posting ecb_reply.Posted ecb_reply.Posted = true
 same_posting (ecb_reply.Woke x) (ecb_reply.Woke y) = x == y
 same_posting (ecb_reply.Already c) (ecb_reply.Already d) = c == d
 same_posting x y = false
 
--- the same of replies of any kind
+-- whether two replies of any kind are the same reply to a post of a block
 abbrev pub same_post_reply : Reply → Reply → Bool
 same_post_reply (reply_of.Ecb x) (reply_of.Ecb y) = same_posting x y
 same_post_reply x y = false
 
--- one event, where the object is as expected: then its reply, which is the expected one, is looked at
+-- one event, which has to find the object as expected: then the program goes on by its reply, which is the expected one
 abbrev pub tried : {A : Type 0} → (Reply → Reply → Bool) → Object → Op → ℕ → (Reply → Program A) → Program A
 tried same o op expected f =
     Do o op (λ h. if is_expected same (expected_of o op expected) h.entry.place h.entry.reply then f h.entry.reply else Wrong)
 
--- one post, where the block is as expected
+-- try post: makes one post, which has to find the block as expected
 abbrev pub try_post : ℕ → ℕ → ℕ → Call Posting
 try_post e expected code kept =
     tried same_post_reply (Ecb e) (op_on.Ecb (ecb_op.Post code)) expected (λ r. on_ecb r (posting (λ p. Done p)))
 
 -- ---- posts that wakes ask for
 
--- a wake with a block posts it; one without posts nothing
+-- a wake with a block posts the block, a wake without one posts nothing; then the program `last` follows
 abbrev pub wake_posted : {A : Type 0} → Setup → Option ℕ → ℕ → Kept → Program A → Program A
 wake_posted c None code kept last = last
 wake_posted c (Some e) code kept last = and_then (post c e code kept) (λ p. last)
 
--- the posts of these wakes in order, and then what follows
+-- the blocks of these wakes are posted in order, and then the program `last` follows
 abbrev pub wakes_posted : {A : Type 0} → Setup → List Wake → Kept → Program A → Program A
 wakes_posted c [] kept last = last
 wakes_posted c (w ∷ ws) kept last = wake_posted c w.ecb w.code kept (wakes_posted c ws kept last)

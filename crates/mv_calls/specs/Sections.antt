@@ -1,4 +1,4 @@
--- Critical sections: what a caller keeps others from while it holds a latch.
+-- Critical sections: what others cannot do while a caller holds a latch.
 use Rattle.std.specs.Prelude.{◌≡◌, ℕ, ◌==◌, Bool, true, false, ◌&&◌, List, ◌∷◌, ◌++◌}
 use Rattle.std.specs.List.{AllByRecursion, Contains, list_any}
 use Rattle.mv_latch.specs.declared.operation.LatchOp.TheVariants.{Obtain, Confirm}
@@ -15,49 +15,51 @@ use Rattle.mv_machine.specs.Kept.{StandingRequest, standing}
 use Rattle.mv_machine.specs.Leaving.{NoneTakesOut, WasPurged}
 use Rattle.mv_machine.specs.Legal.{of}
 
--- whether an event tells its caller that its request of this number holds this latch: an obtain or a confirm that is granted
+-- whether an event shows its caller that its request of this number holds this latch: an obtain or a confirm with the reply
+-- Granted
 abbrev pub tells_grant : ℕ → ℕ → Op → Reply → Bool
 tells_grant latch id (op_on.Latch (Obtain l requestor mode form)) (reply_of.Latch (Granted i)) = (l == latch) && (i == id)
 tells_grant latch id (op_on.Latch (Confirm l asked)) (reply_of.Latch (Granted i)) = (l == latch) && (i == id)
 tells_grant latch id op reply = false
 
--- by its caller's own entries a request stands, and was told to hold its latch
+-- by its caller's own entries a request is standing, and was granted
 pub record HasGrant (t : StandingRequest) (log : List Entry) : Type 0 where
   pub stands : Contains (standing log) t
   pub told : list_any (λ e. tells_grant t.latch t.request.id e.op e.reply) log ≡ true
 
--- Behind these entries caller k holds the latch by this request, which no other caller purged.
+-- After these entries caller k holds the latch by this request, which no other caller purged.
 pub record IsHolder (k : ℕ) (t : StandingRequest) (es : List Entry) : Type 0 where
   pub granted : HasGrant t (of k es)
   pub kept : WasPurged k t es → ⊥
 
--- A section of caller k: from a moment at which it holds its latch, as long as nobody takes the request out.
+-- A section of caller k: it begins after `before`, when the caller holds the latch, and goes on as long as no entry takes the
+-- request out.
 pub record IsSection (k : ℕ) (t : StandingRequest) (before inside : List Entry) : Type 0 where
   pub entered : IsHolder k t before
   pub stays : NoneTakesOut t inside
 
--- behind these entries caller k holds the latch alone
+-- after these entries caller k holds the latch exclusively
 pub record HoldsAlone (latch k : ℕ) (es : List Entry) : Type 0 where
   pub request : StandingRequest
   pub here : request.latch ≡ latch
   pub exclusive : request.request.mode ≡ Exclusive
   pub holder : IsHolder k request es
 
--- each event of this kind on the object is made by a caller that holds the latch alone
+-- each event of this kind on the object is made by a caller that holds the latch exclusively
 abbrev pub IsGuarded : (Op → Bool) → ℕ → Object → List Entry → Type 0
 IsGuarded kind latch o es = (before later : List Entry) (e : Entry) → es ≡ before ++ e ∷ later → e.object ≡ o → kind e.op ≡ true
     → HoldsAlone latch e.caller before
 
--- Each event of this kind on the object is caller k's. If the request is a shared one, there is none.
+-- Each event of this kind on the object is caller k's. If the request is a shared one, there is no such event.
 abbrev pub AreOwn : (Op → Bool) → Object → ℕ → StandingRequest → List Entry → Type 0
 AreOwn kind o k t es =
     AllByRecursion (λ e. e.object ≡ o → kind e.op ≡ true → (e.caller ≡ k) × (t.request.mode ≡ Exclusive)) es
 
--- every event
+-- whether an event is of this kind: every event is
 abbrev pub any_event : Op → Bool
 any_event op = true
 
--- every write of a volume
+-- whether an event is a write of a volume
 abbrev pub is_write : Op → Bool
 is_write (op_on.Volume (Write n)) = true
 is_write op = false

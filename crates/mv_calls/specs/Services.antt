@@ -1,4 +1,4 @@
--- The calls of the services, each as a value: what it answers, what it does, and how many events it may need.
+-- The calls of the services, each as a value: what it returns, what it does, and how many events it may need.
 use Rattle.std.specs.Prelude.{ℕ, ◌+◌, ◌*◌, ◌<◌, Bool, List, length, Option, Some, None, Result}
 use Rattle.mv_element.specs.declared.element.ElementState.{ElementState}
 use Rattle.mv_element.specs.declared.element.Token.{Token}
@@ -49,7 +49,7 @@ pub data Service : Type 0 where
   PostEvent : (table : Table) (index code : ℕ) → Service
   NextEvent : (table : Table) (position : ℕ) → Service
 
--- what it answers
+-- the type of a call's answer
 abbrev pub Answer : Service → Type 0
 Answer (Wait count blocks) = Result (List (Option ℕ)) Refusal
 Answer (Post block code) = Posting
@@ -75,7 +75,7 @@ Answer (EndOfTask requestor mother code) = Counts
 Answer (PostEvent table index code) = Result Entering Refusal
 Answer (NextEvent table position) = Result Finding Refusal
 
--- what it does
+-- the program of a call
 abbrev pub program : Setup → (s : Service) → Call (Answer s)
 program c (Wait count blocks) = waits.wait c count blocks
 program c (Post block code) = posts.post c block code
@@ -101,24 +101,25 @@ program c (EndOfTask requestor mother code) = endings.end_of_task c requestor mo
 program c (PostEvent table index code) = events.post_event c table index code
 program c (NextEvent table position) = events.next_event c table position
 
--- ---- how many events it may need, by the configuration and what its task keeps
+-- ---- how many events a call may need, by the configuration and what its task keeps
 
--- a transfer pauses where it has a current token
+-- the most events of a transfer, which pauses if it has a current token
 abbrev pub transfer_events : Option Token → ℕ
 transfer_events None = 1
 transfer_events (Some current) = 3
 
--- an obtain of the Waiting form may have to be confirmed
+-- the most events of an obtain, which may have to be confirmed if it is of the Waiting form
 abbrev pub obtain_events : LatchForm → ℕ
 obtain_events form_of.Waiting = 2
 obtain_events form = 1
 
--- the posts that a post of a mother's block leads to, if there is one
+-- the most events of the post of a mother's block, if there is one
 abbrev pub mother_events : Setup → Option ℕ → ℕ
 mother_events c None = 0
 mother_events c (Some block) = reach c block
 
--- the table: a wait arms and settles, a post reaches, a release or a purge costs with the posts of its wakes
+-- the most events of each call: a wait arms and settles each block, a post costs its reach, a release or a purge costs the
+-- posts of its wakes too
 abbrev pub most_events : Setup → Kept → Service → ℕ
 most_events c kept (Wait count blocks) = 2 * length blocks
 most_events c kept (Post block code) = reach c block
@@ -145,7 +146,7 @@ most_events c kept (EndOfTask requestor mother code) =
 most_events c kept (PostEvent table index code) = 6 + release_cost c
 most_events c kept (NextEvent table position) = 3
 
--- a call on a table of events has a table that is sound for the configuration, and a post has an event of it
+-- a call on a table of events has a table that is sound for the configuration, and a post of an event names an event of it
 abbrev pub HasItsTable : Setup → Service → Type 0
 HasItsTable c (PostEvent table index code) = IsSoundTable c table × (index < table.size)
 HasItsTable c (NextEvent table position) = IsSoundTable c table

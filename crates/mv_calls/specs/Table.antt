@@ -9,7 +9,7 @@ use Rattle.mv_calls.specs.declared.table.Table.{Table}
 use Rattle.mv_calls.specs.declared.table.TableRefusal.{TableRefusal}
 use Rattle.mv_calls.specs.declared.table.TableRefusal.TheVariants.{BadSize, BadRange, NotOwner, BadLatch, BadVolume, HasExit}
 
--- how many events a table may have
+-- the most events of a table
 abbrev pub table_limit : ℕ
 table_limit = 32
 
@@ -21,13 +21,13 @@ event_block t index = t.events + index
 abbrev pub slot_block : Table → ℕ → ℕ
 slot_block t position = t.slots + position
 
--- the blocks of a table, rising
+-- the blocks of a table, in rising order
 abbrev pub blocks_of_table : Table → List ℕ
 blocks_of_table t =
     if nat_lt t.events t.slots then range_with_len t.events t.size ++ range_with_len t.slots t.size
     else range_with_len t.slots t.size ++ range_with_len t.events t.size
 
--- whether a range of blocks passes those that there are
+-- whether a range of blocks goes past the last block
 abbrev pub passes : Setup → ℕ → ℕ → Bool
 passes c first size = nat_lt (length c.owners) (first + size)
 
@@ -35,7 +35,7 @@ passes c first size = nat_lt (length c.owners) (first + size)
 abbrev pub meet : ℕ → ℕ → ℕ → Bool
 meet first second size = nat_lt first (second + size) && nat_lt second (first + size)
 
--- whether the ranges of a table are not what they must be
+-- whether the ranges of a table are bad: they go past the last block, or have a block in common
 abbrev pub is_bad_range : Setup → Table → Bool
 is_bad_range c t = passes c t.events t.size || passes c t.slots t.size || meet t.events t.slots t.size
 
@@ -47,7 +47,7 @@ first_of_others c t = find (λ e. not (owner_of c e == t.owner)) (blocks_of_tabl
 abbrev pub first_with_exit : Setup → Table → Option ℕ
 first_with_exit c t = find (is_on_exit c) (blocks_of_table t)
 
--- a refusal where a test holds
+-- a refusal if a test holds
 abbrev pub table_refused_if : Bool → TableRefusal → Option TableRefusal
 table_refused_if b why = if b then Some why else None
 
@@ -61,12 +61,12 @@ table_refusal c t =
     (or_else (table_refused_if (not (nat_lt t.volume c.volumes)) BadVolume)
     (option_map (λ e. HasExit e) (first_with_exit c t))))))
 
--- a table that was checked against this configuration: nothing refuses it there
+-- a table that was checked against this configuration: no rule refuses it
 abbrev pub IsTableOf : Setup → Table → Type 0
 IsTableOf c t = table_refusal c t ≡ None
 
--- What such a table keeps to: it has 1 to 32 events and as many slots; their blocks are there, differ, and are the owner's; its
--- latch and its volume are there; and no exit starts from its blocks or leads to them.
+-- A table that is sound for a configuration: it has 1 to 32 events and as many slots; their blocks exist, differ, and are the
+-- owner's; its latch and its volume exist; and no exit starts from its blocks or leads to them.
 pub record IsSoundTable (c : Setup) (t : Table) : Type 0 where
   pub some : 1 ≤ t.size
   pub few : t.size ≤ table_limit
@@ -78,7 +78,8 @@ pub record IsSoundTable (c : Setup) (t : Table) : Type 0 where
   pub volume : t.volume < c.volumes
   pub alone : (i : ℕ) → i < t.size → (is_on_exit c (event_block t i) ≡ false) × (is_on_exit c (slot_block t i) ≡ false)
 
--- whatever the configuration was, a checked table has few events, and its blocks are few enough to have numbers
+-- what holds of a checked table, whatever the configuration was: it has few events, and its blocks have numbers below the limit
+-- of blocks
 pub record IsSmallTable (t : Table) : Type 0 where
   pub few : t.size ≤ table_limit
   pub events : t.events + t.size ≤ ecbs_limit

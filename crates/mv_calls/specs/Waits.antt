@@ -17,22 +17,22 @@ use Rattle.mv_calls.specs.Program.{Program, Do, Done, Early, Wrong, Call, on_ecb
 use Rattle.mv_calls.specs.Refusal.{Refusal}
 use Rattle.mv_calls.specs.Refusal as refusal
 
--- a refusal where a test holds
+-- a refusal if a test holds
 abbrev pub refused_if : Bool → Refusal → Option Refusal
 refused_if b why = if b then Some why else None
 
--- the refusal of the first position, counted from p, that meets a test
+-- the refusal of the first position, counted from p, whose block meets a test
 abbrev pub refused_at : (ℕ → Refusal) → (ℕ → Bool) → ℕ → List ℕ → Option Refusal
 refused_at why test p [] = None
 refused_at why test p (e ∷ es) = if test e then Some (why p) else refused_at why test (p + 1) es
 
--- the refusal of the first position whose block stands earlier, where these stand before it
+-- the refusal of the first position, counted from p, whose block is earlier in the list or among `before`
 abbrev pub doubled_at : List ℕ → ℕ → List ℕ → Option Refusal
 doubled_at before p [] = None
 doubled_at before p (e ∷ es) =
     if list_any (λ b. b == e) before then Some (refusal.Doubled p) else doubled_at (before ++ e ∷ []) (p + 1) es
 
--- all of these are different
+-- all of these numbers are different
 abbrev pub AreDistinct : List ℕ → Type 0
 AreDistinct [] = Unit {0}
 AreDistinct (n ∷ ns) = AllByRecursion (λ m. m ≡ n → ⊥) ns × AreDistinct ns
@@ -43,7 +43,8 @@ is_others_block c kept e = not (owner_of c e == kept.caller)
 
 -- ---- wait
 
--- for more blocks than there are; a block that stands twice; another caller's; one that is extended
+-- why a wait is refused: its count is above the length of its list; a block is listed twice, is another caller's, or is
+-- extended
 abbrev pub wait_refusal : Setup → ℕ → List ℕ → Kept → Option Refusal
 wait_refusal c count es kept =
     or_else (refused_if (nat_lt (length es) count) refusal.TooMany)
@@ -51,94 +52,94 @@ wait_refusal c count es kept =
     (or_else (refused_at refusal.NotOwnerAt (is_others_block c kept) 0 es)
     (refused_at refusal.ExtendedAt kept.extended 0 es)))
 
--- an arm that a wait foresees
+-- the rest of a wait after the reply to an arm: it was armed, or the block is complete
 abbrev pub armed : {A : Type 0} → Program A → EcbReply → Program A
 armed p ecb_reply.Armed = p
 armed p (ecb_reply.Complete c) = p
 armed p reply = Wrong
 
--- each block is armed, and then what follows
+-- each block is armed, and then the program p follows
 abbrev pub arm_all : {A : Type 0} → List ℕ → Program A → Program A
 arm_all [] p = p
 arm_all (e ∷ es) p = Do (Ecb e) (op_on.Ecb ecb_op.Arm) (λ h. on_ecb h.entry.reply (armed (arm_all es p)))
 
--- the code that a settled block is complete with, or none where it is open
+-- the rest of a wait after the reply to a settle: by the code that the block is complete with, or none if it is open
 abbrev pub settled : {A : Type 0} → (Option ℕ → Program A) → EcbReply → Program A
 settled f (ecb_reply.Complete c) = f (Some c)
 settled f ecb_reply.Open = f None
 settled f reply = Wrong
 
--- each block is settled, and then what follows by what was found of these and of those before
+-- each block is settled, and then the program goes on by the codes that were found, after those found before
 abbrev pub settle_all : {A : Type 0} → List ℕ → List (Option ℕ) → (List (Option ℕ) → Program A) → Program A
 settle_all [] found f = f found
 settle_all (e ∷ es) found f = Do (Ecb e) (op_on.Ecb ecb_op.Settle)
     (λ h. on_ecb h.entry.reply (settled (λ slot. settle_all es (found ++ slot ∷ []) f)))
 
--- how many were found complete
+-- how many blocks were found complete
 abbrev pub complete_count : List (Option ℕ) → ℕ
 complete_count [] = 0
 complete_count (Some code ∷ slots) = 1 + complete_count slots
 complete_count (None ∷ slots) = complete_count slots
 
--- a wait that ends with fewer than it is for has ended too soon
+-- the end of a wait: if fewer blocks are complete than its count, it has ended too soon
 abbrev pub enough : ℕ → List (Option ℕ) → Program (Result (List (Option ℕ)) Refusal)
 enough count slots = if nat_le count (complete_count slots) then Done (Ok slots) else Early
 
--- wait: each block is armed, then each is settled, in the order of the list; for each the answer has its code, or none
+-- wait: arms each block, and then settles each, in the order of the list. The answer has for each block its code, or none
 abbrev pub wait : Setup → ℕ → List ℕ → Call (Result (List (Option ℕ)) Refusal)
 wait c count es kept = unless_refused (wait_refusal c count es kept) (arm_all es (settle_all es [] (enough count)))
 
 -- ---- the other calls on blocks
 
--- the word that a block had
+-- the rest of a call by the word that a block had
 abbrev pub the_word : {A : Type 0} → (ℕ → Program A) → EcbReply → Program A
 the_word f (ecb_reply.Word w) = f w
 the_word f reply = Wrong
 
--- clear: the word from before
+-- clear: zeroes the block, and returns the word from before
 abbrev pub clear : Setup → ℕ → Call (Result ℕ Refusal)
 clear c e kept =
     unless_refused (refused_if (is_others_block c kept e) refusal.NotOwner)
     (Do (Ecb e) (op_on.Ecb ecb_op.Clear) (λ h. on_ecb h.entry.reply (the_word (λ w. Done (Ok w)))))
 
--- another caller's block; an exit that does not start from it; a block that is extended
+-- why an extend is refused: the block is another caller's, the exit does not start from it, or it is extended
 abbrev pub extend_refusal : Setup → ℕ → ℕ → Kept → Option Refusal
 extend_refusal c e exit kept =
     or_else (refused_if (is_others_block c kept e) refusal.NotOwner)
     (or_else (refused_if (not (is_exit_of c exit e)) refusal.BadExit)
     (refused_if (kept.extended e) refusal.Extended))
 
--- what the reply to an extend says
+-- the rest of an extend after its reply
 abbrev pub extended : EcbReply → Program (Result (Unit {0}) Refusal)
 extended ecb_reply.Armed = Done (Ok tt)
 extended (ecb_reply.Complete code) = Done (Err (refusal.Complete code))
 extended reply = Wrong
 
--- extend: the block is to start an exit
+-- extend: the next post of the block is to start an exit
 abbrev pub extend : Setup → ℕ → ℕ → Call (Result (Unit {0}) Refusal)
 extend c e exit kept =
     unless_refused (extend_refusal c e exit kept) (Do (Ecb e) (op_on.Ecb (ecb_op.Extend exit)) (λ h. on_ecb h.entry.reply extended))
 
--- test: the word
+-- test: reads the block's word
 abbrev pub test_ecb : ℕ → Call ℕ
 test_ecb e kept = Do (Ecb e) (op_on.Ecb ecb_op.Test) (λ h. on_ecb h.entry.reply (the_word (λ w. Done w)))
 
 -- ---- volumes
 
--- what the reply to a read says
+-- the rest of a read after its reply
 abbrev pub the_value : VolumeReply → Program ℕ
 the_value (volume_reply.Value n) = Done n
 the_value reply = Wrong
 
--- the number that a volume has
+-- read: the number in a volume
 abbrev pub read_volume : ℕ → Call ℕ
 read_volume v kept = Do (Volume v) (op_on.Volume volume_op.Read) (λ h. on_volume h.entry.reply the_value)
 
--- what the reply to a write says
+-- the rest of a write after its reply
 abbrev pub stored : VolumeReply → Program (Unit {0})
 stored volume_reply.Stored = Done tt
 stored reply = Wrong
 
--- a volume gets a number
+-- write: sets the number in a volume
 abbrev pub write_volume : ℕ → ℕ → Call (Unit {0})
 write_volume v n kept = Do (Volume v) (op_on.Volume (volume_op.Write n)) (λ h. on_volume h.entry.reply stored)

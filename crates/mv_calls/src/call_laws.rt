@@ -1,5 +1,5 @@
-//! What a log says of its last event, and how many events calls may need: the laws of specs/Behind.antt and specs/Exits.antt, and of
-//! the machine's specs/Replies.antt.
+//! Laws of a log's last event, and of how many events calls may need: by specs/Behind.antt, specs/Exits.antt, and the machine's
+//! specs/Replies.antt.
 ghost use Rattle.std.specs.Prelude.{◌≡◌, ◌<◌, ◌≤◌, ◌+◌, ◌++◌, ◌∷◌, ℕ, suc, true, List, [], length};
 ghost use Rattle.mv_ecb.specs.declared.operation.EcbOp.{EcbOp};
 ghost use Rattle.mv_ecb.specs.Table.{ecb_step};
@@ -30,9 +30,9 @@ ghost use Rattle.mv_calls.specs.Posts.{post};
 ghost use Rattle.mv_calls.specs.Program.{Heard, Says, entries};
 ghost use Rattle.mv_calls.specs.Services.{Service, program, most_events, HasItsTable};
 
-/// The last entry of a possible log was the machine's next one, after a legal history of which the log before it is the
-/// caller's part. So its reply is of its operation's kind, and is what the table gives of the object's state; and an
-/// obtain that was granted or queued has its place as the request's number.
+/// Shows that the last entry of a possible log was the machine's next one, after a legal history of which the log before it is
+/// the caller's part. So its reply is of its operation's kind, and is what the table gives for the object's state; and the
+/// request of an obtain that was granted or queued has the entry's place as its number.
 pub fn last_event_is_the_machines()
     ensures behind { (c : Setup) (k : ℕ) (log : List Entry) (e : Entry) (shown : List (List Wake))
         → IsPossible c k (log ++ e ∷ []) shown → IsBehind c k log e shown }
@@ -50,7 +50,7 @@ pub fn last_event_is_the_machines()
         → e.reply ≡ reply_of.Latch (latch_step e.caller s.latches.place op s.latches.state).1 }
 {}
 
-/// A generation in a reply has its 18 bits, within the events that the budgets of a run may allow.
+/// Shows that a generation in a reply fits 18 bits, within the events that the budgets of a run may allow.
 pub fn generations_in_replies()
     ensures entries { (c : Setup) (xs ys : List Entry) (e : Entry) → Legal c (xs ++ e ∷ ys) → length (xs ++ e ∷ ys) ≤ events_limit
         → NamesUpTo highest_generation e.reply }
@@ -58,15 +58,16 @@ pub fn generations_in_replies()
         → IsPossible c k (log ++ e ∷ []) shown → NamesUpTo highest_generation e.reply }
 {}
 
-/// A code in a block's reply has its 30 bits.
+/// Shows that a code in a block's reply fits 30 bits.
 pub fn codes_in_replies()
     ensures entries { (c : Setup) (xs ys : List Entry) (e : Entry) → Legal c (xs ++ e ∷ ys) → NamesLowCode e.reply }
     ensures possible { (c : Setup) (k : ℕ) (log : List Entry) (e : Entry) (shown : List (List Wake))
         → IsPossible c k (log ++ e ∷ []) shown → NamesLowCode e.reply }
 {}
 
-/// A block's reply names an exit of its own, if it names one. So a post, with the posts of its exits, makes at most as many
-/// events as its block's reach, where that is told exactly; and the targets of an exit reach less than its block.
+/// Shows that an exit that a block's reply names is one of the block's exits. So a post, with the posts of its exits, makes at
+/// most as many events as its block's reach, if the reach did not saturate; and the targets of an exit together reach less than
+/// its block.
 pub fn posts_reach()
     ensures exits { (c : Setup) (es : List Entry) (e : Entry) → Legal c es → IsNext c (after c es) e
         → NamesOwnExit c e.object e.reply }
@@ -78,9 +79,9 @@ pub fn posts_reach()
         → total (reach c) (targets_of c (suc x)) + 1 ≤ reach c e }
 {}
 
-/// Each call makes at most as many events as its row of the table says that it may need, where that is below 524,288 and a table of
-/// events that it names was checked: on events whose replies name own exits and whose wakes are fair; and so in a log that is
-/// possible, with what was told.
+/// Shows that each call makes at most as many events as its row of the table says (`most_events`), if that is below 524,288 and
+/// a table of events that the call names was checked: on events whose replies name own exits and whose wakes are fair (`few`),
+/// and so in a possible log with the wakes that its caller was shown (`possible`).
 pub fn calls_keep_to_their_events()
     ensures few { (c : Setup) (kept : Kept) (s : Service) (hs : List Heard) → HasItsTable c s → most_events c kept s ≤ events_limit
         → NameOwnExits c hs → HaveFairWakes c hs → Says (program c s kept) hs → length hs ≤ most_events c kept s }

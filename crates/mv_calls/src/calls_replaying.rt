@@ -1,4 +1,4 @@
-//! A list of entries is judged with its call numbers. `specs/CallsReplay.antt` says why one is refused.
+//! The judgement of a list of entries with call numbers. `specs/CallsReplay.antt` says why a list is refused.
 
 ghost use Rattle.std.specs.Prelude.{◌≡◌, ◌≢◌, ◌<◌, ◌≤◌, ◌^◌, [], All, length, IfOk, OnOk, IfErr, MatchOption};
 ghost use Rattle.mv_machine.specs.Legal.{Legal, after};
@@ -20,20 +20,20 @@ use thiserror::Error;
 /// Why a list of entries with call numbers was not replayed to its end.
 #[derive(Clone, Copy, Debug, PartialEq, Eq, Error)]
 pub enum CallsRefusal {
-    /// The list is not legal, and the entries before this one have their numbers.
+    /// The list is not legal. The entries before this one have their call numbers.
     #[error("{0}")]
     Illegal(Illegal),
-    /// The first entry that has not its call number.
+    /// This entry is the first that does not have its call number.
     #[error("entry {index} has the call number {kept}, and not {machine}")]
     Number {
-        /// Counted from 0.
+        /// The entry's index, counted from 0.
         index: usize,
-        /// The number that it has.
+        /// The call number that the entry has.
         kept: u32,
-        /// The number of its caller's call that it belongs to.
+        /// The number of its caller's call that the entry belongs to.
         machine: u32,
     },
-    /// There was no memory; the list was not judged.
+    /// There was not enough memory; the list was not judged.
     #[error("there is not enough memory for the machine")]
     NoMemory,
 }
@@ -61,7 +61,7 @@ impl From<ReplayRefusal> for CallsRefusal {
     }
 }
 
-// The refusal of a list that is known not to be legal.
+// Returns the refusal of a list that is known not to be legal.
 fn refuse(alloc: Global, config: &ValidConfig, entries: &[Entry]) -> CallsRefusal
     requires places { All (λ e. e.place ≤ highest_place) entries.now }
     requires illegal { ¬ Legal config.now entries.now }
@@ -73,7 +73,8 @@ fn refuse(alloc: Global, config: &ValidConfig, entries: &[Entry]) -> CallsRefusa
     }
 }
 
-// Judges the entries from the first on, as long as each is the machine's and has its number.
+// Judges the entries from the first one on, as long as each is the machine's and has its call number. Returns the refusal of
+// the first that is not so.
 fn first_refusal(
     alloc: Global,
     config: &ValidConfig,
@@ -105,14 +106,14 @@ fn first_refusal(
     None
 }
 
-/// Goes through a list of entries with their call numbers. Ok exactly where the list is legal and each entry has its
-/// call number, with the state after it, unless there is no memory. Otherwise it names the first entry that is not the
-/// machine's (`Illegal`) or has another number (`Number`); an entry that is both is `Illegal`. The budgets are not asked.
-/// There is a number for each entry, in the same order. In time linear in the list.
+/// Replays a list of entries with their call numbers, one number for each entry in the same order. Returns the state after the
+/// list if the list is legal and each entry has its call number. It does not check the budgets. It takes time linear in the
+/// list.
 ///
 /// # Errors
 ///
-/// Those of `CallsRefusal`.
+/// Returns the first entry that is not the machine's (`Illegal`) or has another number (`Number`); an entry that is both is
+/// `Illegal`. Returns `NoMemory` if there is not enough memory to judge the list.
 ///
 /// # Example
 ///

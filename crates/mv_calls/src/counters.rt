@@ -1,5 +1,5 @@
-//! What is counted of the callers of a legal list, entry by entry as it comes: `specs/Counters.antt` says what has been counted
-//! so far.
+//! The call counters of the callers of a legal list, which count entry by entry. `specs/Counters.antt` says what has been
+//! counted so far.
 
 ghost use Rattle.std.specs.Prelude.{◌≡◌, ◌<◌, ◌≤◌, ◌-◌, ◌^◌, [], List, All, length, vec_capacity, IfOk};
 ghost use Rattle.mv_machine.specs.declared.entry.Entry.{Entry as AnyEntry};
@@ -12,14 +12,14 @@ use mv_latch::Wake;
 use mv_machine::{Entry, ValidConfig};
 use std::alloc::Global;
 
-/// The counters of the calls of all callers, behind a legal list of entries. Of the entries it keeps what the last of each caller was, as
-/// far as the next may continue its call.
+/// The counters of the calls of all callers, after a legal list of entries. Of the entries themselves they keep only what the
+/// last one of each caller was, as far as the next may continue its call.
 #[derive(Drop)]
 pub struct CallCounters {
     counters: Vec<Counter>,
 }
 
-// What is kept of each caller before its first entry.
+// Makes the counter of each caller before its first entry, with room for `room` pending blocks.
 fn new_counters(alloc: Global, callers: u32, room: usize) -> Result<Vec<Counter>, NoMemory>
     ensures callers { IfOk result (λ xs. length xs.items ≡ callers) }
     ensures start { IfOk result (λ xs. numbering_at xs.items ≡ (λ _. unnumbered)) }
@@ -33,12 +33,13 @@ fn new_counters(alloc: Global, callers: u32, room: usize) -> Result<Vec<Counter>
 }
 
 impl CallCounters {
-    /// Before the first entry. All memory is taken here: of each caller its counter, of 40 bytes in a list that grows by doubling, and
-    /// 4 bytes for each block that may be pending, of which there are 1 + callers × posted quota + 7 × exits.
+    /// Opens the counters before the first entry. All memory is taken here: for each caller its counter, of 40 bytes in a list
+    /// that grows by doubling, and 4 bytes for each block that may be pending, of which there are 1 + callers × posted quota +
+    /// 7 × exits.
     ///
     /// # Errors
     ///
-    /// `NoMemory` where there is no room for the counters.
+    /// Returns `NoMemory` if there is not enough memory for the counters.
     pub fn open(alloc: Global, config: &ValidConfig) -> Result<CallCounters, NoMemory>
         ensures { IfOk result (λ x. HasCounted config.now [] x) }
     {
@@ -46,8 +47,9 @@ impl CallCounters {
         Ok(CallCounters { counters })
     }
 
-    /// One more entry of a legal list of fewer than 2^32 entries: the number of its caller's call that it belongs to. The wakes are
-    /// those that the machine shows behind it. No memory is taken: `open` took that of the counters and of their blocks.
+    /// Counts one more entry of a legal list of fewer than 2^32 entries, and returns the number of its caller's call that it
+    /// belongs to. The wakes are those that the machine shows after the entry. It takes no memory: `open` took the memory of
+    /// the counters and of their blocks.
     ///
     /// # Example
     ///

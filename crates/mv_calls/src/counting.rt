@@ -1,4 +1,4 @@
-//! What is counted of each caller while its entries are numbered. `specs/Numbers.antt` says what a number is, and
+//! The counter of one caller, which numbers the caller's entries. `specs/Numbers.antt` says what a number is, and
 //! `specs/Counters.antt` how contracts see a counter.
 
 ghost use Rattle.std.specs.Prelude.{◌≡◌, ◌++◌, ◌<◌, ◌≤◌, ◌+◌, ◌-◌, ◌^◌, length, reverse, vec_len, vec_capacity, IfOk};
@@ -14,7 +14,8 @@ use mv_latch::{LatchForm, LatchOp, LatchReply, Wake};
 use mv_machine::{Entry, Object, Op, Reply, ValidConfig};
 use std::alloc::Global;
 
-// What the last entry of a caller leaves to its next: a wait may go on to arm, a transfer to pause, an obtain to confirm.
+// What the last entry of a caller was, as far as the next may continue its call: a wait may go on to arm, a transfer to pause,
+// an obtain to confirm.
 #[derive(Clone, Copy)]
 pub(crate) enum Last {
     Armed,
@@ -23,8 +24,8 @@ pub(crate) enum Last {
     Other,
 }
 
-// What is kept of a caller: the number of its last group of entries, the blocks whose posts may still follow in that
-// group, of which the next lies on top, and what its last entry leaves.
+// The state of a caller's numbering: the number of the group of its last entry, the blocks whose posts may still follow in that
+// group, as a stack with the next one on top, and what its last entry was.
 #[derive(Drop)]
 pub(crate) struct Counter {
     group: u32,
@@ -32,7 +33,8 @@ pub(crate) struct Counter {
     last: Option<Last>,
 }
 
-// What an entry leaves to the next: an arm, an accepted release of an element, a queued request for which its task waits.
+// Returns what an entry leaves to the next: an arm, an accepted release of an element, a queued request for which its task
+// waits, or nothing.
 fn last_of(entry: &Entry) -> Last
     ensures { result ≡ last_of entry.now.op entry.now.reply }
 {
@@ -55,7 +57,7 @@ fn last_of(entry: &Entry) -> Last
     }
 }
 
-// Puts blocks on top, the first of them topmost.
+// Pushes blocks on the stack, so that the first of them is on top.
 fn push_blocks(stack: &mut Vec<u32>, blocks: &[u32])
     requires room { vec_len stack.old + length blocks.now ≤ vec_capacity stack.old }
     ensures blocks { reverse stack.new.items ≡ blocks.now ++ reverse stack.old.items }
@@ -68,7 +70,7 @@ fn push_blocks(stack: &mut Vec<u32>, blocks: &[u32])
     }
 }
 
-// The same of the blocks of wakes.
+// Pushes the blocks of wakes on the stack, so that the first of them is on top.
 fn push_wakes(stack: &mut Vec<u32>, wakes: &[Wake])
     requires room { vec_len stack.old + length (blocks_of wakes.now) ≤ vec_capacity stack.old }
     ensures blocks { reverse stack.new.items ≡ blocks_of wakes.now ++ reverse stack.old.items }
@@ -83,7 +85,8 @@ fn push_wakes(stack: &mut Vec<u32>, wakes: &[Wake])
     }
 }
 
-// How many blocks may be pending of a caller: that of a post, those of the wakes of one event, and seven for each exit (`pending_room`).
+// Returns the most blocks that may be pending of a caller: those of the wakes of one event, seven for each exit, and one more
+// (`pending_room`).
 pub(crate) fn pending_room(config: &ValidConfig) -> usize
     ensures { result ≡ pending_room config.now }
 {
@@ -92,7 +95,7 @@ pub(crate) fn pending_room(config: &ValidConfig) -> usize
 }
 
 impl Counter {
-    // Before the first entry, with room for so many pending blocks.
+    // Makes a counter before the first entry, with room for `room` pending blocks.
     pub(crate) fn open(alloc: Global, room: usize) -> Result<Counter, NoMemory>
         ensures start { IfOk result (λ x. numbering_of x ≡ unnumbered) }
         ensures room { IfOk result (λ x. room ≤ vec_capacity x.pending) }
@@ -104,7 +107,7 @@ impl Counter {
         })
     }
 
-    // Whether an entry continues the group.
+    // Returns whether an entry continues the group.
     fn continues(&self, object: Object, op: Op) -> bool
         ensures { result ≡ continues_of (numbering_of self.now) object op }
     {
@@ -131,7 +134,7 @@ impl Counter {
         }
     }
 
-    // Takes the first pending block off, where the entry is its post, and otherwise all.
+    // Takes the first pending block off if the entry is its post, and otherwise all pending blocks.
     fn keep(&mut self, object: Object, op: Op)
         ensures pending { reverse self.new.pending.items ≡ kept_pending (reverse self.old.pending.items) object op }
         ensures capacity { vec_capacity self.new.pending ≡ vec_capacity self.old.pending }
@@ -148,7 +151,7 @@ impl Counter {
         self.pending.clear();
     }
 
-    // Puts the blocks that an entry asks for on top.
+    // Pushes the blocks that an entry asks to be posted.
     fn ask(&mut self, config: &ValidConfig, entry: &Entry, wakes: &[Wake])
         requires room { vec_len self.old.pending + length (asked config.now entry.now.object entry.now.op entry.now.reply wakes.now)
             ≤ vec_capacity self.old.pending }
@@ -178,7 +181,7 @@ impl Counter {
         }
     }
 
-    // One more entry of the caller, with its wakes: its number.
+    // Counts one more entry of the caller, with its wakes, and returns the entry's number.
     pub(crate) fn count(&mut self, config: &ValidConfig, entry: &Entry, wakes: &[Wake]) -> u32
         requires low { self.old.group < 2 ^ 32 - 1 }
         requires room { length (numbered config.now (numbering_of self.old) entry.now wakes.now).pending

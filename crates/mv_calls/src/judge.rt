@@ -1,4 +1,5 @@
-//! A list of entries, judged and numbered as it comes, entry by entry: `specs/Judge.antt` says what has been judged so far.
+//! The judge, which judges and numbers a list of entries, one entry at a time. `specs/Judge.antt` says what has been judged so
+//! far.
 
 ghost use Rattle.std.specs.Prelude.{◌≡◌, ◌<◌, ◌≤◌, ◌-◌, ◌^◌, ◌↔◌, List, [], Some, length, IfOk, IsTrue};
 ghost use Rattle.std.specs.Prelude.{MatchBool, MatchOption};
@@ -16,14 +17,15 @@ use mv_io::NoMemory;
 use mv_machine::{Entry, HIGHEST_PLACE, Object, Reply, State, ValidConfig};
 use std::alloc::Global;
 
-/// A legal list of entries so far: the machine behind it, and what is counted of each caller. It keeps none of the entries.
+/// A judge after a legal list of entries: the machine in its state after the list, and the counters of the callers. It keeps
+/// none of the entries.
 #[derive(Drop)]
 pub struct Judge {
     state: State,
     counters: CallCounters,
 }
 
-// Whether an object has had as many events as the places of entries count.
+// Returns whether an object has had as many events as the places of entries count.
 fn is_full(state: &State, object: Object) -> bool
     ensures { MatchBool result (highest_place < place_of (system_of state.now) object)
         (place_of (system_of state.now) object ≤ highest_place) }
@@ -31,7 +33,7 @@ fn is_full(state: &State, object: Object) -> bool
     state.has(object) && state.place(object) > HIGHEST_PLACE
 }
 
-// Whether the machine's answer is that of the entry.
+// Returns whether the machine's answer is the place and the reply of the entry.
 fn is_answer(machine: Option<(u32, Reply)>, entry: &Entry) -> bool
     ensures { IsTrue result ↔ (machine ≡ Some (entry.now.place, entry.now.reply)) }
 {
@@ -42,11 +44,11 @@ fn is_answer(machine: Option<(u32, Reply)>, entry: &Entry) -> bool
 }
 
 impl Judge {
-    /// Before the first entry. All memory is taken here.
+    /// Opens a judge before the first entry. All memory is taken here.
     ///
     /// # Errors
     ///
-    /// `NoMemory` where there is no room for the state and the counters.
+    /// Returns `NoMemory` if there is not enough memory for the state and the counters.
     pub fn open(alloc: Global, config: &ValidConfig) -> Result<Judge, NoMemory>
         ensures { IfOk result (λ j. HasJudged config.now [] j) }
     {
@@ -55,9 +57,11 @@ impl Judge {
         Ok(Judge { state, counters })
     }
 
-    /// One more entry behind a legal list, of fewer than 2^32 - 1 entries: the number of its caller's call that it belongs to,
-    /// where it is the machine's next one, and nothing where it is not. The budgets are not asked. It takes the time of a step of the
-    /// machine. What the judge says of any entry behind one that is not the next is not said.
+    /// Judges one more entry after a legal list of fewer than 2^32 - 1 entries. Returns the number of its caller's call that
+    /// the entry belongs to, or `None` if the entry is not the machine's next one.
+    ///
+    /// It does not check the budgets. It takes the time of one step of the machine. After it has returned `None`, no contract
+    /// says what it returns.
     ///
     /// # Example
     ///
@@ -77,7 +81,7 @@ impl Judge {
             (IsUnfitNext config.now es entry.now)
             (λ n. IsJudgedNext config.now es entry.now n self.new) }
     {
-        // The machine is not asked behind the last place of an object. No entry has a place there.
+        // `step` needs a place that an entry can have, and a full object's place is above all of these.
         if is_full(&self.state, entry.object) {
             return None;
         }
@@ -91,7 +95,7 @@ impl Judge {
         Some(number)
     }
 
-    /// The machine behind the list.
+    /// Returns the machine in its state after the list.
     pub fn state(self) -> State
         ensures after { (c : AnySetup) (es : List AnyEntry) → HasJudged c es self → system_of result ≡ after c es }
         ensures wakes { (c : AnySetup) (es : List AnyEntry) → HasJudged c es self → wakes_of result ≡ last_wakes c es }

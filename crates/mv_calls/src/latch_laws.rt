@@ -1,5 +1,5 @@
-//! What a task knows by its own log of its latch requests and of the wakes that it is told, whatever others did: the laws of the
-//! machine's specs/Waking.antt, specs/Leaving.antt and Replies.antt, in the words of specs/Behind.antt and specs/Rest.antt.
+//! What a task knows by its own log of its latch requests and of the wakes that it is shown, whatever others do: laws by the
+//! machine's specs/Waking.antt, specs/Leaving.antt and specs/Replies.antt, and by specs/Behind.antt and specs/Rest.antt.
 ghost use Rattle.std.specs.Prelude.{◌≡◌, ◌↔◌, ◌⊎◌, ◌≤◌, ◌++◌, ◌∷◌, ℕ, true, Bool, List, []};
 ghost use Rattle.std.specs.List.{Contains};
 ghost use Rattle.mv_latch.specs.declared.operation.LatchOp.{LatchOp};
@@ -26,9 +26,9 @@ ghost use Rattle.mv_machine.specs.Setup.{Setup};
 ghost use Rattle.mv_machine.specs.Waking.{IsFair, AreFairWakes};
 ghost use Rattle.mv_calls.specs.Rest.{IsAtRest, open_waits};
 
-/// The wakes of an event after a legal list: each is for a caller and has code 0 or 1, and its block, if it has one, is there
-/// and is that caller's; no more of them post than the quotas allow; and the reaches of their blocks, and one more, fit what a
-/// release may cost, where that is told exactly. So it is of the wakes that a caller is told.
+/// Shows the ranges of the wakes of an event after a legal list, and so of the wakes that a caller is shown. Each wake is for a
+/// caller and has code 0 or 1, and its block, if it has one, exists and is that caller's. At most as many wakes post a block as
+/// the quotas allow. If the cost of a release did not saturate, the sum of the reaches of their blocks is below it.
 pub fn wakes_are_in_range()
     ensures wakes { (c : Setup) (es : List Entry) (k : ℕ) (op : LatchOp) → Legal c es
         → AreFairWakes c (wakes k op (after c es).latches.state) }
@@ -36,8 +36,9 @@ pub fn wakes_are_in_range()
         → IsPossible c k (log ++ e ∷ []) (shown ++ ws ∷ []) → e.object ≡ Latches → e.op ≡ op_on.Latch op → AreFairWakes c ws }
 {}
 
-/// After a legal list each caller has no more requests in the lists than its quota, and no more of the Posted form than that
-/// quota; and each request is a caller's, and names a block that is there and is that caller's, if it names one.
+/// Shows that after a legal list each caller has at most its quota of requests in the lists, and at most its quota of requests
+/// of the Posted form; and that each request is a caller's, and names only a block that exists and is that caller's, if it
+/// names one.
 pub fn quotas_hold()
     ensures all { (c : Setup) (es : List Entry) (k : ℕ) → Legal c es → count_in (of_caller k) (after c es).latches.state ≤ c.quota }
     ensures posted { (c : Setup) (es : List Entry) (k : ℕ) → Legal c es
@@ -46,8 +47,8 @@ pub fn quotas_hold()
         → Contains (list_of (after c es).latches.state latch) q → IsFair c q }
 {}
 
-/// A request that stands by its caller's entries is in its latch's list, or another caller purged its requestor while it stood;
-/// and a confirm or a release of it finds it gone exactly then.
+/// Shows that a request that is standing by its caller's entries is in its latch's list, unless another caller purged its
+/// requestor meanwhile. A confirm or a release finds the request gone exactly if another caller did.
 pub fn requests_leave_by_purges()
     ensures listed { (c : Setup) (k : ℕ) (t : StandingRequest) (es : List Entry) → Legal c es → Contains (standing (of k es)) t
         → Contains (list_of (after c es).latches.state t.latch) t.request ⊎ WasPurged k t es }
@@ -61,8 +62,9 @@ pub fn requests_leave_by_purges()
         → ((e.reply ≡ reply_of.Latch Gone) ↔ WasPurged e.caller t es) }
 {}
 
-/// Each operation on the latch set has its own replies; a confirm of a granted request is answered Granted and of one that is
-/// gone Gone, and a release of a granted one Released; and a release that releases has as many wakes as it says, any other none.
+/// Shows the replies of the latch set: each operation has its own. A confirm of a granted request gets Granted, and of a
+/// request that is gone Gone; a release of a granted request gets Released. A release that releases has as many wakes as its
+/// reply says, and any other release has none.
 pub fn latches_answer()
     ensures replies { (c : Setup) (es : List Entry) (e : Entry) (op : LatchOp) → IsEvent c es e Latches (op_on.Latch op)
         → OnLatch (IsLatchReply (after c es).latches.place op) e.reply }
@@ -80,8 +82,8 @@ pub fn latches_answer()
         → (n : ℕ) × (e.reply ≡ reply_of.Latch (Released n)) }
 {}
 
-/// A request of the Waiting form that stands and is in the lists, and that its caller did not confirm too soon, has its wait
-/// open or is granted. So where the caller is at rest it is granted, or was purged.
+/// Shows that a standing request of the Waiting form, if it is in the lists and its caller did not confirm it too soon, is
+/// granted or has its wait open. So if the caller is at rest, the request is granted or was purged.
 pub fn requests_at_rest()
     ensures queued { (c : Setup) (k : ℕ) (t : StandingRequest) (es : List Entry) → t.request.form ≡ Waiting → Legal c es
         → Contains (standing (of k es)) t → HasNoEarlyConfirm t (of k es)
@@ -91,15 +93,15 @@ pub fn requests_at_rest()
     ensures at_rest { (c : Setup) (k : ℕ) (t : StandingRequest) (es : List Entry) → t.request.form ≡ Waiting → Legal c es
         → Contains (standing (of k es)) t → HasNoEarlyConfirm t (of k es) → IsAtRest (of k es)
         → IsGranted k t.latch t.request.id (after c es) ⊎ WasPurged k t es }
-    // So a confirm of it at rest does not come too soon.
+    // So a confirm of the request by a caller at rest does not come too soon.
     ensures confirm { (c : Setup) (es : List Entry) (e : Entry) (t : StandingRequest) → t.request.form ≡ Waiting
         → IsEvent c es e Latches (op_on.Latch (Confirm t.latch t.request.id)) → Contains (standing (of e.caller es)) t
         → HasNoEarlyConfirm t (of e.caller es) → IsAtRest (of e.caller es)
         → (e.reply ≡ reply_of.Latch (Granted t.request.id)) ⊎ (e.reply ≡ reply_of.Latch Gone) }
 {}
 
-/// A request stays in its latch's list until its caller releases it or its requestor is purged; and one that was granted and
-/// stands by its caller's entries is granted, or another caller purged its requestor while it stood.
+/// Shows that a request stays in its latch's list until its caller releases it or its requestor is purged. A request that was
+/// granted, and is standing by its caller's entries, is still granted, unless another caller purged its requestor meanwhile.
 pub fn requests_stay()
     ensures listed { (c : Setup) (xs ys : List Entry) (t : StandingRequest) → Legal c (xs ++ ys) → NoneTakesOut t ys
         → Contains (list_of (after c xs).latches.state t.latch) t.request

@@ -1,4 +1,4 @@
-//! Critical sections: the laws of specs/Sections.antt, for those who share something under a latch.
+//! Critical sections: laws by specs/Sections.antt, for callers that share something under a latch.
 
 ghost use Rattle.std.specs.Prelude.{◌≡◌, ◌≢◌, ◌++◌, ◌∷◌, ℕ, Bool, List, [], false};
 ghost use Rattle.std.specs.List.{AllByRecursion};
@@ -14,10 +14,10 @@ ghost use Rattle.mv_machine.specs.Owned.{IsGranted};
 ghost use Rattle.mv_machine.specs.Setup.{Setup};
 ghost use Rattle.mv_calls.specs.Sections.{IsHolder, IsSection, IsGuarded, AreOwn, is_write, tells_grant};
 
-/// Mutual exclusion. A caller whose own entries show a granted request holds the latch, unless another caller purged the request, and
-/// holds it throughout its section (`holds`). If two callers hold one latch at one moment, one of them exclusively, they are one caller,
-/// with one request (`one`). While a caller holds a latch exclusively, no other caller's entry shows a grant of it (`alone`). A request
-/// that no other caller's entry takes out was not purged (`kept`).
+/// Shows mutual exclusion. A caller whose own entries show a granted request holds the latch, unless another caller purged the
+/// request, and holds it throughout its section (`holds`). If two callers hold one latch at one moment, one of them
+/// exclusively, they are one caller, with one request (`one`). While a caller holds a latch exclusively, no other caller's
+/// entry shows a grant of it (`alone`). A request that no other caller's entry takes out was not purged (`kept`).
 pub fn holders_exclude()
     ensures holds { (c : Setup) (k : ℕ) (t : StandingRequest) (before inside : List Entry) → Legal c (before ++ inside)
         → IsSection k t before inside → IsGranted k t.latch t.request.id (after c (before ++ inside)) }
@@ -30,10 +30,10 @@ pub fn holders_exclude()
         → AllByRecursion (λ e. e.caller ≢ k → takes_out t e.caller e.object e.op ≡ false) es → ¬ WasPurged k t es }
 {}
 
-/// What a latch guards is left alone in a section of it. Where each event of some kind on an object is made by a caller that holds
-/// the latch alone, a section's caller makes all those that fall into the section; and where it shares the latch there are none.
-/// So the events of one section on such an object stand together, and a volume that is written under exclusive grants alone is
-/// the same throughout a section under a shared one.
+/// Shows that no other caller disturbs what a latch guards in a section of it. Let each event of some kind on an object be made
+/// by a caller that holds the latch exclusively. Then the caller of a section makes all such events that fall into the section,
+/// and there are none if it shares the latch (`own`). So the events of one section on such an object are consecutive, and a
+/// volume that is written only under exclusive grants is the same throughout a section under a shared one (`volume`).
 pub fn sections_are_undisturbed()
     ensures own { (c : Setup) (k : ℕ) (t : StandingRequest) (kind : Op → Bool) (o : Object) (before inside : List Entry)
         → Legal c (before ++ inside) → IsSection k t before inside → IsGuarded kind t.latch o (before ++ inside)

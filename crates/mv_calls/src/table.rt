@@ -1,4 +1,4 @@
-//! Tables of events, by specs/Table.antt: which blocks, latch and volume serve as one, and the check of that against a
+//! Tables of events, by specs/Table.antt: which blocks, latch and volume make up a table, and its check against a
 //! configuration.
 
 ghost use Rattle.std.specs.Prelude.{◌≡◌, ◌+◌, ◌≤◌, ◌==◌, ◌++◌, ◌⊎◌, not, length, find, IfOk, IfErr, OnOk, Some, None};
@@ -12,48 +12,49 @@ use mv_machine::ValidConfig;
 use std::marker::Model;
 use thiserror::Error;
 
-/// A table of events: blocks that complete once, and are handed out in the order of their completion. After the EVENTS service of
-/// the books; that it is made of blocks, a latch and a volume is this project's own.
+/// A table of events: blocks that complete once, and are handed out in the order in which they completed. It is modelled on the
+/// EVENTS service of the books; that it is made of blocks, a latch and a volume is this project's own.
 #[derive(Clone, Copy, Debug, PartialEq, Eq)]
 pub struct Table {
-    /// The caller that all its blocks belong to, and that takes the events.
+    /// The caller that owns all blocks of the table, and takes the events.
     pub owner: u32,
-    /// The latch that its posts are made under.
+    /// The latch under which posts of events are made.
     pub latch: u32,
-    /// The volume that counts the events that are complete.
+    /// The volume that counts the complete events.
     pub volume: u32,
-    /// The block of event 0. Those of the others follow it.
+    /// The block of event 0. The blocks of the other events follow it.
     pub events: u32,
-    /// The block of slot 0. Those of the others follow it. Slot k is posted with the index of the k-th event to complete.
+    /// The block of slot 0. The blocks of the other slots follow it. Slot k is posted with the index of the k-th event to
+    /// complete, counted from 0.
     pub slots: u32,
-    /// How many events, and how many slots, it has: 1 to 32.
+    /// The number of events, and of slots: 1 to 32.
     pub size: u32,
 }
 
-/// Why a table is refused: the first of these that holds.
+/// Why a table is refused: the first of these reasons that applies.
 #[derive(Clone, Copy, Debug, PartialEq, Eq, Error)]
 pub enum TableRefusal {
     /// The size is not 1 to 32.
     #[error("a table has 1 to 32 events")]
     BadSize,
-    /// The events or the slots pass the blocks that there are, or the two meet.
+    /// The events or the slots go past the last block, or have a block in common.
     #[error("the events or the slots are not blocks of their own")]
     BadRange,
-    /// The lowest block of the table that is not its owner's.
+    /// A block of the table is not the owner's. This is the lowest such block.
     #[error("block {0} is not the table's owner's")]
     NotOwner(u32),
-    /// There is no such latch.
+    /// The latch does not exist.
     #[error("there is no such latch")]
     BadLatch,
-    /// There is no such volume.
+    /// The volume does not exist.
     #[error("there is no such volume")]
     BadVolume,
-    /// The lowest block of the table that is the source or a target of an exit.
+    /// A block of the table is the source or a target of an exit. This is the lowest such block.
     #[error("block {0} is the source or a target of an exit")]
     HasExit(u32),
 }
 
-/// How many events a table may have.
+/// The most events of a table.
 pub const TABLE_LIMIT: u32 = 32;
 
 /// A table that was checked against a configuration, by `Table::check`. It does not change.
@@ -77,7 +78,7 @@ impl ValidTable {
     ghost use Rattle.std.specs.Prelude.{◌<◌};
     ghost use Rattle.mv_calls.specs.Table.{event_block, slot_block, table_limit};
 
-    /// The table that was checked.
+    /// Returns the table that was checked.
     pub fn table(&self) -> &Table
         ensures table { result.now ≡ self.now }
         ensures few { self.now.size ≤ table_limit }
@@ -85,7 +86,7 @@ impl ValidTable {
         &self.table
     }
 
-    /// The block of an event, by its index.
+    /// Returns the block of an event, by the event's index.
     pub fn event_ecb(&self, index: u32) -> u32
         requires { index < self.now.size }
         ensures block { result ≡ event_block self.now index }
@@ -93,7 +94,7 @@ impl ValidTable {
         self.table.events + index
     }
 
-    /// The block of a slot, by its position.
+    /// Returns the block of a slot, by the slot's position.
     pub fn slot_ecb(&self, position: u32) -> u32
         requires { position < self.now.size }
         ensures block { result ≡ slot_block self.now position }
@@ -103,12 +104,12 @@ impl ValidTable {
 }
 
 impl Table {
-    /// Checks that a configuration has such a table: its size, its blocks and their owner, its latch and its volume, and that no
-    /// exit starts from its blocks or leads to them. It takes no memory; it goes through the exits once for each block.
+    /// Checks a table against a configuration: its size, its blocks and their owner, its latch and its volume, and that no exit
+    /// starts from its blocks or leads to them. It takes no memory; it goes through the exits once for each block.
     ///
     /// # Errors
     ///
-    /// The first refusal that holds, in the order of `TableRefusal`.
+    /// Returns the first refusal that applies, in the order of `TableRefusal`.
     ///
     /// # Example
     ///
@@ -127,7 +128,7 @@ impl Table {
         }
     }
 
-    // Why the table is refused, if it is.
+    // Returns why the table is refused, if it is.
     fn refusal(&self, config: &ValidConfig) -> Option<TableRefusal>
         ensures refusal { result ≡ table_refusal config.now self.now }
         ensures few { result ≡ None → length config.now.owners ≤ ecbs_limit }
@@ -153,7 +154,7 @@ impl Table {
         None
     }
 
-    // Whether the events or the slots pass the blocks that there are, or the two meet.
+    // Returns whether the events or the slots go past the last block, or have a block in common.
     #[tactic(auto, using(crate::proofs::Tables::few_blocks))]
     fn has_bad_range(&self, config: &ValidConfig) -> bool
         ensures bad { result ≡ is_bad_range config.now self.now }
@@ -168,7 +169,7 @@ impl Table {
             || (events < slots + size && slots < events + size)
     }
 
-    // The lowest block of the table that is not its owner's.
+    // Returns the lowest block of the table that is not its owner's.
     fn first_of_others(&self, config: &ValidConfig) -> Option<u32>
         requires events { self.now.events + self.now.size ≤ length config.now.owners }
         requires slots { self.now.slots + self.now.size ≤ length config.now.owners }
@@ -182,7 +183,7 @@ impl Table {
         }
     }
 
-    // The lowest block of the table that is on an exit.
+    // Returns the lowest block of the table that is on an exit.
     fn first_with_exit(&self, config: &ValidConfig) -> Option<u32>
         requires events { self.now.events + self.now.size ≤ length config.now.owners }
         requires slots { self.now.slots + self.now.size ≤ length config.now.owners }
@@ -196,7 +197,7 @@ impl Table {
         }
     }
 
-    // The first blocks of its two ranges, the lower first.
+    // Returns the first blocks of the table's two ranges, the lower one first.
     fn ranges(&self) -> (u32, u32)
         ensures rising { blocks_of_table self.now ≡ range_with_len result.0 self.now.size ++ range_with_len result.1 self.now.size }
         ensures which { ((result.0 ≡ self.now.events) × (result.1 ≡ self.now.slots))
@@ -210,7 +211,7 @@ impl Table {
     }
 }
 
-// The lowest block of a range that is not this caller's.
+// Returns the lowest block of a range that is not this caller's.
 fn other_in(config: &ValidConfig, owner: u32, first: u32, size: u32) -> Option<u32>
     requires exist { first + size ≤ length config.now.owners }
     requires few { length config.now.owners ≤ ecbs_limit }
@@ -219,7 +220,7 @@ fn other_in(config: &ValidConfig, owner: u32, first: u32, size: u32) -> Option<u
     (first..first + size).find(|ecb| !config.owns_ecb(owner, *ecb))
 }
 
-// The lowest block of a range that is on an exit.
+// Returns the lowest block of a range that is on an exit.
 fn with_exit_in(config: &ValidConfig, first: u32, size: u32) -> Option<u32>
     requires { first + size ≤ ecbs_limit }
     ensures { result ≡ find (is_on_exit config.now) (range_with_len first size) }
