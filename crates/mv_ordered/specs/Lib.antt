@@ -1,6 +1,6 @@
--- what each caller keeps to by its own log
+-- the discipline of each caller, by its own log
 pub mod LatchOrder
--- what a caller has at latches, by its own log
+-- the requests that a caller has at latches, by its own log
 pub mod Held
--- who waits for whom, and who can continue
+-- which caller waits for which, and which can continue
 pub mod WaitChain

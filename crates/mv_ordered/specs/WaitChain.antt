@@ -22,8 +22,8 @@ pub record IsOrdered (c : Setup) (es : List Entry) : Type 0 where
   pub legal : Legal c es
   pub order : (k : ℕ) → k < c.callers → ObtainsInRisingOrder (of k es)
 
--- a legal history in which each caller keeps the lock discipline: it also waits for blocks and pauses only while none of its requests
--- stands
+-- a legal history in which each caller keeps the lock discipline: it also waits for blocks and pauses only while it has no
+-- request at a latch
 pub record KeepsLockDiscipline (c : Setup) (es : List Entry) : Type 0 where
   pub ordered : IsOrdered c es
   pub apart : (k : ℕ) → k < c.callers → WaitsWithoutLatches (of k es)
@@ -36,7 +36,7 @@ pub record WaitsAt (c : Setup) (es : List Entry) (k latch : ℕ) : Type 0 where
   pub listed : Contains (queue c es latch) request
   pub ungranted : Contains (granted (queue c es latch)) request → ⊥
 
--- caller k holds a latch
+-- caller k holds a latch: it has a granted request at it
 pub record HoldsAt (c : Setup) (es : List Entry) (k latch : ℕ) : Type 0 where
   pub request : Request
   pub mine : request.caller ≡ k
@@ -53,13 +53,13 @@ abbrev pub LeadsTo : Setup → List Entry → ℕ → List ℕ → ℕ → Type 
 LeadsTo c es k [] j = WaitsFor c es k j
 LeadsTo c es k (i ∷ path) j = WaitsFor c es k i × LeadsTo c es i path j
 
--- each request that caller k waits for by its own log is granted, or gone because its requestor was purged
+-- caller k waits at no latch: each request that it waits for by its own log is granted, or gone from the latch's list
 abbrev pub WaitsAtNoLatch : Setup → List Entry → ℕ → Type 0
 WaitsAtNoLatch c es k = (latch id : ℕ) → (open_waits (of k es)).queued latch id ≡ true
     → IsGranted k latch id (after c es) ⊎ IsGone k latch id (after c es)
 
--- Caller k can continue: it has armed no block, no pause of it has begun, and it waits at no latch. If its log has a wait for a request
--- open, its next confirm ends that wait.
+-- Caller k can continue: it has armed no block, no pause of it is parked, and it waits at no latch. If its log has an open wait
+-- for a request, its next confirm ends that wait.
 pub record CanContinue (c : Setup) (es : List Entry) (k : ℕ) : Type 0 where
   pub armed : (n : ℕ) → (open_waits (of k es)).armed n ≡ false
   pub parked : (n : ℕ) → (open_waits (of k es)).parked n ≡ false
@@ -94,7 +94,7 @@ abbrev pub HasNoLatchDeadlock : Setup → List Entry → Type 0
 HasNoLatchDeadlock c es = (before later : List Entry) (k latch : ℕ) → es ≡ before ++ later → WaitsAt c before k latch
     → LeadsToOneThatContinues c before k
 
--- an unfinished caller can continue
+-- some unfinished caller can continue
 pub record SomeoneContinues (c : Setup) (es : List Entry) (finished : ℕ → Bool) : Type 0 where
   pub caller : ℕ
   pub exists : caller < c.callers

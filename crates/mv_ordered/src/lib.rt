@@ -1,4 +1,4 @@
-//! Latches that every caller obtains in rising order never deadlock: the laws, for any program of calls.
+//! The laws of lock order, for any program of calls: callers that all obtain latches in rising order never deadlock at them.
 #![tactic(auto)]
 
 mod laws;
