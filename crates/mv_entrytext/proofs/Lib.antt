@@ -5,9 +5,9 @@ pub mod Leading
 pub mod Front
 pub mod Fields
 pub mod Parts
--- the table that digits are written by
+-- the table that `put_two` takes digits from
 pub mod Pairs
--- what is written is read again: the law `text_determines_journal`
+-- what is written reads back: the law `text_determines_journal`
 pub mod OneLine
 pub mod ConfigNumbers
 pub mod CallNumbers

@@ -10,7 +10,7 @@ use Rattle.mv_entrytext.specs.Reading.{Reader, word, behind, ◌or◌, made, num
 
 -- ---- words
 
--- the words of an operation
+-- the words of an operation, with its number
 abbrev pub ecb_op_text : EcbOp → List ℕ
 ecb_op_text Arm = codes "ARM"
 ecb_op_text (Extend exit) = codes "EXTEND" <+> decimal exit
@@ -19,7 +19,7 @@ ecb_op_text Clear = codes "CLEAR"
 ecb_op_text (Post code) = codes "POST" <+> decimal code
 ecb_op_text Test = codes "TEST"
 
--- the words of a reply
+-- the words of a reply, with its number
 abbrev pub ecb_reply_text : EcbReply → List ℕ
 ecb_reply_text Armed = codes "ARMED"
 ecb_reply_text (Linked exit) = codes "LINKED" <+> decimal exit
@@ -31,7 +31,7 @@ ecb_reply_text (Woke exit) = codes "WOKE" <+> decimal exit
 ecb_reply_text (Already code) = codes "ALREADY" <+> decimal code
 ecb_reply_text (Word word) = codes "WORD" <+> decimal word
 
--- ---- ranges: what a number's type does not say, and what it does
+-- ---- ranges: those narrower than the type of a number, and those of the type
 
 -- the numbers of an operation are in their ranges
 abbrev pub IsEcbOpInRange : EcbOp → Type 0
@@ -47,22 +47,22 @@ IsEcbReplyInRange (Woke exit) = exit ≤ highest_ecb_code
 IsEcbReplyInRange (Already code) = code ≤ highest_ecb_code
 IsEcbReplyInRange _ = Unit {0}
 
--- the number of a reply is one of its type
+-- the number of a reply fits its type
 abbrev pub IsEcbReplyTyped : EcbReply → Type 0
 IsEcbReplyTyped (Word word) = word ≤ highest_u32
 IsEcbReplyTyped _ = Unit {0}
 
 -- ---- reading
 
--- the number of an exit
+-- reads the number of an exit
 abbrev pub exit_number : Bool → Reader ℕ
 exit_number strict = number strict 1 highest_ecb_code
 
--- a completion code, or the number of an exit or 0
+-- reads a completion code, or the number of an exit or 0
 abbrev pub ecb_code : Bool → Reader ℕ
 ecb_code strict = number strict 0 highest_ecb_code
 
--- an operation, read
+-- reads an operation
 unfoldable pub ecb_op : Bool → Reader EcbOp
 ecb_op strict =
     word (codes "ARM") Arm
@@ -72,7 +72,7 @@ ecb_op strict =
     or made (λ code. Post code) (behind (codes "POST ") (ecb_code strict))
     or word (codes "TEST") Test
 
--- a reply, read
+-- reads a reply
 unfoldable pub ecb_reply : Bool → Reader EcbReply
 ecb_reply strict =
     word (codes "ARMED") Armed

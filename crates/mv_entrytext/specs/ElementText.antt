@@ -25,7 +25,7 @@ phase_text Prereleased = codes "PRERELEASED"
 phase_text Paused = codes "PAUSED"
 phase_text Released = codes "RELEASED"
 
--- the words of an operation
+-- the words of an operation, with its numbers
 abbrev pub element_op_text : ElementOp → List ℕ
 element_op_text Open = codes "OPEN"
 element_op_text (Pause generation) = codes "PAUSE" <+> decimal generation
@@ -34,7 +34,7 @@ element_op_text (Release generation code) = codes "RELEASE" <+> decimal generati
 element_op_text (Close generation) = codes "CLOSE" <+> decimal generation
 element_op_text Test = codes "TEST"
 
--- the words of a reply
+-- the words of a reply, with its numbers
 abbrev pub element_reply_text : ElementReply → List ℕ
 element_reply_text (Opened generation) = codes "OPENED" <+> decimal generation
 element_reply_text InUse = codes "INUSE"
@@ -49,14 +49,14 @@ element_reply_text Already = codes "ALREADY"
 element_reply_text Closed = codes "CLOSED"
 element_reply_text (State s) = codes "STATE" <+> decimal s.generation <+> phase_text s.phase <+> decimal s.code
 
--- ---- ranges: what a number's type does not say, and what it does
+-- ---- ranges: those narrower than the type of a number, and those of the type
 
 -- the numbers of an operation are in their ranges
 abbrev pub IsElementOpInRange : ElementOp → Type 0
 IsElementOpInRange (Release generation code) = code ≤ highest_release_code
 IsElementOpInRange _ = Unit {0}
 
--- the numbers of an operation are ones of their types
+-- the numbers of an operation fit their types
 abbrev pub IsElementOpTyped : ElementOp → Type 0
 IsElementOpTyped (Pause generation) = generation ≤ highest_u32
 IsElementOpTyped (Resume generation) = generation ≤ highest_u32
@@ -74,15 +74,15 @@ IsElementReplyInRange _ = Unit {0}
 
 -- ---- reading
 
--- a release code
+-- reads a release code
 abbrev pub release_code : Bool → Reader ℕ
 release_code strict = number strict 0 highest_release_code
 
--- a generation that an element can reach
+-- reads a generation that an element can reach
 abbrev pub reached_generation : Bool → Reader ℕ
 reached_generation strict = number strict 0 highest_generation
 
--- the word of a phase, read
+-- reads the word of a phase
 unfoldable pub phase : Reader Phase
 phase =
     word (codes "FREE") Free
@@ -91,20 +91,20 @@ phase =
     or word (codes "RELEASED") Released
     or word (codes "PRERELEASED") Prereleased
 
--- the highest code of a phase: a state that keeps none has 0
+-- the highest code of a state in a phase: 0 if the phase keeps no code
 abbrev pub highest_kept : Phase → ℕ
 highest_kept phase = if keeps_code phase then highest_release_code else 0
 
--- the code that a state of this phase may keep
+-- reads the code that a state of this phase may keep
 abbrev pub kept_code : Bool → Phase → Reader ℕ
 kept_code strict phase = number strict 0 (highest_kept phase)
 
--- a generation, a phase and a code
+-- reads a state: a generation, a phase and a code
 unfoldable pub element_state : Bool → Reader ElementState
 element_state strict =
     made (λ x. in_phase x.1.0 x.0 x.1.1) (parted (reached_generation strict) (parted_by phase (kept_code strict)))
 
--- an operation, read
+-- reads an operation
 unfoldable pub element_op : Bool → Reader ElementOp
 element_op strict =
     word (codes "OPEN") Open
@@ -114,7 +114,7 @@ element_op strict =
     or made (λ generation. Close generation) (behind (codes "CLOSE ") (any_u32 strict))
     or word (codes "TEST") Test
 
--- the replies that tell something
+-- reads a reply that has numbers
 unfoldable pub telling_reply : Bool → Reader ElementReply
 telling_reply strict =
     made (λ generation. Opened generation) (behind (codes "OPENED ") (reached_generation strict))
@@ -122,7 +122,7 @@ telling_reply strict =
     or made (λ generation. Spent generation) (behind (codes "SPENT ") (reached_generation strict))
     or made (λ s. State s) (behind (codes "STATE ") (element_state strict))
 
--- those that are a word alone, or else one that tells something
+-- reads a reply: one that is only a word, or otherwise one that has numbers
 unfoldable pub element_reply : Bool → Reader ElementReply
 element_reply strict =
     word (codes "INUSE") InUse

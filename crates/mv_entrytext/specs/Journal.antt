@@ -15,7 +15,7 @@ abbrev pub number_of : Version → ℕ
 number_of One = 1
 number_of Two = 2
 
--- what a line says
+-- a line, by what it says
 pub data Line : Type 0 where
   JournalOf : (version : Version) → Line
   Callers : (n : ℕ) → Line
@@ -50,45 +50,45 @@ line_text (End n) = codes "END" <+> decimal n
 unfoldable pub line : Line → List ℕ
 line l = line_text l ++ codes "\n"
 
--- the version, and how many there are of what
+-- the first lines of the head: the version, and the counts
 unfoldable pub counts_text : Version → Setup → List ℕ
 counts_text version c =
     line (JournalOf version) ++ line (Callers c.callers) ++ line (Elements c.elements_per_caller) ++ line (Volumes c.volumes)
     ++ line (Latches c.latches) ++ line (Quota c.quota c.posted_quota)
 
--- each caller's budget, each event control block's owner, each exit
+-- the lists of the head: each caller's budget, the owner of each event control block, each exit
 unfoldable pub lists_text : Setup → List ℕ
 lists_text c =
     flat_map (λ n. line (Budget n)) c.budgets
     ++ flat_map (λ n. line (Owner n)) c.owners
     ++ flat_map (λ x. line (ExitTo x)) c.exits
 
--- the head: the version, what there is, and the line that the events follow
+-- the head: the version and the counts, the lists, and the line that the entries follow
 unfoldable pub head_text : Version → Setup → List ℕ
 head_text version c = counts_text version c ++ lists_text c ++ line Events
 
--- the number of the line behind the head, counted from 1
+-- the number of the first line after the head, counted from 1
 abbrev pub first_line : Setup → ℕ
 first_line c = 8 + length c.budgets + length c.owners + length c.exits
 
--- the lines of entries, each with the number of its call, so far as there are numbers
+-- the lines of entries, each with the number of its call as long as there are numbers
 abbrev pub entry_lines : List Entry → List ℕ → List Line
 entry_lines [] calls = []
 entry_lines (e ∷ es) [] = EntryOf None e ∷ entry_lines es []
 entry_lines (e ∷ es) (call ∷ calls) = EntryOf (Some call) e ∷ entry_lines es calls
 
--- the head, a line for each entry, and the end
+-- the text of a journal: the head, a line for each entry, and the end
 unfoldable pub text_of : Version → Setup → List Entry → List ℕ → List ℕ
 text_of version c entries calls =
     head_text version c ++ flat_map line (entry_lines entries calls) ++ line (End (length entries))
 
 -- ---- the texts of a configuration and entries
 
--- in version 1, without call numbers
+-- the text in version 1, without call numbers
 abbrev pub text1 : Setup → List Entry → List ℕ
 text1 c entries = text_of One c entries []
 
--- in version 2, with these call numbers
+-- the text in version 2, with these call numbers
 abbrev pub text2 : Setup → List Entry → List ℕ → List ℕ
 text2 c entries numbers = text_of Two c entries numbers
 

@@ -1,4 +1,4 @@
--- How the reader's own types are seen.
+-- How contracts see the reader's types.
 use Rattle.std.specs.Prelude.{ℕ, List, Option, option_map}
 use Rattle.std.specs.Borrow.{Bor}
 use Rattle.mv_machine.specs.Config.{exit_of}
@@ -12,7 +12,7 @@ use Rattle.mv_entrytext.specs.declared.line.Stage.TheVariants as stage
 use Rattle.mv_entrytext.specs.Journal as journal
 use Rattle.mv_entrytext.specs.Lines as lines
 
--- what a line says
+-- the line of a journal that a line of the head is
 abbrev pub said : Line → journal.Line
 said (Version v) = journal.JournalOf v
 said (Callers n) = journal.Callers n
@@ -25,12 +25,12 @@ said (Owner n) = journal.Owner n
 said (Exit x) = journal.ExitTo (exit_of x)
 said Events = journal.Events
 
--- what a line behind the head says
+-- the line of a journal that a line after the head is
 abbrev pub entry_said : EntryLine → journal.Line
 entry_said (Entry call e) = journal.EntryOf call e
 entry_said (End n) = journal.End n
 
--- which line of the head comes next
+-- the stage of a journal that a stage of the head is
 abbrev pub stage_of : Stage → lines.Stage
 stage_of stage.Version = lines.AtVersion
 stage_of stage.Callers = lines.AtCallers
@@ -42,10 +42,10 @@ stage_of stage.Budgets = lines.AtBudgets
 stage_of stage.Owners = lines.AtOwners
 stage_of stage.Exits = lines.AtExits
 
--- a line that was read, and what is left of the text
+-- a line of the head that was read, and what is left of the text
 abbrev pub line_seen : Option (Line × Bor (List ℕ)) → Option (journal.Line × List ℕ)
 line_seen read = option_map (λ x. (said x.0, x.1.now)) read
 
--- what was read of a line behind the head, and what is left
+-- a line after the head that was read, and what is left of the text
 abbrev pub entry_line_seen : Option (EntryLine × Bor (List ℕ)) → Option (journal.Line × List ℕ)
 entry_line_seen read = option_map (λ x. (entry_said x.0, x.1.now)) read

@@ -1,4 +1,4 @@
-//! Operations on event control blocks and their replies, as text: `specs/EcbText.antt`.
+//! Operations on event control blocks and their replies as text, by `specs/EcbText.antt`.
 
 ghost use Rattle.std.specs.Prelude.{◌≡◌, ◌≤◌, ◌+◌, ◌++◌, vec_len, vec_capacity};
 ghost use Rattle.mv_entrytext.specs.EcbText.{ecb_op_text, ecb_reply_text, ecb_op, ecb_reply};

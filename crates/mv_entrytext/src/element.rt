@@ -1,4 +1,4 @@
-//! Operations on pause elements and their replies, as text: `specs/ElementText.antt`.
+//! Operations on pause elements and their replies as text, by `specs/ElementText.antt`.
 
 ghost use Rattle.std.specs.Prelude.{◌≡◌, ◌≤◌, ◌+◌, ◌++◌, vec_len, vec_capacity};
 ghost use Rattle.mv_entrytext.specs.ElementText.{phase_text, element_op_text, element_reply_text, phase, highest_kept};
@@ -135,7 +135,7 @@ fn read_phase(text: &[u8]) -> Option<(Phase, &[u8])>
     None
 }
 
-// The highest code of a phase: a state that keeps none has 0.
+// Returns the highest code of a state in this phase: 0 if the phase keeps no code.
 fn highest_kept(phase: Phase) -> u32
     ensures { result ≡ highest_kept phase }
 {
@@ -155,7 +155,7 @@ fn read_state(strict: bool, text: &[u8]) -> Option<(ElementState, &[u8])>
     Some((ElementState::in_phase(phase, generation, code), rest))
 }
 
-// A reply that tells something.
+// Reads a reply that has numbers.
 #[tactic(auto, unfolding(crate::specs::ElementText::telling_reply, crate::specs::Reading::behind))]
 fn read_telling_reply(strict: bool, text: &[u8]) -> Option<(ElementReply, &[u8])>
     ensures { seen result ≡ telling_reply strict text.now }

@@ -1,4 +1,4 @@
-//! Entries as text: `specs/EntryText.antt`.
+//! Entries as text, by `specs/EntryText.antt`.
 
 ghost use Rattle.std.specs.Prelude.{◌≡◌, ◌≤◌, ◌+◌, ◌++◌, codes, decimal, vec_len, vec_capacity};
 ghost use Rattle.mv_entrytext.specs.Words.{◌<+>◌};
@@ -65,7 +65,7 @@ fn put_reply(out: &mut Vec<u8>, reply: Reply)
     }
 }
 
-// A caller, and the number of its call, if it is given.
+// Appends a caller, and the number of its call if it is given.
 #[inline(always)]
 fn put_caller(out: &mut Vec<u8>, caller: u32, call: Option<u32>)
     requires room { vec_len out.old + caller_width ≤ vec_capacity out.old }
@@ -80,7 +80,7 @@ fn put_caller(out: &mut Vec<u8>, caller: u32, call: Option<u32>)
     }
 }
 
-// Who, on which object, at which place.
+// Appends the first part of an entry's line: the caller, its call number if it is given, the object and the place.
 #[inline(always)]
 fn put_front(out: &mut Vec<u8>, call: Option<u32>, entry: &Entry)
     requires room { vec_len out.old + front_width ≤ vec_capacity out.old }
@@ -95,7 +95,7 @@ fn put_front(out: &mut Vec<u8>, call: Option<u32>, entry: &Entry)
     put_number(out, b" ", entry.place);
 }
 
-// What was done, and the reply.
+// Appends the second part of an entry's line: the operation and the reply.
 #[inline(always)]
 fn put_event(out: &mut Vec<u8>, entry: &Entry)
     requires room { vec_len out.old + event_width ≤ vec_capacity out.old }
@@ -108,7 +108,7 @@ fn put_event(out: &mut Vec<u8>, entry: &Entry)
     put_reply(out, entry.reply);
 }
 
-/// Appends an entry's line without its LF, with the number of its call, if it is given.
+/// Appends an entry's line without its LF, with the number of its call if it is given.
 #[inline(always)]
 #[tactic(auto, unfolding(crate::specs::EntryText::entry_text))]
 pub(crate) fn put_entry(out: &mut Vec<u8>, call: Option<u32>, entry: &Entry)
@@ -141,7 +141,8 @@ fn read_object(strict: bool, text: &[u8]) -> Option<(Object, &[u8])>
     None
 }
 
-// An operation on an event control block, and its reply. Most entries of a run have these, so what reads them is inlined.
+// Reads an operation on an event control block, and its reply. Most entries of a run have these, so the functions that read
+// them are inlined.
 #[inline(always)]
 #[tactic(auto, unfolding(crate::specs::Reading::parted_at, crate::specs::Reading::behind))]
 fn read_ecb_deed(strict: bool, text: &[u8]) -> Option<((Op, Reply), &[u8])>
@@ -152,7 +153,7 @@ fn read_ecb_deed(strict: bool, text: &[u8]) -> Option<((Op, Reply), &[u8])>
     Some(((Op::Ecb(op), Reply::Ecb(reply)), rest))
 }
 
-// The same on a pause element.
+// Reads an operation on a pause element, and its reply.
 #[tactic(auto, unfolding(crate::specs::Reading::parted_at, crate::specs::Reading::behind))]
 fn read_element_deed(strict: bool, text: &[u8]) -> Option<((Op, Reply), &[u8])>
     ensures { seen result ≡ made (λ x. (Op.Element x.0, Reply.Element x.1)) (deed (element_op strict) (element_reply strict)) text.now }
@@ -162,7 +163,7 @@ fn read_element_deed(strict: bool, text: &[u8]) -> Option<((Op, Reply), &[u8])>
     Some(((Op::Element(op), Reply::Element(reply)), rest))
 }
 
-// The same on a volume.
+// Reads an operation on a volume, and its reply.
 #[tactic(auto, unfolding(crate::specs::Reading::parted_at, crate::specs::Reading::behind))]
 fn read_volume_deed(strict: bool, text: &[u8]) -> Option<((Op, Reply), &[u8])>
     ensures { seen result ≡ made (λ x. (Op.Volume x.0, Reply.Volume x.1)) (deed (volume_op strict) (volume_reply strict)) text.now }
@@ -172,7 +173,7 @@ fn read_volume_deed(strict: bool, text: &[u8]) -> Option<((Op, Reply), &[u8])>
     Some(((Op::Volume(op), Reply::Volume(reply)), rest))
 }
 
-// The same on the latch set.
+// Reads an operation on the latch set, and its reply.
 #[tactic(auto, unfolding(crate::specs::Reading::parted_at, crate::specs::Reading::behind))]
 fn read_latch_deed(strict: bool, text: &[u8]) -> Option<((Op, Reply), &[u8])>
     ensures { seen result ≡ made (λ x. (Op.Latch x.0, Reply.Latch x.1)) (deed (latch_op strict) (latch_reply strict)) text.now }
@@ -182,7 +183,8 @@ fn read_latch_deed(strict: bool, text: &[u8]) -> Option<((Op, Reply), &[u8])>
     Some(((Op::Latch(op), Reply::Latch(reply)), rest))
 }
 
-// What was done on an object is of its kind. It is inlined, as what reads an entry is: an entry is large, and would be moved once more.
+// Reads an operation of the object's kind, and its reply. It is inlined, as all functions that read an entry are: an entry is
+// large, and a call would move it once more.
 #[inline(always)]
 fn read_deed(strict: bool, object: Object, text: &[u8]) -> Option<((Op, Reply), &[u8])>
     ensures { seen result ≡ deed_on strict object text.now }
@@ -195,7 +197,7 @@ fn read_deed(strict: bool, object: Object, text: &[u8]) -> Option<((Op, Reply), 
     }
 }
 
-// A place, and what was done there.
+// Reads a place, and the operation and the reply after it, as an entry of this caller on this object.
 #[inline(always)]
 #[tactic(auto, unfolding(crate::specs::Reading::parted_at, crate::specs::Reading::behind))]
 fn read_entry_on(strict: bool, caller: u32, object: Object, text: &[u8]) -> Option<(Entry, &[u8])>
@@ -213,7 +215,7 @@ fn read_entry_on(strict: bool, caller: u32, object: Object, text: &[u8]) -> Opti
     Some((entry, rest))
 }
 
-// A caller, and in version 2 the number of its call.
+// Reads a caller, and in version 2 the number of its call.
 #[tactic(auto, unfolding(crate::specs::EntryText::caller_read, crate::specs::Reading::parted_at))]
 fn read_caller(strict: bool, version: Version, text: &[u8]) -> Option<((u32, Option<u32>), &[u8])>
     ensures { seen result ≡ caller_read strict version text.now }

@@ -1,22 +1,22 @@
-//! The kinds of fault of journals. `specs/Fault.antt` says which fault is a text's first, `specs/Draft.antt` what the reader tells of
-//! it.
+//! The kinds of fault of journals. `specs/Fault.antt` says which fault of a text is the first, and `specs/Draft.antt` what the
+//! reader reports of it.
 
 ghost use Rattle.mv_entrytext.specs.Fault.{kind_number};
 
 use mv_line::FaultKind;
 
-/// The kinds of fault that a line of a journal can have, lowest first.
+/// A kind of fault that a line of a journal can have. The variants are in the order of their numbers.
 #[derive(Clone, Copy, Debug, PartialEq, Eq)]
 pub enum Kind {
-    /// No form that may stand there.
+    /// The line has no form that is allowed there.
     NoForm,
-    /// A number with a leading zero or beyond its range.
+    /// A number has a leading zero or is out of its range.
     BadNumber,
-    /// At `EVENTS`, a configuration that is refused.
+    /// The line is `EVENTS`, and the configuration before it is refused.
     BadConfig,
-    /// At `END`, a count that is not that of the entries.
+    /// The line is `END`, and its count is not the number of entries.
     WrongCount,
-    /// The text ends in this line, or before an `END`.
+    /// The text ends within this line, or without an `END`.
     Cut,
 }
 

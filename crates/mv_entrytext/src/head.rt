@@ -1,4 +1,4 @@
-//! The head of a journal, read to its end: `specs/Lines.antt`, `specs/Draft.antt` and `specs/Fault.antt`.
+//! The head of a journal, read up to its last line, by `specs/Lines.antt`, `specs/Draft.antt` and `specs/Fault.antt`.
 
 ghost use Rattle.std.specs.Prelude.{◌≡◌, ◌≢◌, ◌<◌, ◌-◌, ◌^◌, [], true, Some, length, OnOk, MatchResult};
 ghost use Rattle.mv_line.specs.Fault.{TellsLowest};
@@ -33,7 +33,7 @@ impl HeadDraft {
     {
         HeadDraft {
             stage: Stage::Version,
-            // Until the first line tells it.
+            // The first line sets it.
             version: Version::One,
             config: Config {
                 callers: 0,
@@ -49,7 +49,7 @@ impl HeadDraft {
         }
     }
 
-    // Takes a line before the last of the head, which leaves all as it was.
+    // Takes a line of the head. The last one, `EVENTS`, changes nothing.
     fn take(&mut self, line: Line) -> Result<(), NoMemory>
         ensures { OnOk result (said line ≢ Events → head_seen self.new ≡ draft_with (said line) (head_seen self.old)) }
     {
@@ -97,7 +97,7 @@ impl HeadDraft {
     }
 }
 
-// Reads a line as one that may come next, or says whether its form or a number in it is at fault.
+// Reads a line as one that may come next, or returns whether its form or a number in it is at fault.
 fn line_or_kind(alloc: Global, stage: Stage, text: &[u8]) -> Result<Line, LineRefusal<Kind>>
     ensures { MatchResult result
         (λ l. line_read true (stage_of stage) text.now ≡ Some (said l))
@@ -112,7 +112,7 @@ fn line_or_kind(alloc: Global, stage: Stage, text: &[u8]) -> Result<Line, LineRe
     }
 }
 
-// The configuration of a head that has ended.
+// Returns the checked configuration of a head that has ended.
 fn checked(alloc: Global, config: Config) -> Result<ValidConfig, LineRefusal<Kind>>
     ensures { MatchResult result
         (λ v. (v ≡ setup_of config) × IsValid (setup_of config))
@@ -124,7 +124,7 @@ fn checked(alloc: Global, config: Config) -> Result<ValidConfig, LineRefusal<Kin
     }
 }
 
-/// A head that was read: its version, its configuration, the lines behind it, and what is cut off behind these.
+/// A head that was read: its version, its configuration, the lines after it, and the bytes that are cut off after the last LF.
 #[derive(Drop)]
 pub(crate) struct Head<'a> {
     pub(crate) version: Version,
@@ -133,7 +133,7 @@ pub(crate) struct Head<'a> {
     pub(crate) cut: &'a [u8],
 }
 
-/// Reads the head of a journal, up to `EVENTS`.
+/// Reads the head of a journal, up to and including `EVENTS`.
 pub(crate) fn read_head(alloc: Global, bytes: &[u8]) -> Result<Head<'_>, TextRefusal>
     requires { length bytes.now < 2 ^ 32 - 1 }
     ensures { MatchResult result

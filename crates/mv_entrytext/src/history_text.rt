@@ -1,4 +1,4 @@
-//! The journal of a run, made and written piece by piece: `specs/HistoryText.antt`.
+//! The journal of a run, made and written piece by piece, by `specs/HistoryText.antt`.
 
 ghost use Rattle.std.specs.Prelude.{◌≡◌, ◌≤◌, ◌<◌, ◌+◌, ◌^◌, ◌++◌, [], ℕ, List, length, All, IfOk, OnOk, OnErr, vec_len, vec_capacity};
 ghost use Rattle.std.specs.declared.option.Option.{Option as AnyOption};
@@ -24,16 +24,18 @@ use mv_machine::{History, ValidConfig};
 use std::alloc::Global;
 use std::marker::Model;
 
-/// The most bytes of a piece, but for the head, which is one with those that follow it where it is short.
+/// The most bytes of a piece. Only the first piece can be longer, if the head is; a shorter head is in one piece with the
+/// entries after it.
 const PIECE: usize = 65_536;
 
 /// The journal of a run: its configuration and its history, in version 2 of the text, with the call numbers that the machine's
-/// rules give. Contracts see that text. The head is made, and the rest as it is written, in the same memory.
+/// rules give. Contracts see it as that text. `open` makes the head, and `write` makes the rest while it writes, in the same
+/// memory.
 #[derive(Drop)]
 pub struct HistoryText {
     history: History,
     counters: CallCounters,
-    // The next piece: the head, with room for any other.
+    // The next piece: the head, with room for any other piece.
     piece: Vec<u8>,
 }
 
@@ -49,7 +51,7 @@ impl Model for HistoryText {
     ghost invariant = { IsUnwritten };
 }
 
-// Writes the piece, and begins the next one in its place.
+// Writes the piece, and begins the next piece in its memory.
 fn write_piece<K: Sink>(journal: &mut K, piece: &mut Vec<u8>) -> Result<(), Failed>
     ensures written { (first : AnyOption (List ℕ)) (text : List ℕ) → IsWrittenSoFar first (K.taken journal.old) piece.old.items text
         → OnOk result (IsWrittenSoFar first (K.taken journal.new) piece.new.items text) }
@@ -69,7 +71,7 @@ fn write_piece<K: Sink>(journal: &mut K, piece: &mut Vec<u8>) -> Result<(), Fail
     }
 }
 
-// The same where the piece has no room for a line more.
+// Writes the piece if it has no room for one more line, and then begins the next one.
 #[inline(always)]
 fn make_room<K: Sink>(journal: &mut K, piece: &mut Vec<u8>) -> Result<(), Failed>
     requires size { piece_size ≤ vec_capacity piece.old }
@@ -88,7 +90,7 @@ fn make_room<K: Sink>(journal: &mut K, piece: &mut Vec<u8>) -> Result<(), Failed
     write_piece(journal, piece)
 }
 
-// The last line, and what is left of the text.
+// Writes the last line, with what is left of the text before it.
 #[inline(always)]
 fn write_end<K: Sink>(journal: &mut K, rest: &mut Vec<u8>, count: u64) -> Result<(), Failed>
     requires size { piece_size ≤ vec_capacity rest.old }
@@ -104,7 +106,7 @@ fn write_end<K: Sink>(journal: &mut K, rest: &mut Vec<u8>, count: u64) -> Result
     write_piece(journal, rest)
 }
 
-// The first piece, which is the head in room for any other, and the counters.
+// Makes the first piece, which is the head with room for any other piece, and the call counters.
 fn first_piece(alloc: Global, config: &ValidConfig) -> Result<(Vec<u8>, CallCounters), NoMemory>
     ensures head { IfOk result (λ x. x.0.items ≡ head_text Two config.now) }
     ensures room { IfOk result (λ x. piece_size ≤ vec_capacity x.0) }
@@ -118,22 +120,23 @@ fn first_piece(alloc: Global, config: &ValidConfig) -> Result<(Vec<u8>, CallCoun
 }
 
 impl HistoryText {
-    /// All memory is taken here: that of a piece and of the head, and of the counters of calls. It takes time linear in the history's
-    /// length: each entry is looked at once, for what its types say.
+    /// Opens the journal of a history for writing, and makes its head. All memory is taken here: that of a piece and of the
+    /// head, and that of the call counters. It takes time linear in the length of the history: it looks at each entry once, for
+    /// the facts that the types of its numbers give (`typed`).
     ///
-    /// The history is legal, so each operation and reply is of its object's kind, with numbers in the ranges of `docs/FORMATS.md`;
-    /// what a number's type says already needs no condition, and is told.
+    /// The history is legal, so each operation and reply is of its object's kind, with numbers in the ranges of
+    /// `docs/FORMATS.md`. The ranges that the types of the numbers give need no condition.
     ///
     /// # Errors
     ///
-    /// `NoMemory` where there is not so much.
+    /// Returns `NoMemory` if there is not enough memory for that.
     pub fn open(alloc: Global, history: History) -> Result<HistoryText, NoMemory>
         requires whole { history.past ≡ [] }
         requires legal { Legal history.config history.coming }
         requires few { length history.coming < 2 ^ 32 }
         ensures text { IfOk result (λ text. text ≡ journal_text history.config history.coming) }
         ensures typed { OnOk result (All IsTyped history.coming) }
-        // Where there are no more than a run may have, the text reads back.
+        // If the history has at most as many entries as a run may have, the text reads back.
         ensures readable { length history.coming ≤ events_limit → OnOk result (HasJournal history.config history.coming) }
     {
         let (piece, counters) = first_piece(alloc, history.config())?;
@@ -145,12 +148,13 @@ impl HistoryText {
         })
     }
 
-    /// Writes the text. One pass: each entry is numbered and its line made as the history gives it. It takes no memory.
+    /// Writes the text, in one pass: it numbers each entry and makes its line as the history gives the entry. It takes no
+    /// memory.
     ///
     /// # Errors
     ///
-    /// `Failed` at the sink's first failure, which is not tried again.
-    // It is called and not inlined: within a whole run its loop would keep less in registers.
+    /// Returns `Failed` at the sink's first failure, and does not try again.
+    // It is not inlined: within a whole run, its loop would keep fewer values in registers.
     #[inline(never)]
     pub fn write<K: Sink>(self, journal: &mut K) -> Result<(), Failed>
         ensures whole { OnOk result (Appends (K.taken journal.old) (K.taken journal.new) self) }

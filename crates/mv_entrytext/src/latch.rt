@@ -1,4 +1,4 @@
-//! Operations on the latch set and their replies, as text: `specs/LatchText.antt`.
+//! Operations on the latch set and their replies as text, by `specs/LatchText.antt`.
 
 ghost use Rattle.std.specs.Prelude.{◌≡◌, ◌≤◌, ◌+◌, ◌++◌, vec_len, vec_capacity};
 ghost use Rattle.mv_entrytext.specs.LatchText.{mode_text, form_text, condition_text, latch_op_text, latch_reply_text, mode_read};
@@ -154,7 +154,7 @@ fn read_condition(text: &[u8]) -> Option<(bool, &[u8])>
     None
 }
 
-// The requestor, the mode and the form of an obtain.
+// Reads the requestor, the mode and the form of an obtain.
 #[tactic(auto, unfolding(crate::specs::LatchText::obtain_rest, crate::specs::Reading::parted_at, crate::specs::Reading::behind))]
 fn read_obtain_rest(strict: bool, text: &[u8]) -> Option<((u64, (Mode, LatchForm)), &[u8])>
     ensures { seen result ≡ obtain_rest strict text.now }

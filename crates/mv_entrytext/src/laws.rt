@@ -1,4 +1,4 @@
-//! What holds of the texts of journals, whoever writes or reads them: `specs/Journal.antt`, `specs/Fault.antt`.
+//! Laws of the texts of journals, whoever writes or reads them, by `specs/Journal.antt` and `specs/Fault.antt`.
 
 ghost use Rattle.std.specs.Prelude.{◌≡◌, ◌≤◌, ◌↔◌, ℕ, List, All, None, MatchOption, length};
 ghost use Rattle.mv_line.specs.declared.fault.TextFault.{TextFault};
@@ -14,7 +14,8 @@ ghost use Rattle.mv_entrytext.specs.EntryText.{IsInRange, IsTyped};
 ghost use Rattle.mv_entrytext.specs.Fault.{HasFault, HasJournal, AreCallsIn, AreCallNumbers, IsNoLater, journal_of, text_fault};
 ghost use Rattle.mv_entrytext.specs.Journal.{text_of};
 
-/// A text determines its version, its configuration, its entries and their call numbers: they are what is read off it.
+/// Shows that a text determines its version, its configuration, its entries and their call numbers: they are what is read from
+/// it.
 pub fn text_determines_journal()
     ensures one { (v w : AnyVersion) (c d : Setup) (es fs : List Entry) (ns ms : List ℕ)
         → HasJournal c es → AreCallsIn v es ns → HasJournal d fs → AreCallsIn w fs ms
@@ -24,8 +25,8 @@ pub fn text_determines_journal()
         × ((journal_of (text_of v c es ns)).entries ≡ es) × ((journal_of (text_of v c es ns)).calls ≡ ns) }
 {}
 
-/// The entries of a legal list, whose places are such as the budgets of a run allow, are in the ranges of the text. So
-/// they have one in version 1 and, with their call numbers, one in version 2, where their numbers are of their types.
+/// Shows that the entries of a legal list, whose places are as the budgets of a run allow, are in the ranges of the text. So,
+/// if their numbers fit their types, they have a text in version 1 and, with their call numbers, a text in version 2.
 pub fn legal_lists_have_texts()
     ensures in_range { (c : Setup) (es : List Entry) → Legal c es → All (λ e. e.place ≤ highest_place) es → All IsInRange es }
     ensures text { (c : Setup) (es : List Entry) → IsValid c → Legal c es → All (λ e. e.place ≤ highest_place) es
@@ -33,16 +34,16 @@ pub fn legal_lists_have_texts()
     ensures calls { (c : Setup) (es : List Entry) → length es ≤ highest_u32 → AreCallNumbers es (calls_of c es) }
 {}
 
-/// A text has no fault exactly where it is the text, in one of the versions, of a configuration, of entries and of call
-/// numbers that have one.
+/// Shows that a text has no fault exactly if it is the text, in one of the versions, of a configuration, of entries and of call
+/// numbers that have a text.
 pub fn texts_without_fault_are_journals()
     ensures { (bytes : List ℕ) → (text_fault bytes ≡ None)
         ↔ ((v : AnyVersion) × (c : Setup) × (es : List Entry) × (ns : List ℕ)
         × HasJournal c es × AreCallsIn v es ns × (bytes ≡ text_of v c es ns)) }
 {}
 
-/// The first fault is one that the text has, and no other comes before it by line and then by the order of kinds 5, 1, 2, 3, 4;
-/// there is none only if the text has no fault.
+/// Shows that the first fault is one that the text has, and that no other fault comes before it, by line and then by the order
+/// of kinds 5, 1, 2, 3, 4. There is no first fault only if the text has no fault.
 pub fn first_fault_is_lowest()
     ensures { (bytes : List ℕ) → MatchOption (text_fault bytes)
         ((f : TextFault) → ¬ HasFault bytes f)

@@ -1,5 +1,5 @@
-//! The text of a journal: the configuration of a run and its entries as lines, written and read back, and the first fault of any
-//! other text.
+//! The text of a journal: the configuration of a run and its entries as lines, written and read back, and the first fault of
+//! any other text.
 #![tactic(auto)]
 
 mod ecb;

@@ -1,4 +1,4 @@
-//! The lines of a journal, read one by one: `specs/Lines.antt`; what they say is `specs/Said.antt`.
+//! The lines of a journal, read one by one, by `specs/Lines.antt`. `specs/Said.antt` says how contracts see them.
 
 ghost use Rattle.std.specs.Prelude.{◌≡◌, [], true, IfOk, option_map};
 ghost use Rattle.mv_machine.specs.Config.{exit_of};
@@ -16,7 +16,7 @@ use mv_line::split_part;
 use mv_machine::{Entry, Exit};
 use std::alloc::Global;
 
-/// What a line of the head says.
+/// A line of the head, as it was read.
 #[derive(Drop)]
 pub(crate) enum Line {
     Version(Version),
@@ -31,15 +31,15 @@ pub(crate) enum Line {
     Events,
 }
 
-/// What a line behind the head says.
+/// A line after the head, as it was read.
 #[derive(Clone, Copy)]
 pub(crate) enum EntryLine {
-    /// With the number of its call in version 2.
+    /// An entry, in version 2 with the number of its call.
     Entry(Option<u32>, Entry),
     End(u32),
 }
 
-/// Which line of the head comes next; behind `Budgets` and `Owners` so may those of the later lists.
+/// The line of the head that comes next. At the three lists, a line of a later list or `EVENTS` may come next too.
 #[derive(Clone, Copy)]
 pub(crate) enum Stage {
     Version,
@@ -53,7 +53,7 @@ pub(crate) enum Stage {
     Exits,
 }
 
-// A number that is all of a text.
+// Reads a text that is a number to its end.
 fn whole_number(strict: bool, text: &[u8]) -> Option<u32>
     ensures { result ≡ whole (any_u32 strict) text.now }
 {
@@ -61,7 +61,7 @@ fn whole_number(strict: bool, text: &[u8]) -> Option<u32>
     rest.is_empty().then_some(number)
 }
 
-// The numbers of a text's fields, which are parted by single spaces; each is a number to its end.
+// Reads the fields of a text, which are separated by single spaces, as numbers. Each field must be a number to its end.
 fn read_numbers(alloc: Global, strict: bool, text: &[u8]) -> Result<Option<Vec<u32>>, NoMemory>
     ensures { IfOk result (λ o. option_map (λ v. v.items) o ≡ numbers strict (parts_at 32 text.now)) }
 {
@@ -78,7 +78,7 @@ fn read_numbers(alloc: Global, strict: bool, text: &[u8]) -> Result<Option<Vec<u
     Ok(Some(found))
 }
 
-// A source and one or more targets.
+// Makes an exit of numbers: a source and one or more targets.
 fn exit_from(mut numbers: Vec<u32>) -> Option<Exit>
     ensures { option_map (λ x. (exit_of x, [])) result ≡ exit_from numbers.items }
 {
@@ -92,7 +92,7 @@ fn exit_from(mut numbers: Vec<u32>) -> Option<Exit>
     })
 }
 
-// What stands on an exit's line behind its word.
+// Reads the numbers of an exit's line.
 #[tactic(auto, unfolding(crate::specs::Lines::exit_read))]
 fn read_exit(alloc: Global, strict: bool, text: &[u8]) -> Result<Option<Exit>, NoMemory>
     ensures { IfOk result (λ o. option_map (λ x. (exit_of x, [])) o ≡ exit_read strict text.now) }
@@ -103,7 +103,7 @@ fn read_exit(alloc: Global, strict: bool, text: &[u8]) -> Result<Option<Exit>, N
     }
 }
 
-// The first line.
+// Reads the first line.
 #[tactic(auto, unfolding(crate::specs::Lines::count_line))]
 fn read_version(text: &[u8]) -> Option<(Line, &[u8])>
     ensures { line_seen result ≡ count_line true AtVersion text.now }
@@ -114,7 +114,7 @@ fn read_version(text: &[u8]) -> Option<(Line, &[u8])>
     Some((Line::Version(Version::Two), after(text, b"JOURNAL 2")?))
 }
 
-// The counts of the head, each in its place.
+// Reads a count of the head. Each count has its stage.
 #[tactic(auto, unfolding(crate::specs::Lines::count_line))]
 fn read_count(strict: bool, stage: Stage, text: &[u8]) -> Option<(Line, &[u8])>
     ensures { line_seen result ≡ count_line strict (stage_of stage) text.now }
@@ -150,7 +150,7 @@ fn read_count(strict: bool, stage: Stage, text: &[u8]) -> Option<(Line, &[u8])>
     }
 }
 
-// An entry, or the end.
+// Reads an entry, or the end of the journal.
 #[tactic(auto, unfolding(crate::specs::Lines::next_line))]
 fn read_entry_or_end(strict: bool, version: Version, text: &[u8]) -> Option<(EntryLine, &[u8])>
     ensures { entry_line_seen result ≡ next_line strict (AtEntries version) text.now }
@@ -162,7 +162,7 @@ fn read_entry_or_end(strict: bool, version: Version, text: &[u8]) -> Option<(Ent
     Some((EntryLine::Entry(call, entry), rest))
 }
 
-/// Reads a line behind the head without its LF, to its end.
+/// Reads a whole line after the head, without its LF.
 pub(crate) fn read_entry_line(strict: bool, version: Version, text: &[u8]) -> Option<EntryLine>
     ensures { option_map entry_said result ≡ line_read strict (AtEntries version) text.now }
 {
@@ -174,7 +174,7 @@ pub(crate) fn read_entry_line(strict: bool, version: Version, text: &[u8]) -> Op
 
 type Read<'a> = Result<Option<(Line, &'a [u8])>, NoMemory>;
 
-// An exit, or the end of the head.
+// Reads an exit, or the end of the head.
 #[tactic(auto, unfolding(crate::specs::Reading::behind))]
 fn read_at_exits(alloc: Global, strict: bool, text: &[u8]) -> Read<'_>
     ensures { IfOk result (λ o. line_seen o ≡ at_exits strict text.now) }
@@ -191,7 +191,7 @@ fn read_at_exits(alloc: Global, strict: bool, text: &[u8]) -> Read<'_>
     }
 }
 
-// An owner, or what may stand behind the owners.
+// Reads an owner, or a line that may follow the owners.
 fn read_at_owners(alloc: Global, strict: bool, text: &[u8]) -> Read<'_>
     ensures { IfOk result (λ o. line_seen o ≡ at_owners strict text.now) }
 {
@@ -201,7 +201,7 @@ fn read_at_owners(alloc: Global, strict: bool, text: &[u8]) -> Read<'_>
     read_at_exits(alloc, strict, text)
 }
 
-// A budget, or what may stand behind the budgets.
+// Reads a budget, or a line that may follow the budgets.
 #[tactic(auto, unfolding(crate::specs::Lines::next_line))]
 fn read_at_budgets(alloc: Global, strict: bool, text: &[u8]) -> Read<'_>
     ensures { IfOk result (λ o. line_seen o ≡ next_line strict AtBudgets text.now) }
@@ -212,7 +212,7 @@ fn read_at_budgets(alloc: Global, strict: bool, text: &[u8]) -> Read<'_>
     read_at_owners(alloc, strict, text)
 }
 
-// The line that comes next.
+// Reads a line that may come next at this stage.
 #[tactic(auto, unfolding(crate::specs::Lines::next_line))]
 fn read_next(alloc: Global, strict: bool, stage: Stage, text: &[u8]) -> Read<'_>
     ensures { IfOk result (λ o. line_seen o ≡ next_line strict (stage_of stage) text.now) }
@@ -225,7 +225,7 @@ fn read_next(alloc: Global, strict: bool, stage: Stage, text: &[u8]) -> Read<'_>
     }
 }
 
-/// Reads a line of the head without its LF, to its end, as one that may stand there.
+/// Reads a whole line of the head, without its LF, as one that may come next at this stage.
 pub(crate) fn read_line(
     alloc: Global,
     strict: bool,

@@ -1,4 +1,4 @@
-//! Numbers in a text: `specs/Reading.antt`.
+//! Words and numbers in a text, by `specs/Reading.antt`.
 
 ghost use Rattle.std.specs.Prelude.{◌≡◌, ◌≤◌, ◌<◌, ◌++◌, OnOk, IfSome, true};
 ghost use Rattle.std.specs.Prelude.{nat_eq, option_map, Bool, Some, decimal, take, length};
@@ -12,7 +12,7 @@ use crate::reserved::{NUMBER_WIDTH, put_digits};
 use mv_io::NoMemory;
 use mv_line::wide_number_within;
 
-/// Appends a word and a number behind it.
+/// Appends a word and then a number of four bytes.
 #[inline(always)]
 pub(crate) fn push_number(out: &mut Vec<u8>, word: &[u8], number: u32) -> Result<(), NoMemory>
     ensures { OnOk result (out.new.items ≡ out.old.items ++ (word.now ++ decimal number)) }
@@ -20,7 +20,7 @@ pub(crate) fn push_number(out: &mut Vec<u8>, word: &[u8], number: u32) -> Result
     push_wide(out, word, u64::from(number))
 }
 
-/// The same of a number of eight bytes.
+/// Appends a word and then a number of eight bytes.
 #[inline(always)]
 pub(crate) fn push_wide(out: &mut Vec<u8>, word: &[u8], number: u64) -> Result<(), NoMemory>
     ensures { OnOk result (out.new.items ≡ out.old.items ++ (word.now ++ decimal number)) }
@@ -29,7 +29,8 @@ pub(crate) fn push_wide(out: &mut Vec<u8>, word: &[u8], number: u64) -> Result<(
     push_digits(out, number)
 }
 
-/// Appends a word. Each caller's word is a constant, and inlined it is stored as such, with no call that copies its bytes.
+/// Appends a word. Each caller's word is a constant, so if this is inlined the word is stored as a constant, without a call
+/// that copies its bytes.
 #[inline(always)]
 pub(crate) fn push_word(out: &mut Vec<u8>, word: &[u8]) -> Result<(), NoMemory>
     ensures { OnOk result (out.new.items ≡ out.old.items ++ word.now) }
@@ -38,7 +39,7 @@ pub(crate) fn push_word(out: &mut Vec<u8>, word: &[u8]) -> Result<(), NoMemory>
     Ok(())
 }
 
-// Appends a number. Its digits are told once, by `put_digits`.
+// Appends a number, whose digits `put_digits` makes.
 fn push_digits(out: &mut Vec<u8>, number: u64) -> Result<(), NoMemory>
     ensures { OnOk result (out.new.items ≡ out.old.items ++ decimal number) }
 {
@@ -47,7 +48,7 @@ fn push_digits(out: &mut Vec<u8>, number: u64) -> Result<(), NoMemory>
     Ok(())
 }
 
-/// Appends a word and two numbers behind it.
+/// Appends a word and then two numbers, with one space between them.
 #[inline(always)]
 pub(crate) fn push_pair(
     out: &mut Vec<u8>,
@@ -61,8 +62,8 @@ pub(crate) fn push_pair(
     push_number(out, b" ", second)
 }
 
-/// What stands behind a word, where the text begins with it. Each caller's word is a constant, and inlined the comparison is of
-/// so many bytes.
+/// Returns the rest of a text after a word, if the text begins with the word. Each caller's word is a constant, so if this is
+/// inlined the comparison is of a fixed number of bytes.
 #[inline(always)]
 #[tactic(auto, unfolding(crate::specs::Reading::after))]
 pub(crate) fn after<'a>(text: &'a [u8], word: &[u8]) -> Option<&'a [u8]>
@@ -75,7 +76,7 @@ pub(crate) fn after<'a>(text: &'a [u8], word: &[u8]) -> Option<&'a [u8]>
     }
 }
 
-// Whether a text begins with a word. Most words that are tried differ from the text in their first byte.
+// Returns whether a text begins with a word. Most words that are tried differ from the text in their first byte.
 #[inline(always)]
 fn begins_with(text: &[u8], word: &[u8]) -> bool
     ensures word { result ≡ starts_with nat_eq text.now word.now }
@@ -94,7 +95,7 @@ fn begins_with(text: &[u8], word: &[u8]) -> bool
     true
 }
 
-/// A number of four bytes, within these bounds.
+/// Reads a number of four bytes within these bounds.
 #[inline(always)]
 pub(crate) fn number_u32(strict: bool, low: u32, high: u32, text: &[u8]) -> Option<(u32, &[u8])>
     ensures { seen result ≡ number_at strict low high text.now }
@@ -103,7 +104,7 @@ pub(crate) fn number_u32(strict: bool, low: u32, high: u32, text: &[u8]) -> Opti
     Some((value as u32, rest))
 }
 
-/// A number of four bytes.
+/// Reads a number of four bytes.
 #[inline(always)]
 pub(crate) fn any_u32(strict: bool, text: &[u8]) -> Option<(u32, &[u8])>
     ensures { seen result ≡ any_u32 strict text.now }
@@ -111,7 +112,7 @@ pub(crate) fn any_u32(strict: bool, text: &[u8]) -> Option<(u32, &[u8])>
     number_u32(strict, 0, u32::MAX, text)
 }
 
-/// A number of eight bytes.
+/// Reads a number of eight bytes.
 #[inline(always)]
 pub(crate) fn any_u64(strict: bool, text: &[u8]) -> Option<(u64, &[u8])>
     ensures { seen result ≡ any_u64 strict text.now }
@@ -119,7 +120,7 @@ pub(crate) fn any_u64(strict: bool, text: &[u8]) -> Option<(u64, &[u8])>
     number(strict, 0, u64::MAX, text)
 }
 
-/// A number of four bytes, within these bounds, behind a word.
+/// Reads a word, and then a number of four bytes within these bounds.
 #[inline(always)]
 #[tactic(auto, unfolding(crate::specs::Reading::behind))]
 pub(crate) fn number_behind<'a>(
@@ -134,7 +135,7 @@ pub(crate) fn number_behind<'a>(
     number_u32(strict, low, high, after(text, word)?)
 }
 
-/// A number of four bytes behind a word.
+/// Reads a word, and then a number of four bytes.
 #[inline(always)]
 pub(crate) fn u32_behind<'a>(strict: bool, text: &'a [u8], word: &[u8]) -> Option<(u32, &'a [u8])>
     ensures { seen result ≡ behind word.now (any_u32 strict) text.now }
@@ -142,7 +143,7 @@ pub(crate) fn u32_behind<'a>(strict: bool, text: &'a [u8], word: &[u8]) -> Optio
     number_behind(strict, 0, u32::MAX, text, word)
 }
 
-/// Two numbers of four bytes with one space between, each at most so high, behind a word.
+/// Reads a word, and then two numbers of four bytes with one space between them, each at most its highest.
 #[inline(always)]
 #[tactic(auto, unfolding(crate::specs::Reading::behind))]
 pub(crate) fn pair_behind<'a>(
@@ -157,7 +158,7 @@ pub(crate) fn pair_behind<'a>(
     two_numbers(strict, highest, after(text, word)?)
 }
 
-// The two numbers.
+// Reads two numbers of four bytes with one space between them, each at most its highest.
 #[tactic(auto, unfolding(crate::specs::Reading::parted_at))]
 fn two_numbers(strict: bool, highest: (u32, u32), text: &[u8]) -> Option<((u32, u32), &[u8])>
     ensures { seen result ≡ parted (number_at strict 0 highest.0) (number_at strict 0 highest.1) text.now }
@@ -167,8 +168,8 @@ fn two_numbers(strict: bool, highest: (u32, u32), text: &[u8]) -> Option<((u32, 
     Some(((first, second), rest))
 }
 
-/// A number within these bounds, with no leading zero. One that is spelled otherwise is refused by a strict reader, and
-/// taken for 0 by any other. It is inlined up to the numbers that are as they should be, so that what they are stays in registers.
+/// Reads a number within these bounds, with no leading zero. If the digits are not such a number, a strict reader refuses them,
+/// and any other takes them for 0. Only the part for such numbers is inlined, so that they stay in registers.
 #[inline(always)]
 fn number(strict: bool, low: u64, high: u64, text: &[u8]) -> Option<(u64, &[u8])>
     ensures read { seen result ≡ number_at strict low high text.now }
@@ -180,7 +181,8 @@ fn number(strict: bool, low: u64, high: u64, text: &[u8]) -> Option<(u64, &[u8])
     any_number(strict, low, high, text)
 }
 
-// A number within these bounds of fewer than `SHORT_WIDTH` digits, with no leading zero. All readers take it so.
+// Reads a number within these bounds of fewer than `SHORT_WIDTH` digits, with no leading zero. All readers, strict or not, read
+// it alike.
 #[inline(always)]
 #[tactic(auto, unfolding(crate::specs::Reading::number))]
 fn plain_number(low: u64, high: u64, text: &[u8]) -> Option<(u64, &[u8])>
@@ -195,7 +197,7 @@ fn plain_number(low: u64, high: u64, text: &[u8]) -> Option<(u64, &[u8])>
     Some((value, &text[count..]))
 }
 
-// A number however it is spelled.
+// Reads a number however it is spelled.
 #[inline(never)]
 #[tactic(auto, unfolding(crate::specs::Reading::number))]
 fn any_number(strict: bool, low: u64, high: u64, text: &[u8]) -> Option<(u64, &[u8])>
@@ -214,10 +216,11 @@ fn any_number(strict: bool, low: u64, high: u64, text: &[u8]) -> Option<(u64, &[
     }
 }
 
-// What fewer digits show fits eight bytes.
+// A number of fewer digits than this fits eight bytes.
 const SHORT_WIDTH: usize = 18;
 
-// How many digits a text begins with, up to `SHORT_WIDTH`, and what they show, in one pass. Where they are not fewer there may be more.
+// Counts the digits that a text begins with, up to `SHORT_WIDTH`, and returns their number and their value, in one pass. If it
+// returns `SHORT_WIDTH`, there may be more digits.
 #[inline(always)]
 fn leading_digits(text: &[u8]) -> (usize, u64)
     ensures within { result.0 ≤ length text.now }
@@ -238,7 +241,8 @@ fn leading_digits(text: &[u8]) -> (usize, u64)
     (count, value)
 }
 
-// What so many digits, all that a text begins with, show, where there is no zero in front of others and it is within these bounds.
+// Returns the value of the first `count` bytes, which are all digits that a text begins with, if they are a number without a
+// leading zero and within these bounds.
 #[inline(always)]
 fn short_number_within(low: u64, high: u64, text: &[u8], count: usize, value: u64) -> Option<u64>
     requires count { count ≡ digit_count text.now }
@@ -253,7 +257,8 @@ fn short_number_within(low: u64, high: u64, text: &[u8], count: usize, value: u6
     (low <= value && value <= high).then_some(value)
 }
 
-// Whether so many digits, all that a text begins with, are one or more, and the first is no zero in front of others.
+// Returns whether the first `count` bytes, which are all digits that a text begins with, are one or more and have no leading
+// zero.
 #[inline(always)]
 #[tactic(auto, using(crate::proofs::Leading::digits_show))]
 fn has_plain_digits(text: &[u8], count: usize) -> bool
@@ -268,7 +273,7 @@ fn has_plain_digits(text: &[u8], count: usize) -> bool
     }
 }
 
-// How many digits a text begins with.
+// Returns how many digits a text begins with.
 fn digit_count(text: &[u8]) -> usize
     ensures count { result ≡ digit_count text.now }
     ensures within { result ≤ length text.now }

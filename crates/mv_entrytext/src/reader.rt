@@ -1,4 +1,4 @@
-//! The reader of journals, one pass over the bytes, an entry at a time: `specs/Reader.antt` says where it stands, by
+//! The reader of journals: one pass over the bytes, an entry at a time. `specs/Reader.antt` says what it has read, by
 //! `specs/Journal.antt`, `specs/Fault.antt` and `specs/Draft.antt`.
 
 ghost use Rattle.std.specs.Prelude.{◌≡◌, ◌+◌, ◌<◌, ◌-◌, ◌^◌, [], true, Some, ℕ, List, length, IfOk, IfSome, MatchOption, MatchResult};
@@ -22,14 +22,14 @@ use mv_line::{FaultKind, Lines, TextFault, TextRefusal};
 use mv_machine::{Entry, ValidConfig};
 use std::alloc::Global;
 
-/// What stands behind the head of a text, read entry by entry. It keeps none of them.
+/// The reader of a journal's entries, which follow the head of its text. It keeps none of them.
 #[derive(Drop)]
 pub struct EntryReader<'a> {
     version: Version,
     lines: Lines<'a>,
-    // What is cut off behind them.
+    // The bytes that are cut off after the last LF.
     cut: &'a [u8],
-    // How many entries were read.
+    // The number of entries that were read.
     count: u32,
 }
 
@@ -41,7 +41,8 @@ pub struct OpenJournal<'a> {
     pub entries: EntryReader<'a>,
 }
 
-// Passes an entry in front, which ends in LF as its line does. Its end is where the entry's is, and so no LF is looked for.
+// Reads an entry at the front of the lines, and passes its line, if an LF follows the entry. The line ends where the entry
+// ends, so no LF is searched for.
 fn entry_in_front(version: Version, lines: &mut Lines<'_>) -> Option<(Option<u32>, Entry)>
     ensures { MatchOption result (lines.new ≡ lines.old)
         (λ x. IsPassed lines.old lines.old.number (entry_text x.0 x.1) lines.new
@@ -55,7 +56,7 @@ fn entry_in_front(version: Version, lines: &mut Lines<'_>) -> Option<(Option<u32
     Some(found)
 }
 
-// Reads a line behind the head, or says whether its form or a number in it is at fault.
+// Reads a line after the head, or returns whether its form or a number in it is at fault.
 fn entry_line_or_kind(version: Version, text: &[u8]) -> Result<EntryLine, Kind>
     ensures { MatchResult result
         (λ l. line_read true (AtEntries version) text.now ≡ Some (entry_said l))
@@ -70,11 +71,12 @@ fn entry_line_or_kind(version: Version, text: &[u8]) -> Result<EntryLine, Kind>
     }
 }
 
-/// Reads the head of a journal, of either version of the text.
+/// Reads the head of a journal, in either version of the text.
 ///
 /// # Errors
 ///
-/// `Fault` where the head has a fault: the text's first. `NoMemory` where there is no room for the head.
+/// Returns `Fault` if the head has a fault, which is the text's first. Returns `NoMemory` if there is not enough memory for the
+/// head.
 pub fn open_journal(alloc: Global, bytes: &[u8]) -> Result<OpenJournal<'_>, TextRefusal>
     requires short { length bytes.now < 2 ^ 32 - 1 }
     ensures { MatchResult result
@@ -95,7 +97,7 @@ pub fn open_journal(alloc: Global, bytes: &[u8]) -> Result<OpenJournal<'_>, Text
 }
 
 impl EntryReader<'_> {
-    /// The number of the line that comes next, counted from 1.
+    /// Returns the number of the next line, counted from 1.
     pub fn line(&self) -> u32
         ensures { (v : AnyVersion) (bytes : List ℕ) (c : Setup) (es : List AnyEntry) (ns : List ℕ)
             → IsReadTo v bytes c es ns self.now → result ≡ first_line c + length es }
@@ -103,7 +105,7 @@ impl EntryReader<'_> {
         self.lines.number
     }
 
-    /// How many entries were read.
+    /// Returns the number of entries that were read.
     pub fn count(&self) -> u32
         ensures { (v : AnyVersion) (bytes : List ℕ) (c : Setup) (es : List AnyEntry) (ns : List ℕ)
             → IsReadTo v bytes c es ns self.now → result ≡ length es }
@@ -111,12 +113,13 @@ impl EntryReader<'_> {
         self.count
     }
 
-    /// The next entry, with the number of its call in version 2, or nothing where the text ends well. Call numbers are taken as
-    /// they stand. In time linear in the line.
+    /// Reads the next entry, with the number of its call in version 2. Returns `None` at the end of a text without fault. It
+    /// does not check call numbers. It takes time linear in the line.
     ///
     /// # Errors
     ///
-    /// The first fault of the text, if it is at fault here. The reader then stays before the line, as it does at the end.
+    /// Returns the first fault of the text, if the reader has come to it. The reader then stays before the line, as it does at
+    /// the end.
     ///
     /// # Example
     ///
@@ -144,7 +147,7 @@ impl EntryReader<'_> {
         self.next_line()
     }
 
-    // The same by the whole line, of which it also finds what is wrong with it.
+    // Reads the next entry by its whole line, and finds the line's fault if it has one.
     fn next_line(&mut self) -> Result<Option<(Option<u32>, Entry)>, TextFault>
         requires read { (v : AnyVersion) × (bytes : List ℕ) × (c : Setup) × (es : List AnyEntry) × (ns : List ℕ)
             × IsReadTo v bytes c es ns self.old }

@@ -1,4 +1,4 @@
-//! A journal, read into a list: `specs/Journal.antt` and `specs/Fault.antt`.
+//! A journal, read into a list, by `specs/Journal.antt` and `specs/Fault.antt`.
 
 ghost use Rattle.std.specs.Prelude.{◌≡◌, ◌<◌, ◌-◌, ◌^◌, length, IfOk, IfErr, OnOk};
 ghost use Rattle.mv_entrytext.specs.Lines.{with_call};
@@ -18,13 +18,13 @@ pub struct Journal {
     pub version: u32,
     pub config: ValidConfig,
     pub entries: Vec<Entry>,
-    /// The number of each entry's call in version 2; in version 1 there are none.
+    /// The number of each entry's call in version 2, and nothing in version 1.
     pub calls: Vec<u32>,
-    /// The number of the line behind `EVENTS`, counted from 1.
+    /// The number of the line after `EVENTS`, counted from 1.
     pub first_line: u32,
 }
 
-// Keeps the number of an entry's call, if its line has one.
+// Appends the number of an entry's call, if its line has one.
 fn push_call(calls: &mut Vec<u32>, call: Option<u32>) -> Result<(), NoMemory>
     ensures { OnOk result (calls.new.items ≡ with_call call calls.old.items) }
 {
@@ -34,17 +34,17 @@ fn push_call(calls: &mut Vec<u32>, call: Option<u32>) -> Result<(), NoMemory>
     Ok(())
 }
 
-/// Reads a journal, of either version of the text. Call numbers are taken as they stand: whether they are the right ones,
-/// `replay_calls` judges.
+/// Reads a journal, in either version of the text. It does not check call numbers: `replay_calls` judges whether they are
+/// right.
 ///
-/// One pass, in time linear in the length. No list of lines is kept: an entry takes 80 bytes, and its call's number 4, in
-/// `Vec`s that grow by doubling, and its line at least 18 of the text. Lines are counted from 1 in a `u32`, and so is the
-/// line behind the last: hence fewer than 2^32 - 1 bytes.
+/// It makes one pass, in time linear in the length, and keeps no list of lines. An entry takes 80 bytes, and its call's number
+/// 4, in `Vec`s that grow by doubling; its line takes at least 18 bytes of the text. Lines are counted from 1 in a `u32`, which
+/// also has to count the line after the last one: so a text has fewer than 2^32 - 1 bytes.
 ///
 /// # Errors
 ///
-/// `Fault` where the text has a fault: its first. `NoMemory` where there is no room for the head or the entries, which may
-/// show before a fault is reached.
+/// Returns `Fault` if the text has a fault: its first. Returns `NoMemory` if there is not enough memory for the head or the
+/// entries, which may be found before a fault is reached.
 pub fn read_journal(alloc: Global, bytes: &[u8]) -> Result<Journal, TextRefusal>
     requires short { length bytes.now < 2 ^ 32 - 1 }
 
@@ -52,7 +52,7 @@ pub fn read_journal(alloc: Global, bytes: &[u8]) -> Result<Journal, TextRefusal>
     ensures journal { IfOk result (λ j. HasJournal j.config j.entries.items) }
     ensures text { IfOk result (λ j. IsTextIn j.version bytes.now j.config j.entries.items j.calls.items) }
     ensures first_line { IfOk result (λ j. j.first_line ≡ first_line j.config) }
-    // The fault that is told is the first.
+    // The fault that is returned is the first.
     ensures fault { IfErr result (λ e. TellsFirst e (text_fault bytes.now)) }
 {
     let OpenJournal {

@@ -1,4 +1,5 @@
-//! Words and numbers, appended where there is room for them: `specs/Widths.antt`. Nothing is asked for each, and nothing refused.
+//! Words and numbers, appended where there is room for them, by `specs/Widths.antt`. None of these calls takes memory, so none
+//! fails.
 
 ghost use Rattle.std.specs.Prelude.{◌≡◌, ◌≤◌, ◌<◌, ◌+◌, ◌/◌, ◌%◌, [], ◌∷◌, ◌++◌, decimal, length, vec_len, vec_capacity};
 ghost use Rattle.mv_entrytext.specs.Words.{◌<+>◌};
@@ -7,16 +8,17 @@ ghost use Rattle.mv_entrytext.specs.Widths.{number_width, long_number};
 use itoa::Buffer;
 use std::mem::replace;
 
-/// The digits of a number of eight bytes.
+/// The most digits of a number of eight bytes.
 pub(crate) const NUMBER_WIDTH: usize = 20;
 
 // The first number of more than eight digits.
 const LONG_NUMBER: u64 = 100_000_000;
 
-/// An entry's line with its LF takes no more bytes.
+/// The most bytes of an entry's line with its LF.
 pub(crate) const LINE_WIDTH: usize = 220;
 
-/// A word. Each caller's word is a constant, and inlined it is stored as such, several bytes at once.
+/// Appends a word. Each caller's word is a constant, so if this is inlined the word is stored as a constant, several bytes at
+/// once.
 #[inline(always)]
 pub(crate) fn put_word(out: &mut Vec<u8>, word: &[u8])
     requires room { vec_len out.old + length word.now ≤ vec_capacity out.old }
@@ -29,7 +31,7 @@ pub(crate) fn put_word(out: &mut Vec<u8>, word: &[u8])
     }
 }
 
-/// A word and a number behind it.
+/// Appends a word and then a number of four bytes.
 #[inline(always)]
 pub(crate) fn put_number(out: &mut Vec<u8>, word: &[u8], number: u32)
     requires room { vec_len out.old + length word.now + number_width ≤ vec_capacity out.old }
@@ -40,7 +42,7 @@ pub(crate) fn put_number(out: &mut Vec<u8>, word: &[u8], number: u32)
     put_wide(out, word, u64::from(number));
 }
 
-/// The same of a number of eight bytes.
+/// Appends a word and then a number of eight bytes.
 #[inline(always)]
 pub(crate) fn put_wide(out: &mut Vec<u8>, word: &[u8], number: u64)
     requires room { vec_len out.old + length word.now + number_width ≤ vec_capacity out.old }
@@ -52,7 +54,7 @@ pub(crate) fn put_wide(out: &mut Vec<u8>, word: &[u8], number: u64)
     put_digits(out, number);
 }
 
-/// A word and two numbers behind it.
+/// Appends a word and then two numbers, with one space between them.
 #[inline(always)]
 pub(crate) fn put_pair(out: &mut Vec<u8>, word: &[u8], first: u32, second: u32)
     requires room { vec_len out.old + length word.now + number_width + 1 + number_width ≤ vec_capacity out.old }
@@ -64,7 +66,7 @@ pub(crate) fn put_pair(out: &mut Vec<u8>, word: &[u8], first: u32, second: u32)
     put_number(out, b" ", second);
 }
 
-/// A number. Nearly all have up to eight digits, which are written two at a time.
+/// Appends a number. Nearly all numbers have up to eight digits, which are written two at a time.
 #[inline(always)]
 pub(crate) fn put_digits(out: &mut Vec<u8>, number: u64)
     requires room { vec_len out.old + number_width ≤ vec_capacity out.old }
@@ -82,7 +84,8 @@ pub(crate) fn put_digits(out: &mut Vec<u8>, number: u64)
     }
 }
 
-// A number of more digits. The text is handed over and back, so that at all other numbers its length stays in a register.
+// Appends a number of more than eight digits. The text is handed over and back, so that its length stays in a register for all
+// other numbers.
 #[inline(always)]
 fn put_long(out: &mut Vec<u8>, number: u64)
     requires long { long_number ≤ number }
@@ -95,7 +98,7 @@ fn put_long(out: &mut Vec<u8>, number: u64)
     *out = with_digits(replace(out, Vec::new(alloc)), number);
 }
 
-// The same of a text that is given and returned.
+// Appends a number of more than eight digits to a text that is handed over and returned.
 #[cold]
 #[inline(never)]
 fn with_digits(out: Vec<u8>, number: u64) -> Vec<u8>
@@ -116,7 +119,7 @@ fn with_digits(out: Vec<u8>, number: u64) -> Vec<u8>
     out
 }
 
-// A number of at most four digits.
+// Appends a number of at most four digits.
 #[inline(always)]
 fn put_short(out: &mut Vec<u8>, number: u64)
     requires short { number < 10000 }
@@ -137,7 +140,7 @@ fn put_short(out: &mut Vec<u8>, number: u64)
     }
 }
 
-// Four digits.
+// Appends four digits.
 #[inline(always)]
 fn put_four(out: &mut Vec<u8>, number: u64)
     requires four { number < 10000 }
@@ -156,7 +159,7 @@ static PAIRS: [u8; 200] =
     *b"0001020304050607080910111213141516171819202122232425262728293031323334353637383940414243444546474849\
         5051525354555657585960616263646566676869707172737475767778798081828384858687888990919293949596979899";
 
-// Two digits.
+// Appends two digits.
 #[inline(always)]
 fn put_two(out: &mut Vec<u8>, number: u64)
     requires pair { number < 100 }
@@ -171,7 +174,7 @@ fn put_two(out: &mut Vec<u8>, number: u64)
     out.push_reserved(ones);
 }
 
-// A digit.
+// Appends a digit.
 #[inline(always)]
 fn put_digit(out: &mut Vec<u8>, digit: u64)
     requires digit { digit < 10 }

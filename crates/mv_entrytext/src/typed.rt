@@ -1,5 +1,5 @@
-//! What the types of an entry's numbers say: `specs/EntryText.antt`. Nothing here changes anything or has a result; it only tells.
-//! `tell_history` is a pass over the logs, which a compiler may leave out.
+//! The ranges that the types of an entry's numbers give, by `specs/EntryText.antt`. These functions change nothing and return
+//! nothing: they are called for their clauses. `tell_history` goes through the logs once, which a compiler may leave out.
 
 ghost use Rattle.std.specs.Prelude.{◌≤◌, All};
 ghost use Rattle.mv_entrytext.specs.EcbText.{IsEcbReplyTyped};
@@ -157,7 +157,7 @@ fn tell_reply(reply: Reply)
     }
 }
 
-/// Each number of an entry is one of its type.
+/// Shows that each number of an entry fits its type.
 #[inline(always)]
 pub(crate) fn tell_entry(entry: &Entry)
     ensures { IsTyped entry.now }
@@ -179,7 +179,7 @@ fn tell_log(log: &Log)
     }
 }
 
-/// What is still to come of a history is typed.
+/// Shows that the numbers of the entries that are still to come of a history fit their types.
 #[inline(always)]
 pub(crate) fn tell_history(history: &History)
     ensures { All IsTyped history.now.coming }

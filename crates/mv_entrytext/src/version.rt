@@ -1,4 +1,5 @@
-//! The versions of the text: in the second each entry has the number of its call. `specs/Journal.antt` says how they differ.
+//! The versions of the text. In the second one, each entry has the number of its call. `specs/Journal.antt` says how they
+//! differ.
 
 ghost use Rattle.std.specs.Prelude.{◌≡◌};
 ghost use Rattle.mv_entrytext.specs.Journal.{number_of};
@@ -11,7 +12,7 @@ pub enum Version {
 }
 
 impl Version {
-    /// Its number, as its first line has it.
+    /// Returns the number of the version, as the first line of a text has it.
     pub fn number(self) -> u32
         ensures { result ≡ number_of self }
     {

@@ -1,4 +1,4 @@
-//! Operations on volumes and their replies, as text: `specs/VolumeText.antt`.
+//! Operations on volumes and their replies as text, by `specs/VolumeText.antt`.
 
 ghost use Rattle.std.specs.Prelude.{◌≡◌, ◌≤◌, ◌+◌, ◌++◌, vec_len, vec_capacity};
 ghost use Rattle.mv_entrytext.specs.VolumeText.{volume_op_text, volume_reply_text, volume_op, volume_reply};

@@ -1,4 +1,4 @@
-//! The lines of a journal, and its text made in memory: `specs/Journal.antt`.
+//! The lines of a journal, and its text made in memory, by `specs/Journal.antt`.
 
 ghost use Rattle.std.specs.Prelude.{◌≡◌, ◌≤◌, ◌<◌, ◌+◌, ◌^◌, ◌++◌, ◌∷◌, [], List, length, All, map, OnOk, IfOk};
 ghost use Rattle.std.specs.Prelude.{codes, decimal, vec_len, vec_capacity};
@@ -25,7 +25,7 @@ use mv_machine::{Config, Entry, Exit, ValidConfig};
 use std::alloc::Global;
 use std::mem::replace;
 
-// The text so far. It is taken out until a line is whole, so that its length stays in a register, and is not stored for each byte.
+// Takes the text so far out until a line is whole, so that its length stays in a register and is not stored for each byte.
 #[inline(always)]
 fn take_out(out: &mut Vec<u8>) -> Vec<u8>
     ensures text { result.items ≡ out.old.items }
@@ -36,7 +36,7 @@ fn take_out(out: &mut Vec<u8>) -> Vec<u8>
     replace(out, Vec::new(alloc))
 }
 
-// A word and a number on a line.
+// Appends a line of a word and a number.
 #[inline(always)]
 fn push_line(out: &mut Vec<u8>, word: &[u8], number: u32) -> Result<(), NoMemory>
     requires short { length word.now + number_width < line_width }
@@ -50,7 +50,7 @@ fn push_line(out: &mut Vec<u8>, word: &[u8], number: u32) -> Result<(), NoMemory
     Ok(())
 }
 
-// The first line.
+// Appends the first line.
 #[tactic(auto, unfolding(crate::specs::Journal::line))]
 fn push_version(out: &mut Vec<u8>, version: Version) -> Result<(), NoMemory>
     ensures { OnOk result (out.new.items ≡ out.old.items ++ line (JournalOf version)) }
@@ -165,7 +165,7 @@ fn push_lists(out: &mut Vec<u8>, config: &Config) -> Result<(), NoMemory>
     push_exits(out, &config.exits)
 }
 
-/// The head of a text.
+/// Appends the head of a text.
 #[tactic(auto, unfolding(crate::specs::Journal::head_text, crate::specs::Journal::line))]
 pub(crate) fn push_head(
     out: &mut Vec<u8>,
@@ -179,8 +179,8 @@ pub(crate) fn push_head(
     push_word(out, b"EVENTS\n")
 }
 
-/// The line of an entry, where there is room for it. It is called and not inlined, so that what it calls is inlined into it alone, and
-/// the text's length stays in a register.
+/// Appends the line of an entry, for which there is room. It is not inlined, so that the functions that it calls are inlined
+/// only into it, and the text's length stays in a register.
 #[inline(never)]
 #[tactic(auto, unfolding(crate::specs::Journal::line))]
 pub(crate) fn put_entry_line(out: &mut Vec<u8>, call: Option<u32>, entry: &Entry)
@@ -194,7 +194,7 @@ pub(crate) fn put_entry_line(out: &mut Vec<u8>, call: Option<u32>, entry: &Entry
     *out = text;
 }
 
-/// The line that ends a text, where there is room for it.
+/// Appends the line that ends a text, for which there is room.
 #[tactic(auto, unfolding(crate::specs::Journal::line))]
 pub(crate) fn put_end_line(out: &mut Vec<u8>, count: u64)
     requires room { vec_len out.old + line_width ≤ vec_capacity out.old }
@@ -204,11 +204,11 @@ pub(crate) fn put_end_line(out: &mut Vec<u8>, count: u64)
     put_word(out, b"\n");
 }
 
-/// Appends the line of an entry with its LF, and with the number of its call, if it is given.
+/// Appends the line of an entry with its LF, and with the number of its call if it is given.
 ///
 /// # Errors
 ///
-/// `NoMemory` if there is no room for the line.
+/// Returns `NoMemory` if there is not enough memory for the line.
 pub fn push_entry_line(out: &mut Vec<u8>, call: Option<u32>, entry: &Entry) -> Result<(), NoMemory>
     ensures text { OnOk result (out.new.items ≡ out.old.items ++ line (EntryOf call entry.now)) }
     ensures typed { OnOk result (IsTyped entry.now) }
@@ -219,18 +219,18 @@ pub fn push_entry_line(out: &mut Vec<u8>, call: Option<u32>, entry: &Entry) -> R
     Ok(())
 }
 
-/// The text of a journal, written line by line, in one buffer that grows by doubling.
+/// A writer of the text of a journal, line by line, into one buffer that grows by doubling.
 #[derive(Drop)]
 pub struct JournalWriter {
     out: Vec<u8>,
 }
 
 impl JournalWriter {
-    /// The head of a text in this version.
+    /// Opens a writer, with the head of a text in this version.
     ///
     /// # Errors
     ///
-    /// `NoMemory` where there is no room for the head.
+    /// Returns `NoMemory` if there is not enough memory for the head.
     pub fn open(
         alloc: Global,
         version: Version,
@@ -243,12 +243,12 @@ impl JournalWriter {
         Ok(JournalWriter { out })
     }
 
-    /// The line of an entry behind the others, with the number of its call, if it is to have one. Each number is one of its type,
-    /// and that is told. The memory is of the writer's own allocator, which `open` was given.
+    /// Appends the line of an entry, with the number of its call if it is to have one. It also shows that each number of the
+    /// entry fits its type. It takes the memory from the allocator that `open` was given.
     ///
     /// # Errors
     ///
-    /// `NoMemory` where there is no room for the line.
+    /// Returns `NoMemory` if there is not enough memory for the line.
     pub fn push(&mut self, call: Option<u32>, entry: &Entry) -> Result<(), NoMemory>
         ensures text { (v : AnyVersion) (c : Setup) (lines : List Line) → IsWrittenTo v c lines self.old
             → OnOk result (IsWrittenTo v c (lines ++ EntryOf call entry.now ∷ []) self.new) }
@@ -257,11 +257,12 @@ impl JournalWriter {
         push_entry_line(&mut self.out, call, entry)
     }
 
-    /// The text, with the line that ends it behind the others and this number on it. The memory is of the writer's own allocator.
+    /// Appends the line that ends the text, with this number, and returns the text. It takes the memory from the allocator that
+    /// `open` was given.
     ///
     /// # Errors
     ///
-    /// `NoMemory` where there is no room for that line.
+    /// Returns `NoMemory` if there is not enough memory for that line.
     pub fn end(self, count: u64) -> Result<Vec<u8>, NoMemory>
         ensures { (v : AnyVersion) (c : Setup) (lines : List Line) → IsWrittenTo v c lines self
             → IfOk result (λ text. text.items ≡ head_text v c ++ flat_map line lines ++ line (End count)) }
@@ -273,12 +274,12 @@ impl JournalWriter {
     }
 }
 
-/// The journal of a configuration and entries in version 1 of the text, without call numbers; of any entries whose operations and
-/// replies are of their objects' kinds, with numbers in the ranges of `docs/FORMATS.md`.
+/// Returns the journal of a configuration and entries in version 1 of the text, without call numbers. It is for any entries
+/// whose operations and replies are of their objects' kinds, with numbers in the ranges of `docs/FORMATS.md`.
 ///
 /// # Errors
 ///
-/// `NoMemory` where there is no room for the text.
+/// Returns `NoMemory` if there is not enough memory for the text.
 pub fn write_old_journal(
     alloc: Global,
     config: &ValidConfig,
@@ -296,12 +297,13 @@ pub fn write_old_journal(
     Ok(text)
 }
 
-/// The journal of a configuration and a legal list of entries in version 2 of the text, with the call numbers that the machine's rules
-/// give. One pass, in time linear in the length; a caller with a history, and no list, has `HistoryText`.
+/// Returns the journal of a configuration and a legal list of entries in version 2 of the text, with the call numbers that the
+/// machine's rules give. It makes one pass, in time linear in the length. For a history, which is not a list, use
+/// `HistoryText`.
 ///
 /// # Errors
 ///
-/// `NoMemory` where there is no room for the text, or for the machine's state and the counters of calls.
+/// Returns `NoMemory` if there is not enough memory for the text, or for the machine's state and the call counters.
 pub fn write_journal(
     alloc: Global,
     config: &ValidConfig,
