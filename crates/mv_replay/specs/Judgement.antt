@@ -1,5 +1,5 @@
--- What a text is: the journal of a legal history with its call numbers, or one with a first entry that is not the machine's or
--- has another number, or no journal.
+-- The kinds of texts: the journal of a legal history with its call numbers; a journal with a first entry that is not the
+-- machine's or has another number; or not a journal.
 use Rattle.std.specs.Prelude.{◌≡◌, ℕ, suc, ◌+◌, ◌<◌, List, [], take, length, Some}
 use Rattle.mv_machine.specs.declared.entry.Entry.{Entry}
 use Rattle.mv_machine.specs.Legal.{Legal}
@@ -16,17 +16,17 @@ use Rattle.mv_replay.specs.declared.status.ReplayStatus.TheVariants.{NoMemory, I
 abbrev pub journal_limit : ℕ
 journal_limit = 67_108_864
 
--- the call numbers of entries in a text of this version: the machine's, and in version 1 none
+-- the call numbers that entries should have in a text of this version: the machine's in version 2, none in version 1
 abbrev pub calls_in : Version → Setup → List Entry → List ℕ
 calls_in One c es = []
 calls_in Two c es = calls c es
 
--- entries are legal, and these are their call numbers
+-- these entries are legal, and these are their call numbers
 pub record AreRight (v : Version) (c : Setup) (es : List Entry) (ns : List ℕ) : Type 0 where
   pub legal : Legal c es
   pub numbers : ns ≡ calls_in v c es
 
--- the text of so many entries, which are legal, with their call numbers
+-- the bytes are the text of this many entries, which are legal, with their call numbers
 pub record IsLegalJournal (bytes : List ℕ) (count : ℕ) : Type 0 where
   pub version : Version
   pub setup : Setup
@@ -36,14 +36,14 @@ pub record IsLegalJournal (bytes : List ℕ) (count : ℕ) : Type 0 where
   pub legal : Legal setup entries
   pub number : count ≡ length entries
 
--- the entries before this place are right, and with the one there they are not: it is not the machine's next, or has another
+-- the entries before this index are right, but not with the one at this index, which is not the machine's next or has another
 -- number
 pub record IsFirstWrong (v : Version) (c : Setup) (es : List Entry) (ns : List ℕ) (i : ℕ) : Type 0 where
   pub within : i < length es
   pub good : AreRight v c (take i es) (take i ns)
   pub bad : ¬ AreRight v c (take (suc i) es) (take (suc i) ns)
 
--- the text of entries of which the one on this line is the first that is wrong
+-- the bytes are the text of entries of which the one on this line is the first wrong one
 pub record IsIllegalAt (bytes : List ℕ) (line : ℕ) : Type 0 where
   pub version : Version
   pub setup : Setup
@@ -56,7 +56,7 @@ pub record IsIllegalAt (bytes : List ℕ) (line : ℕ) : Type 0 where
   pub first : IsFirstWrong version setup entries calls index
   pub place : line ≡ first_line setup + index
 
--- a text that is not a legal journal, or may be one where memory ran out
+-- the status of a text that is not a legal journal, by the reason; if memory ran out, the text may be one
 abbrev pub IsRefused : List ℕ → ReplayStatus → Type 0
 IsRefused bytes (Illegal line) = IsIllegalAt bytes line
 IsRefused bytes (Text fault) = text_fault bytes ≡ Some fault

@@ -1,4 +1,4 @@
--- What a replay and a conversion write, and what their streams hold after each way that they can end.
+-- What a replay and a conversion write, and the contents of their streams after each ending.
 use Rattle.std.specs.Prelude.{◌≡◌, ℕ, ◌<◌, ◌≤◌, List, ◌++◌, length, codes, decimal, Option, Some, IfSome}
 use Rattle.mv_io.specs.Sink.{Appends, AppendsFront}
 use Rattle.mv_ending.specs.Ending.{EndsAs}
@@ -14,34 +14,34 @@ use Rattle.mv_replay.specs.Judgement.{journal_limit, IsLegalJournal, IsIllegalAt
 
 -- ---- the reports on a legal journal
 
--- the line that tells how many events it has
+-- the line with the number of events
 unfoldable pub legal_text : ℕ → List ℕ
 legal_text count = codes "LEGAL " ++ decimal count ++ codes " EVENTS\n"
 
--- what a replay reports: that line
+-- the report of a replay: the line with the number of events
 pub record IsReplayReport (input report : List ℕ) : Type 0 where
   pub count : ℕ
   pub legal : IsLegalJournal input count
   pub reported : report ≡ legal_text count
 
--- the text in version 2 of the configuration and the entries that a text tells, with the machine's call numbers
+-- the text in version 2 of the configuration and the entries of a text, with the machine's call numbers
 abbrev pub converted : List ℕ → List ℕ
 converted input = journal_text (journal_of input).setup (journal_of input).entries
 
--- what a conversion reports: that text
+-- the report of a conversion: the text in version 2
 pub record IsConversion (input report : List ℕ) : Type 0 where
   pub count : ℕ
   pub legal : IsLegalJournal input count
   pub reported : report ≡ converted input
 
--- what each command reports
+-- the report of each command
 abbrev pub reports_of : JournalCommand → List ℕ → List ℕ → Type 0
 reports_of Replay = IsReplayReport
 reports_of Convert = IsConversion
 
--- ---- the ending that is asked for
+-- ---- the ending that an input calls for
 
--- what a text is found to be
+-- the ending that a text calls for by its contents
 abbrev pub IsFound : List ℕ → ReplayStatus → Type 0
 IsFound bytes Done = (count : ℕ) × IsLegalJournal bytes count
 IsFound bytes (Illegal line) = IsIllegalAt bytes line
@@ -51,24 +51,24 @@ IsFound bytes ReadFailed = ⊥
 IsFound bytes ReportFailed = ⊥
 IsFound bytes NoMemory = ⊥
 
--- the ending that an input asks for, where no stream fails and memory is there
+-- the ending that an input calls for, if no stream fails and there is enough memory
 abbrev pub Asks : List ℕ → ReplayStatus → Type 0
 Asks bytes TooLong = journal_limit < length bytes
 Asks bytes status = (length bytes ≤ journal_limit) × IsFound bytes status
 
--- the ending that is owed: where reading did not fail, and writing did not where there is a report, it is the one that the input
--- asks for, or want of memory
+-- how a command has to end: if reading did not fail, and writing did not fail if there is a report to write, it ends as the
+-- input calls for, or out of memory
 abbrev pub Owes : (read wrote : Type 0) → (input : Option (List ℕ)) → ReplayStatus → Type 0
 Owes read wrote input status = ¬ read → IfSome input (λ bytes. (wanted : ReplayStatus) → Asks bytes wanted
     → (wanted ≡ Done → ¬ wrote) → EndsAs NoMemory status wanted)
 
--- ---- the input, and what is left of it
+-- ---- the input, and what is left of it after a command
 
--- it was read to its end
+-- the input was read to its end
 abbrev pub IsRead : List ℕ → Option (List ℕ) → Type 0
 IsRead bytes left = IsWhole journal_limit bytes left
 
--- What the input was, where its source told it, and what is left of it, after each status.
+-- What the input was, if its source shows its bytes, and what is left of it, after each status.
 abbrev pub InputOf : ReplayStatus → Option (List ℕ) → Option (List ℕ) → Type 0
 InputOf Done old new = IfSome old (λ bytes. IsRead bytes new × IsFound bytes Done)
 InputOf ReportFailed old new = IfSome old (λ bytes. IsRead bytes new × IsFound bytes Done)
@@ -78,10 +78,10 @@ InputOf TooLong old new = IfSome old (λ bytes. IsTooLong journal_limit bytes ne
 InputOf ReadFailed old new = IfSome old (λ bytes. IsCut journal_limit bytes new)
 InputOf NoMemory old new = IsAllOrNothing journal_limit old new
 
--- ---- the report
+-- ---- the report after a command
 
--- What the sink of the report holds after each status of a command that reports so. What is told of an input is told where its
--- source told it.
+-- The contents of the report's sink after each status of a command with such reports. What this says of an input, it says only
+-- if the source shows the input's bytes.
 abbrev pub ReportAfter : (List ℕ → List ℕ → Type 0) → ReplayStatus → (input old new : Option (List ℕ)) → Type 0
 ReportAfter Reports Done input old new =
     IfSome input (λ bytes. (report : List ℕ) × Reports bytes report × Appends old new report)
@@ -89,13 +89,13 @@ ReportAfter Reports ReportFailed input old new =
     IfSome input (λ bytes. (report : List ℕ) × Reports bytes report × AppendsFront old new report)
 ReportAfter Reports _ input old new = new ≡ old
 
--- the writing of a report ends in one of two ways
+-- how the writing of a report ends: well, or with a prefix of the report written
 abbrev pub Writes : ReplayStatus → (old new : Option (List ℕ)) → (report : List ℕ) → Type 0
 Writes Done old new report = Appends old new report
 Writes ReportFailed old new report = AppendsFront old new report
 Writes _ old new report = ⊥
 
--- how much of it was written
+-- how much of the report was written
 abbrev pub extent_of : ReplayStatus → Extent
 extent_of Done = Everything
 extent_of ReportFailed = PartOfReport

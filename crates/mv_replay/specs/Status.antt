@@ -1,4 +1,4 @@
--- What is told of each way that a command on a journal can end.
+-- The notes of each ending of a command on a journal.
 use Rattle.std.specs.Prelude.{Option, Some, None}
 use Rattle.mv_ending.specs.declared.note.Note.{Note}
 use Rattle.mv_ending.specs.declared.note.Note.TheVariants as note
@@ -9,7 +9,7 @@ use Rattle.mv_line.specs.declared.fault.TextRefusal.TheVariants as text
 use Rattle.mv_replay.specs.declared.status.ReplayStatus.{ReplayStatus}
 use Rattle.mv_replay.specs.declared.status.ReplayStatus.TheVariants.{Done, TooLong, ReadFailed, ReportFailed, NoMemory, Illegal, Text}
 
--- what is told on the notes
+-- the line on the notes
 abbrev pub note_of : ReplayStatus → Option Note
 note_of Done = None
 note_of TooLong = Some note.InputTooLong
@@ -19,13 +19,13 @@ note_of NoMemory = Some note.NoMemory
 note_of (Illegal line) = Some (note.Illegal line)
 note_of (Text f) = Some (note.JournalFault f.line f.kind)
 
--- the status of an input that was not read
+-- the status of an input that could not be read
 abbrev pub of_read : ReadRefusal → ReplayStatus
 of_read reading.Failed = ReadFailed
 of_read reading.TooLong = TooLong
 of_read reading.NoMemory = NoMemory
 
--- the status of a text that was not read
+-- the status of a text that could not be read as a journal
 abbrev pub of_text : TextRefusal → ReplayStatus
 of_text (text.Fault f) = Text f
 of_text text.NoMemory = NoMemory

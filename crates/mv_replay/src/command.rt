@@ -1,10 +1,10 @@
-//! What may be asked of a journal. The definitions of specs/Course and specs/Outcome go by cases of it.
+//! The commands on journals. The definitions of specs/Course and specs/Outcome are by cases of these.
 
-/// What is asked of a journal.
+/// A command on a journal.
 #[derive(Clone, Copy, Debug, PartialEq, Eq)]
 pub enum JournalCommand {
-    /// Judge it.
+    /// Judges the journal.
     Replay,
-    /// Judge it, and write it in version 2.
+    /// Judges the journal, and writes it in version 2.
     Convert,
 }

@@ -1,4 +1,4 @@
-//! The judgement of a text, line by line. Its clauses cite specs/Judgement and specs/Course.
+//! The judgement of a text, line by line. Clauses cite specs/Judgement and specs/Course.
 
 ghost use Rattle.std.specs.Prelude.{◌≡◌, ◌≤◌, ◌<◌, ◌+◌, ◌-◌, ◌^◌, ◌∷◌, ◌++◌, [], ℕ, Bool, List, Some, length};
 ghost use Rattle.std.specs.Prelude.{IfOk, OnOk, IsTrue, ◌↔◌, MatchResult};
@@ -25,24 +25,24 @@ use std::alloc::Global;
 /// What is kept of a legal text.
 #[derive(Drop)]
 pub(crate) struct Judged {
-    /// How many entries it has.
+    /// The number of its entries.
     pub(crate) count: u32,
-    /// Its conversion, where one was asked for and the text is none itself.
+    /// Its conversion, if the command makes one and the text is not in version 2 already.
     pub(crate) second: Option<Vec<u8>>,
 }
 
-// How far a text has been judged. None of its entries is kept.
+// How far a text has been judged. It keeps none of the entries.
 #[derive(Drop)]
 struct Course {
     config: ValidConfig,
     judge: Judge,
-    // The line of the first entry that is wrong. Behind it the judge is not asked, and nothing is copied.
+    // The line of the first wrong entry. After it the judge is not used, and nothing is copied.
     wrong: Option<u32>,
-    // The text in version 2 so far, where it is asked for.
+    // The text in version 2 so far, if the command makes one.
     copy: Option<JournalWriter>,
 }
 
-// Whether a conversion is asked for that is not the text itself.
+// Returns whether the command makes a conversion that is not the text itself.
 fn copies(command: JournalCommand, version: Version) -> bool
     ensures { result ≡ is_copied command version }
 {
@@ -52,7 +52,7 @@ fn copies(command: JournalCommand, version: Version) -> bool
     }
 }
 
-// Whether a call's number is the one that is told, if any is.
+// Returns whether the number of a call is the one that the text has, if the text has one.
 fn is_told(told: Option<u32>, number: u32) -> bool
     ensures { IsTrue result ↔ ((k : ℕ) → told ≡ Some k → k ≡ number) }
 {
@@ -62,7 +62,7 @@ fn is_told(told: Option<u32>, number: u32) -> bool
     }
 }
 
-// The line of an entry behind the others, where they are copied.
+// Appends the line of an entry to the copy, if there is one.
 fn copy_line(copy: &mut Option<JournalWriter>, number: u32, entry: &Entry) -> Result<(), NoMemory>
     ensures { (copied : Bool) (c : Setup) (es : List AnyEntry) → IsCopied copied c es copy.old
         → calls_of c (es ++ entry.now ∷ []) ≡ calls_of c es ++ number ∷ []
@@ -75,7 +75,7 @@ fn copy_line(copy: &mut Option<JournalWriter>, number: u32, entry: &Entry) -> Re
 }
 
 impl Course {
-    // Before the first entry.
+    // Opens the judgement before the first entry.
     fn open(alloc: Global, copied: bool, config: ValidConfig) -> Result<Course, NoMemory>
         ensures config { IfOk result (λ x. x.config ≡ config) }
         ensures course { IfOk result (λ x. (v : AnyVersion) → IsCourse v copied config [] [] x.wrong x.judge x.copy) }
@@ -94,7 +94,7 @@ impl Course {
         })
     }
 
-    // The entry of this line, with the number of its call, if one is told.
+    // Judges the entry of this line, with the number of its call if the text has one.
     fn take(&mut self, line: u32, told: Option<u32>, entry: &Entry) -> Result<(), NoMemory>
         requires place { entry.now.place ≤ highest_place }
         requires few { (v : AnyVersion) × (copied : Bool) × (es : List AnyEntry) × (ns : List ℕ)
@@ -125,7 +125,7 @@ impl Course {
         }
     }
 
-    // All entries of the text were taken, so many.
+    // Ends the judgement, after all `count` entries of the text.
     fn end(self, count: u32) -> Result<Judged, ReplayStatus>
         ensures { (command : AnyCommand) (v : AnyVersion) (bytes : List ℕ) (c : Setup) (es : List AnyEntry) (ns : List ℕ)
             → IsCourse v (is_copied command v) c es ns self.wrong self.judge self.copy → HasJournal c es
@@ -152,8 +152,8 @@ impl Course {
     }
 }
 
-/// What is kept of a text where it is legal, with its conversion if that is asked for, or how a command on any other text ends. A
-/// fault of the text goes before an entry that is wrong, wherever it stands.
+/// Judges a text. Returns what is kept of it if it is legal, with its conversion if the command makes one, or how the command
+/// ends. A fault of the text is returned rather than a wrong entry, wherever the two are.
 pub(crate) fn judge(
     alloc: Global,
     command: JournalCommand,

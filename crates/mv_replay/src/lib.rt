@@ -1,4 +1,5 @@
-//! The commands on journals: whether the input is the text of a legal history, and that history in version 2 of the text.
+//! The commands on journals: they judge whether the input is the text of a legal history, and write that history in version 2
+//! of the text.
 #![tactic(auto)]
 
 mod command;

@@ -1,4 +1,4 @@
-//! What a command begins with: the input is read whole, and then judged. Its clauses cite specs/Course and specs/Outcome.
+//! The beginning of a command: the input is read whole, and then judged. Clauses cite specs/Course and specs/Outcome.
 
 ghost use Rattle.std.specs.Prelude.{◌≡◌, ◌≤◌, Err, IfOk, IfErr, IfSome};
 ghost use Rattle.mv_io.specs.Fault.{Rose};
@@ -23,7 +23,7 @@ pub(crate) struct LegalText {
 }
 
 impl LegalText {
-    /// Its conversion, where one was asked for.
+    /// Returns the conversion of the text, if the command makes one: the copy, or the text itself.
     pub(crate) fn conversion(self) -> Vec<u8>
         ensures { result.items ≡ conversion_of self }
     {
@@ -35,8 +35,8 @@ impl LegalText {
     }
 }
 
-/// The legal journal that is the input, with its conversion if that is asked for, or how a command on any other input ends, before
-/// it has reported.
+/// Reads the input, and judges it. Returns the legal journal that it is, with its conversion if the command makes one, or how
+/// the command ends without a report.
 pub(crate) fn read_legal<D: Source>(
     alloc: Global,
     command: JournalCommand,

@@ -1,4 +1,4 @@
-//! The commands on journals: what is read, judged and written. Its clauses cite specs/Outcome and specs/Status.
+//! The commands on journals: what each reads, judges and writes. Clauses cite specs/Outcome and specs/Status.
 
 ghost use Rattle.std.specs.Prelude.{◌≡◌, ◌≤◌};
 ghost use Rattle.mv_io.specs.Fault.{Rose};
@@ -14,19 +14,20 @@ use crate::status::{ReplayStatus, tell_status};
 use mv_io::{Sink, Source};
 use std::alloc::Global;
 
-/// Judges the journal on the input, of at most 67,108,864 bytes: whether it is the text of a journal whose entries are legal, and have
-/// in version 2 their call numbers. Where it is, the report gains of `Replay` the line `LEGAL n EVENTS` with their number, and of
-/// `Convert` the text in version 2, with the call numbers that the machine's rules give; a legal text of that version is its own
-/// conversion. Any other ending has its line on the notes, last of all; that they fail changes no status.
+/// Judges the journal of the input, which has at most 67,108,864 bytes: it must be the text of a journal whose entries are
+/// legal and, in version 2, have their call numbers. If it is, `Replay` appends to the report the line `LEGAL n EVENTS`, with
+/// their number, and `Convert` appends the text in version 2, with the call numbers that the machine's rules give; a legal text
+/// of that version is its own conversion. Every other ending writes its line on the notes, last of all. A failure of the notes
+/// changes no status.
 ///
-/// The input is read whole before it is judged, line by line; no list of its events is kept, and nothing is written before that is
-/// done: a conversion is made in memory on the way. The budgets of the configuration are not asked. Time is linear in the text, but for
-/// the events on a latch set, each of which takes a small multiple of the requests that stand there. It waits as long as its streams
-/// do, and for nothing else.
+/// The input is read whole before it is judged, line by line. No list of its events is kept, and nothing is written before the
+/// judgement is done; a conversion is made in memory meanwhile. The budgets of the configuration are not checked. The time is
+/// linear in the text, except that each event on the latch set takes a small multiple of the number of requests in the set. It
+/// waits as long as its streams do, and for nothing else.
 ///
 /// # Errors
 ///
-/// Each `ReplayStatus` but `Done`. Where the text is the cause, nothing was written.
+/// Returns a `ReplayStatus` other than `Done`. If the text is the cause, nothing was written.
 ///
 /// # Example
 ///
@@ -49,15 +50,16 @@ pub fn judge_journal<D: Source, R: Sink, N: Sink>(
     ensures read_failed { result ≡ ReplayStatus.ReadFailed → Rose (D.faults input.old) (D.faults input.new) }
     ensures report_failed { result ≡ ReplayStatus.ReportFailed → Rose (R.faults report.old) (R.faults report.new) }
 
-    // What the report holds then. Where it is not used it is as it was, whether or not it tells its bytes.
+    // The contents of the report after each ending. A report that is not written is as it was, whether or not its sink shows
+    // its bytes.
     ensures report { ReportAfter (reports_of command) result (D.left input.old) (R.taken report.old) (R.taken report.new) }
     ensures unwritten { IfUnwritten (extent_of result) (report.new ≡ report.old) }
 
-    // What is told of it.
+    // The notes after each ending.
     ensures notes { NotesAfter (note_of result) (N.faults notes.old) (N.faults notes.new) (N.taken notes.old) (N.taken notes.new) }
     ensures quiet { result ≡ ReplayStatus.Done → notes.new ≡ notes.old }
 
-    // How a command has to end, where its streams do not fail.
+    // How a command has to end if its streams do not fail.
     ensures owed { Owes (Rose (D.faults input.old) (D.faults input.new)) (Rose (R.faults report.old) (R.faults report.new))
         (D.left input.old) result }
 
@@ -77,11 +79,12 @@ pub fn judge_journal<D: Source, R: Sink, N: Sink>(
     status
 }
 
-/// The command `replay`: judges the journal on the input as `judge_journal` does, and reports `LEGAL n EVENTS` where it is legal.
+/// Runs the command `replay`: judges the journal of the input as `judge_journal` does, and reports `LEGAL n EVENTS` if it is
+/// legal.
 ///
 /// # Errors
 ///
-/// Each `ReplayStatus` but `Done`. Where the text is the cause, nothing was written.
+/// Returns a `ReplayStatus` other than `Done`. If the text is the cause, nothing was written.
 ///
 /// # Example
 ///
@@ -109,11 +112,12 @@ pub fn replay_command<D: Source, R: Sink, N: Sink>(
     judge_journal(alloc, JournalCommand::Replay, input, report, notes)
 }
 
-/// The command `convert`: judges the journal on the input as `judge_journal` does, and reports its text in version 2 where it is legal.
+/// Runs the command `convert`: judges the journal of the input as `judge_journal` does, and reports its text in version 2 if it
+/// is legal.
 ///
 /// # Errors
 ///
-/// Each `ReplayStatus` but `Done`. Where the text is the cause, nothing was written.
+/// Returns a `ReplayStatus` other than `Done`. If the text is the cause, nothing was written.
 ///
 /// # Example
 ///

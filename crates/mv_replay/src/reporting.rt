@@ -1,4 +1,4 @@
-//! What a command ends with on a legal journal: its report is written. Its clauses cite specs/Course and specs/Outcome.
+//! The end of a command on a legal journal: it writes its report. Clauses cite specs/Course and specs/Outcome.
 
 ghost use Rattle.std.specs.Prelude.{◌≡◌, ◌≤◌};
 ghost use Rattle.mv_io.specs.Fault.{Rose};
@@ -11,7 +11,7 @@ use crate::status::ReplayStatus;
 use mv_ending::Line;
 use mv_io::{Sink, write_all};
 
-// The line that tells how many events a legal journal has.
+// Makes the line with the number of events of a legal journal.
 #[tactic(auto, unfolding(crate::specs::Outcome::legal_text))]
 fn legal_line(count: u32) -> Line
     ensures { result ≡ legal_text count }
@@ -23,7 +23,7 @@ fn legal_line(count: u32) -> Line
     line
 }
 
-// Writes a text as the report: how the command ends then.
+// Writes a text as the report, and returns how the command ends.
 fn write_out<R: Sink>(report: &mut R, text: &[u8]) -> ReplayStatus
     ensures written { Writes result (R.taken report.old) (R.taken report.new) text.now }
     ensures report_failed { result ≡ ReplayStatus.ReportFailed → Rose (R.faults report.old) (R.faults report.new) }
@@ -35,7 +35,7 @@ fn write_out<R: Sink>(report: &mut R, text: &[u8]) -> ReplayStatus
     }
 }
 
-/// Writes what the command reports on a legal journal: how it ends then.
+/// Writes the report of a command on a legal journal, and returns how the command ends.
 pub(crate) fn write_report<R: Sink>(
     command: JournalCommand,
     legal: LegalText,

@@ -1,4 +1,5 @@
-//! How a replay ended, and what is told of it: specs/Status. The definitions of specs/Outcome go by cases of it.
+//! The endings of commands on journals, and their notes, by specs/Status. The definitions of specs/Outcome are by cases of
+//! these.
 
 ghost use Rattle.std.specs.Prelude.{◌≡◌, ◌≤◌};
 ghost use Rattle.mv_ending.specs.Note.{NotesAfter};
@@ -9,12 +10,12 @@ use mv_ending::{Note, tell};
 use mv_entrytext::{TextFault, TextRefusal};
 use mv_io::{NoMemory, ReadRefusal, Sink};
 
-/// How a replay ended. Lines of the journal are counted from 1.
+/// How a command on a journal ended. Lines of the journal are counted from 1.
 #[derive(Clone, Copy, Debug, PartialEq, Eq)]
 pub enum ReplayStatus {
     /// The journal is legal, and the report was written.
     Done,
-    /// The input has more bytes than the limit.
+    /// The input has more bytes than the limit of journals.
     TooLong,
     /// The input could not be read.
     ReadFailed,
@@ -22,9 +23,9 @@ pub enum ReplayStatus {
     ReportFailed,
     /// Memory ran out.
     NoMemory,
-    /// The entry on this line is the first that is not the machine's, or is not numbered as its call is.
+    /// The entry on this line is the first that is not the machine's, or does not have its call number.
     Illegal(u32),
-    /// The text has this fault, its first.
+    /// The text has a fault. This is its first.
     Text(TextFault),
 }
 
@@ -76,7 +77,7 @@ fn note_of(status: ReplayStatus) -> Option<Note>
     }
 }
 
-/// Tells on the notes how a command ended, where it did not end well.
+/// Writes the line of an ending on the notes, if the command did not end well.
 pub(crate) fn tell_status<N: Sink>(notes: &mut N, status: ReplayStatus)
     ensures notes { NotesAfter (note_by_status status) (N.faults notes.old) (N.faults notes.new) (N.taken notes.old) (N.taken notes.new) }
     ensures quiet { status ≡ ReplayStatus.Done → notes.new ≡ notes.old }
