@@ -1,5 +1,5 @@
--- The journal of a run.
+-- the journal of a run
 pub mod Runs
--- How a run ends, and what it tells.
+-- how a run ends, and what it writes
 pub mod Owed
 pub mod Told

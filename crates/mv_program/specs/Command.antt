@@ -1,4 +1,4 @@
--- What the words of the command line ask for.
+-- The command that the words of the command line state.
 use Rattle.std.specs.Prelude.{ℕ, ◌+◌, ◌-◌, ◌≤◌, ◌&&◌, nat_lt, nat_le, List, [], ◌∷◌, Option, Some, None, option_map, codes, if◌then◌else◌}
 use Rattle.std.specs.Str.{bytes_eq}
 use Rattle.mv_deck.specs.Load.{most_jobs}
@@ -12,17 +12,17 @@ use Rattle.mv_replay.specs.declared.command.JournalCommand.TheVariants.{Replay, 
 abbrev pub digit_0 : ℕ
 digit_0 = 48
 
--- a number of initiators: one digit alone, from 1 to 8
+-- the number of initiators that a word states, if it is one digit from 1 to 8
 abbrev pub initiators_of : List ℕ → Option ℕ
 initiators_of (digit ∷ []) =
     if nat_lt digit_0 digit && nat_le digit (digit_0 + most_initiators) then Some (digit - digit_0) else None
 initiators_of _ = None
 
--- a number of jobs: digits without a zero in front, from 1 to 2000
+-- the number of jobs that a word states, if it is a number without a leading zero, from 1 to 2000
 abbrev pub jobs_of : List ℕ → Option ℕ
 jobs_of word = within 1 most_jobs (number_of word)
 
--- a load, where both numbers are there
+-- a load, if both its numbers are stated
 abbrev pub load_of : Option ℕ → Option ℕ → Option Command
 load_of None initiators = None
 load_of (Some jobs) None = None
@@ -32,18 +32,18 @@ load_of (Some jobs) (Some initiators) = Some (Load jobs initiators)
 abbrev pub highest_seed : ℕ
 highest_seed = 9999
 
--- a seed: digits without a zero in front, up to 9999
+-- the seed that a word states, if it is a number without a leading zero, up to 9999
 abbrev pub seed_of : List ℕ → Option ℕ
 seed_of word = within 0 highest_seed (number_of word)
 
--- a polled run, where both numbers are there
+-- a polled run, if both its numbers are stated
 abbrev pub polled_of : Option ℕ → Option ℕ → Option Command
 polled_of None seed = None
 polled_of (Some initiators) None = None
 polled_of (Some initiators) (Some seed) = Some (Polled initiators seed)
 
--- `spool` and a number of initiators, `load` with a number of jobs and one of initiators, `polled` with a number of initiators and a
--- seed, `script`, `replay` or `convert`, exactly
+-- the command that these words state: `spool` and a number of initiators, `load` and a number of jobs and a number of
+-- initiators, `polled` and a number of initiators and a seed, `script`, `replay` or `convert`, exactly
 abbrev pub command_of : List (List ℕ) → Option Command
 command_of (word ∷ []) =
     if bytes_eq word (codes "script") then Some Script
@@ -66,7 +66,7 @@ AreInitiators n = (1 ≤ n) × (n ≤ most_initiators)
 abbrev pub AreJobs : ℕ → Type 0
 AreJobs jobs = (1 ≤ jobs) × (jobs ≤ most_jobs)
 
--- its numbers are such
+-- the numbers of jobs and initiators of a command are in their ranges
 abbrev pub IsRunnable : Command → Type 0
 IsRunnable (Spool n) = AreInitiators n
 IsRunnable (Load jobs n) = AreJobs jobs × AreInitiators n

@@ -1,4 +1,4 @@
--- The exit status of each way that a run can end, and what is told of it.
+-- The exit status and the note of each ending.
 use Rattle.std.specs.Prelude.{ℕ, Option, Some, None}
 use Rattle.mv_ending.specs.declared.note.Note.{Note}
 use Rattle.mv_ending.specs.declared.note.Note.TheVariants as note
@@ -25,7 +25,7 @@ exit_status (Script f) = 9
 exit_status (Illegal line) = 10
 exit_status (Text f) = 11
 
--- what is told on the notes
+-- the line on the notes
 abbrev pub note_of : Status → Option Note
 note_of Done = None
 note_of Words = Some note.Usage
@@ -39,7 +39,7 @@ note_of (Script f) = Some (note.ScriptFault f.line f.kind)
 note_of (Illegal line) = Some (note.Illegal line)
 note_of (Text f) = Some (note.JournalFault f.line f.kind)
 
--- the way in which a replay ended, where the status is that of a replay
+-- the ending of a command on a journal that a status represents, if it represents one
 abbrev pub replay_of : Status → Option ReplayStatus
 replay_of Done = Some replay.Done
 replay_of TooLong = Some replay.TooLong
@@ -50,7 +50,7 @@ replay_of (Illegal line) = Some (replay.Illegal line)
 replay_of (Text f) = Some (replay.Text f)
 replay_of _ = None
 
--- the status of an input that was not read
+-- the status of an input that could not be read
 abbrev pub of_read : ReadRefusal → Status
 of_read reading.Failed = ReadFailed
 of_read reading.TooLong = TooLong

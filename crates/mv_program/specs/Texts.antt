@@ -1,5 +1,5 @@
--- The texts of the run of a deck: its report, and the journal that tells its history; and those of the run of a script: its answers,
--- and the journal that tells its history.
+-- The texts of the run of a deck: its report, and the journal of its history; and the texts of the run of a script: its
+-- answers, and the journal of its history.
 use Rattle.std.specs.Prelude.{◌≡◌, ℕ, ◌≤◌, List, length}
 use Rattle.mv_deck.specs.Deck.{JobData, deck_of}
 use Rattle.mv_entrytext.specs.Fault.{HasJournal, journal_of}
@@ -22,12 +22,12 @@ use Rattle.mv_script.specs.Script.{ScriptData}
 abbrev pub deck_limit : ℕ
 deck_limit = 1048576
 
--- the report on the deck that is the input
+-- the report on the deck of the input
 abbrev pub report_of : List ℕ → List ℕ
 report_of input = report (deck_of input)
 
--- a text tells one legal history: it is the text of this configuration and these events, which are read off it again and are no
--- more than a run may have
+-- a text is the journal of this legal history: it is the text of this configuration and these events, which are read back from
+-- it, and are at most as many as a run may have
 pub record TellsHistory (text : List ℕ) (setup : Setup) (events : List Entry) : Type 0 where
   pub written : HasJournal setup events
   pub kept : text ≡ journal_text setup events
@@ -36,8 +36,8 @@ pub record TellsHistory (text : List ℕ) (setup : Setup) (events : List Entry) 
   pub legal : Legal setup events
   pub few : length events ≤ events_limit
 
--- a text is the journal of a run of the deck by so many initiators: of a history in which each task has done its program, as it
--- is asked of it, and nothing else was done. In each of them what was granted was granted in order, and each code that was
+-- a text is the journal of a run of the deck with this many initiators: of a history in which each task has done its program,
+-- and nothing else was done. The history is orderly, so latches were granted in order; and it is exact, so each code that was
 -- released reached one pause
 pub record IsJournalOfRun (deck : List JobData) (initiators : ℕ) (text : List ℕ) : Type 0 where
   pub events : List Entry
@@ -46,10 +46,10 @@ pub record IsJournalOfRun (deck : List JobData) (initiators : ℕ) (text : List 
   pub orderly : IsOrderly (spool_setup deck initiators) events
   pub exact : IsExact events
 
--- two texts are the answers and the journal of one run of the script: of a history in which each task has made its calls, as they are
--- asked of it, and nothing else was done, and in which each word that an answer shows was met. The answers are those of that history
--- and of these words, and no others have their text. Where the script has a table, its events were handed out once each, in the order of
--- their completion
+-- two texts are the answers and the journal of one run of the script: of a history in which each task has made its calls, and
+-- nothing else was done, and in which each word that an answer shows was read. The answers are those of this history and of
+-- these words, and no other answers have their text. If the script has a table, its events were handed out once each, in the
+-- order of their completion
 pub record IsRunOfScript (script : ScriptData) (answers journal : List ℕ) : Type 0 where
   pub events : List Entry
   pub lists : List (List Answer)

@@ -1,4 +1,4 @@
-//! The words of the command line: `specs/Command.antt`.
+//! The commands of the program, and the words of the command line that state them, by `specs/Command.antt`.
 
 ghost use Rattle.std.specs.Prelude.{◌≡◌, [], ◌∷◌, map, IfSome};
 ghost use Rattle.std.specs.String.{string_bytes};
@@ -11,23 +11,23 @@ use mv_deck::{MOST_INITIATORS, MOST_JOBS};
 use mv_line::number_within;
 use mv_replay::JournalCommand;
 
-/// What the program is to do.
+/// A command of the program.
 #[derive(Clone, Copy)]
 pub enum Command {
-    /// Run the deck of the input with this many initiators, 1 to 8.
+    /// Runs the deck of the input with this many initiators, 1 to 8.
     Spool(u32),
-    /// Run a load of this many jobs, 1 to 2000, with this many initiators, 1 to 8.
+    /// Runs a load of this many jobs, 1 to 2000, with this many initiators, 1 to 8.
     Load(u32, u32),
-    /// Run the script of the input.
+    /// Runs the script of the input.
     Script,
-    /// Judge the journal of the input, as this says.
+    /// Runs this command on the journal of the input.
     Journal(JournalCommand),
-    /// Run the deck of the input with this many initiators, 1 to 8, on one thread, in the round order of this seed, 0 to 9999.
+    /// Runs the deck of the input with this many initiators, 1 to 8, on one thread, in the round order of this seed, 0 to 9999.
     Polled(u32, u32),
 }
 
 impl Command {
-    /// Whether it reads its input.
+    /// Returns whether the command reads its input.
     pub(crate) fn reads_input(self) -> bool
         ensures { result ≡ reads_input self }
     {
@@ -42,7 +42,7 @@ impl Command {
 /// The highest seed of a polled run.
 const HIGHEST_SEED: u32 = 9999;
 
-// The number of initiators that a word is, where it is one.
+// Returns the number of initiators that a word states, if it states one.
 fn initiators_of(word: &[u8]) -> Option<u32>
     ensures number { result ≡ initiators_by_word word.now }
     ensures range { IfSome result AreInitiators }
@@ -55,7 +55,7 @@ fn initiators_of(word: &[u8]) -> Option<u32>
     }
 }
 
-// The load of these numbers of jobs and of initiators, where both are such.
+// Returns the load of these words, if they state a number of jobs and a number of initiators.
 fn load_of(jobs: &[u8], initiators: &[u8]) -> Option<Command>
     ensures load { result ≡ load_by_numbers (jobs_of jobs.now) (initiators_by_word initiators.now) }
     ensures runnable { IfSome result IsRunnable }
@@ -65,7 +65,7 @@ fn load_of(jobs: &[u8], initiators: &[u8]) -> Option<Command>
     Some(Command::Load(jobs, initiators))
 }
 
-// The polled run of these numbers, of initiators and the seed, where both are such.
+// Returns the polled run of these words, if they state a number of initiators and a seed.
 fn polled_of(initiators: &[u8], seed: &[u8]) -> Option<Command>
     ensures polled { result ≡ polled_by_numbers (initiators_by_word initiators.now) (seed_of seed.now) }
     ensures runnable { IfSome result IsRunnable }
@@ -75,7 +75,7 @@ fn polled_of(initiators: &[u8], seed: &[u8]) -> Option<Command>
     Some(Command::Polled(initiators, seed))
 }
 
-// The command that one word is, where it is one.
+// Returns the command that one word states, if it states one.
 fn command_of_one(word: &str) -> Option<Command>
     ensures command { result ≡ command_by_words (word.now ∷ []) }
     ensures runnable { IfSome result IsRunnable }
@@ -88,7 +88,7 @@ fn command_of_one(word: &str) -> Option<Command>
     }
 }
 
-// The command that two words are, where they are one.
+// Returns the command that two words state, if they state one.
 fn command_of_two(word: &str, second: &[u8]) -> Option<Command>
     ensures command { result ≡ command_by_words (word.now ∷ second.now ∷ []) }
     ensures runnable { IfSome result IsRunnable }
@@ -99,7 +99,7 @@ fn command_of_two(word: &str, second: &[u8]) -> Option<Command>
     }
 }
 
-// The command that three words are, where they are one.
+// Returns the command that three words state, if they state one.
 fn command_of_three(word: &str, second: &[u8], third: &[u8]) -> Option<Command>
     ensures command { result ≡ command_by_words (word.now ∷ second.now ∷ third.now ∷ []) }
     ensures runnable { IfSome result IsRunnable }
@@ -111,7 +111,7 @@ fn command_of_three(word: &str, second: &[u8], third: &[u8]) -> Option<Command>
     }
 }
 
-/// The command that the words are, where they are one.
+/// Returns the command that the words state, if they state one.
 pub(crate) fn command_of(words: &[String]) -> Option<Command>
     ensures command { result ≡ command_by_words (map string_bytes words.now) }
     ensures runnable { IfSome result IsRunnable }

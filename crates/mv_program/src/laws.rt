@@ -1,5 +1,5 @@
-//! What the commands have to do with each other, and that no run of a deck deadlocks. Clauses cite specs/Texts, specs/Program and
-//! mv_progress.
+//! Laws of runs: that `replay` takes their journals, and that no run of a deck deadlocks. Clauses cite specs/Texts,
+//! specs/Program and mv_progress.
 
 ghost use Rattle.std.specs.Prelude.{◌≡◌, ◌≤◌, ◌++◌, ℕ, List, length, None};
 ghost use Rattle.mv_deck.specs.Deck.{JobData, deck_of};
@@ -14,8 +14,8 @@ ghost use Rattle.mv_script.specs.Script.{ScriptData};
 ghost use Rattle.mv_program.specs.Program.{TellsRun, TellsLoad};
 ghost use Rattle.mv_program.specs.Texts.{TellsHistory, IsJournalOfRun, IsRunOfScript};
 
-/// What a run writes to its journal, of a deck or of a script, is legal, as a replay judges it: each event counts. It is
-/// within the limit of a replay's input, so a replay takes it.
+/// Shows that the journal of a run, of a deck or of a script, is legal as a replay judges it, and has as many entries as the
+/// run has events; and that it is within the limit of a replay's input, so a replay takes it.
 pub fn runs_are_legal()
     ensures deck { (deck : List JobData) (initiators : ℕ) (text : List ℕ) → (run : IsJournalOfRun deck initiators text)
         → IsLegalJournal text (length run.events) }
@@ -25,9 +25,9 @@ pub fn runs_are_legal()
         → length text ≤ journal_limit }
 {}
 
-/// The run that the journal of a deck tells does not deadlock, whatever the schedule: at each moment of its history all tasks are done or
-/// one of them can make its next event, and no task is doomed. That a thread runs, that a wake arrives and that a call returns is not
-/// said.
+/// Shows that the run in the journal of a deck does not deadlock, whatever the schedule: at each moment of its history all
+/// tasks are done or one of them can make its next event, and no task is doomed. The law does not say that a thread runs, that
+/// a wake arrives, or that a call returns.
 pub fn decks_do_not_deadlock()
     // For `spool` and `polled`.
     ensures deck { (n : ℕ) (input report journal : List ℕ) (before later : List Entry) → 1 ≤ n → first_fault input n ≡ None

@@ -1,4 +1,4 @@
-//! The program: `run_program` does all of it over any streams, and `main` hands the standard streams to it.
+//! The program: `main` hands the standard streams to `run_program`, which does the rest over any streams.
 #![tactic(auto)]
 
 mod command;
@@ -23,7 +23,7 @@ use std::io::{self, ErrorKind};
 use std::process::ExitCode;
 use std::rt::Env;
 
-// The words behind the program's name.
+// Returns the words after the program's name.
 fn words_of<R: Env + AllocGlobal>(rt: &R) -> io::Result<Vec<String>> {
     let mut words = Vec::new(rt.alloc());
     for word in env::args(rt)?.skip(1) {
@@ -44,7 +44,7 @@ fn main(rt: HostRuntime) -> ExitCode {
             // out of memory: there was no room for the words.
             return ExitCode::from(Status::NoMemory.exit());
         }
-        // Arguments that are not text are no command.
+        // Arguments that are not text do not state a command.
         Err(_) => Vec::new(rt.alloc()),
     };
     let host = Host {

@@ -1,4 +1,4 @@
-//! The top call: all that the program does. Its clauses cite specs/Program and specs/Status.
+//! The top call, which does all that the program does. Clauses cite specs/Program and specs/Status.
 
 ghost use Rattle.std.specs.Prelude.{◌≡◌, ◌≢◌, ◌≤◌, ◌↔◌, map, true, false, Some, None, IfSome, IsSomeAnd};
 ghost use Rattle.std.specs.String.{string_bytes};
@@ -24,18 +24,18 @@ use std::sync::Wait;
 use std::thread::Threads;
 use std::time::Clock;
 
-/// What the program runs on.
+/// The machine, the memory and the gate that a run of the program uses.
 #[derive(Drop)]
 pub struct Host<'a, X, G> {
-    /// The runtime, which starts the threads.
+    /// The machine, which starts the threads.
     pub rt: &'a X,
-    /// Where its memory comes from.
+    /// The allocator of all memory.
     pub alloc: Global,
-    /// The gate that the tasks of a deck pass, if each has a thread of its own.
+    /// The gate that the tasks of a deck pass if each has its own thread.
     pub gate: &'a G,
 }
 
-// Judges the journal of the input, and tells how it ended.
+// Judges the journal of the input, and writes the ending on the notes.
 fn judge<D: Source, R: Sink, N: Sink>(
     alloc: Global,
     command: JournalCommand,
@@ -60,21 +60,22 @@ fn judge<D: Source, R: Sink, N: Sink>(
     Status::from(judge_journal(alloc, command, input, report, notes))
 }
 
-/// Runs a command: reads the input, and writes the report, and after it the journal where the command has one. All
-/// memory is taken before. Last it tells on the notes how it ended, where it did not end well.
+/// Runs a command: reads the input, writes the report, and then writes the journal if the command has one. It takes all memory
+/// before it writes. If the run does not end well, its last act is to write on the notes how it ended.
 ///
-/// The commands are `spool I` for I from 1 to 8, `load N I` for N from 1 to 2000, `polled I S` for S from 0 to 9999, `script`, `replay`
-/// and `convert`. The words are those behind the program's name. Of the input no more than the command's limit and one byte is taken;
-/// `load` takes nothing of it. Nothing is read and no memory is taken where the words are no command. `spool` runs the deck of the
-/// input, and `load` a deck of N jobs, by I initiators beside a reader, a scheduler and a writer, each on a thread of its own, which
-/// have all ended before anything is written; they pass the gate at each point of each job. `polled` runs the deck of the input as
-/// `spool` does, with all its tasks on this thread, polled in the round order of the seed S; it passes no gate. `script` runs the
-/// script of the input, each of its tasks on a thread of its own, and its report is the answers of their calls. The other commands
-/// start no thread.
+/// The commands are `spool I` for I from 1 to 8, `load N I` for N from 1 to 2000, `polled I S` for S from 0 to 9999, `script`,
+/// `replay` and `convert`. The words are those after the program's name; if they do not state a command, nothing is read and no
+/// memory is taken. Of the input, at most one byte more than the command's limit is read; `load` reads nothing.
+///
+/// `spool` runs the deck of the input, and `load` a deck of N jobs, by I initiators and a reader, a scheduler and a writer,
+/// each on its own thread. All these threads have ended before anything is written, and the tasks pass the gate at each point
+/// of each job. `polled` runs the deck of the input as `spool` does, with all tasks on this thread, polled in the round order
+/// of the seed S; it passes no gate. `script` runs the script of the input, each of its tasks on its own thread, and reports
+/// the answers of their calls. The other commands start no thread.
 ///
 /// # Errors
 ///
-/// Each `Status` but `Done`; the first cause that is met. What was written before it stays.
+/// Returns a `Status` other than `Done`: the first cause that applies. What was written before the failure remains.
 ///
 /// # Example
 ///
@@ -105,12 +106,12 @@ pub fn run_program<
     ensures report_failed { result ≡ Status.ReportFailed → Rose (R.faults report.old) (R.faults report.new) }
     ensures journal_failed { result ≡ Status.JournalFailed → Rose (K.faults journal.old) (K.faults journal.new) }
 
-    // What each stream holds then.
+    // The contents of each stream after each ending.
     ensures told { Told (command_by_words (map string_bytes words.now)) result (D.left input.old)
         (R.taken report.old) (R.taken report.new) (K.taken journal.old) (K.taken journal.new) }
     ensures notes { NotesAfter (note_by_status result) (N.faults notes.old) (N.faults notes.new) (N.taken notes.old) (N.taken notes.new) }
 
-    // Streams that are not used are as they were, whether or not they tell their bytes.
+    // Streams that are not used are as they were, whether or not they show their bytes.
     ensures unread { result ≡ Status.Words → input.new ≡ input.old }
     ensures no_input { IfSome (command_by_words (map string_bytes words.now)) (λ command.
         reads_input command ≡ false → input.new ≡ input.old) }
@@ -120,7 +121,7 @@ pub fn run_program<
         has_journal command ≡ false → journal.new ≡ journal.old) }
     ensures quiet { result ≡ Status.Done → notes.new ≡ notes.old }
 
-    // How a run has to end: where no count rose that excuses it as its input asks, or for want of memory.
+    // How a run has to end: as its input calls for, or out of memory, unless a count of faults rose that excuses it.
     ensures owed { IfSome (command_by_words (map string_bytes words.now)) (λ command.
         (reads_input command ≡ true → ¬ Rose (D.faults input.old) (D.faults input.new))
         → IfSome (input_told command (D.left input.old)) (λ bytes. (wanted : Status) → Asks command bytes wanted

@@ -1,4 +1,4 @@
-//! A command that runs something: what it reads, and the writing of both texts that it tells. Clauses cite specs/Command,
+//! A command that runs something: it reads its text, runs it, and writes both texts of the run. Clauses cite specs/Command,
 //! specs/Program and specs/Texts.
 
 ghost use Rattle.std.specs.Prelude.{[], ◌≡◌, ◌≢◌, ◌≤◌, length, true, false, Some, IfOk, IfErr, IfSome};
@@ -23,7 +23,7 @@ use std::time::Clock;
 /// The most bytes of a deck, and of a script.
 const DECK_LIMIT: usize = 1_048_576;
 
-// The text that a command reads, whole; an empty one where it reads nothing.
+// Reads the whole text of a command, or returns an empty one if the command reads nothing.
 fn read_text<D: Source>(alloc: Global, command: Command, input: &mut D) -> Result<Vec<u8>, Status>
     ensures short { IfOk result (λ text. length text.items ≤ deck_limit) }
     ensures whole { reads_input command ≡ true → IfOk result (λ text. IfSome (D.left input.old)
@@ -42,7 +42,7 @@ fn read_text<D: Source>(alloc: Global, command: Command, input: &mut D) -> Resul
     Ok(text)
 }
 
-// The texts that a command tells of the text that it read, or why it has none.
+// Runs the text that a command read, and returns the texts of the run, or why there are none.
 fn texts_told<X: Threads + Wait + Clock + Sync, G: Gate + Sync>(
     host: &Host<'_, X, G>,
     command: Command,
@@ -60,7 +60,7 @@ fn texts_told<X: Threads + Wait + Clock + Sync, G: Gate + Sync>(
         Command::Polled(initiators, seed) => texts_of(host, text, initiators, Way::Polled(seed))?,
         Command::Load(jobs, initiators) => texts_of_load(host, jobs, initiators)?,
         Command::Script => texts_of_script(host.rt, host.alloc, text)?,
-        // This runs nothing.
+        // A command on a journal runs nothing.
         Command::Journal(_) => unreachable!(),
     };
     Ok(texts)
@@ -89,7 +89,7 @@ fn write_texts<R: Sink, K: Sink>(report: &mut R, journal: &mut K, texts: Texts) 
     Status::Done
 }
 
-/// Runs what a command asks, and writes its report and its journal. The words of the command are not asked again.
+/// Runs a command, and writes its report and its journal. It does not check the numbers of the command again.
 pub(crate) fn run<X: Threads + Wait + Clock + Sync, D: Source, R: Sink, K: Sink, G: Gate + Sync>(
     host: &Host<'_, X, G>,
     command: Command,

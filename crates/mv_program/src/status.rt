@@ -1,4 +1,4 @@
-//! How a run ended: `specs/Status.antt`.
+//! The endings of the program, by `specs/Status.antt`.
 
 ghost use Rattle.std.specs.Prelude.{◌≡◌, Some};
 ghost use Rattle.mv_program.specs.Status.{exit_status, note_of as note_by_status, of_read, replay_of};
@@ -16,30 +16,30 @@ use mv_script::ScriptFault;
 pub enum Status {
     /// The whole output was written.
     Done,
-    /// The words are no command.
+    /// The words do not state a command.
     Words,
-    /// The deck has this fault, its first.
+    /// The deck has a fault. This is its first.
     Deck(DeckFault),
     /// The input has more bytes than the command's limit.
     TooLong,
     /// The input could not be read.
     ReadFailed,
-    /// The report could not be written whole: a front of it may stand there.
+    /// The report could not be written whole. A prefix of it may have been written.
     ReportFailed,
-    /// The journal could not be written whole: a front of it may stand there, behind the whole report.
+    /// The journal could not be written whole. A prefix of it may have been written, after the whole report.
     JournalFailed,
     /// Memory ran out, before anything was written.
     NoMemory,
-    /// The script has this fault, its first.
+    /// The script has a fault. This is its first.
     Script(ScriptFault),
-    /// The entry on this line of the journal is the first that is not the machine's, or is not numbered as its call is.
+    /// The entry on this line of the journal is the first that is not the machine's, or does not have its call number.
     Illegal(u32),
-    /// The text of the journal has this fault, its first.
+    /// The text of the journal has a fault. This is its first.
     Text(TextFault),
 }
 
 impl Status {
-    /// The exit status of the process: 0 for `Done` alone. docs/FORMATS.md has them all.
+    /// Returns the exit status of the process, which is 0 only for `Done`. docs/FORMATS.md lists them.
     pub fn exit(&self) -> u8
         ensures { result ≡ exit_status self.now }
     {
@@ -79,7 +79,7 @@ impl From<NoMemory> for Status {
     }
 }
 
-/// The status of a run that was a replay.
+/// The status of a run of a command on a journal.
 impl From<ReplayStatus> for Status {
     ghost from_gives = { λ replay status. replay_of status ≡ Some replay };
 
@@ -96,7 +96,7 @@ impl From<ReplayStatus> for Status {
     }
 }
 
-/// What is told of a status on the notes.
+/// Returns the line of a status on the notes, if it has one.
 pub(crate) fn note_of(status: Status) -> Option<Note>
     ensures { result ≡ note_by_status status }
 {

@@ -1,9 +1,9 @@
-//! Whole runs over memory: the rows of decks, journals and words, and what is left of each where a stream fails. Expected values are
-//! worked out by hand.
+//! Whole runs over memory: rows of decks, journals and words, and what remains of each input and output if a stream fails.
+//! Expected values are worked out by hand.
 //!
-//! A row is a run, behind a line `--` what it comes to, and behind another, where a journal is written, a piece of that. The run is its
-//! words, in a line, and its input; what it comes to is its exit, in a line, and the report, or at another exit than 0 the note. Rows
-//! are parted by a line `==`.
+//! A row is a run, a line `--`, its outcome, and, if a journal is written, another line `--` and a piece of the journal. The
+//! run is its words, in a line, and its input. The outcome is its exit, in a line, and the report or, if the exit is not 0, the
+//! note. A line `==` separates two rows.
 
 use super::*;
 use mv_io::{MemSink, MemSource, read_limited};
@@ -54,7 +54,7 @@ JOBS 0 ENDED 0 ABENDED 0 NOT RUN 0
 VOLUMES 0 0 0 0 0 0 0 0
 ";
 
-// Jobs that wait for one another, that print, count and scan, abend and end with return codes; and no job at all.
+// Jobs that wait for one another, that print, count and scan, abend and end with return codes; and a deck without jobs.
 const DECKS: &str = "\
 spool 8
 //
@@ -239,7 +239,7 @@ VOLUMES 1213 1223 1213 1214 1215 1205 1215 1210
 EVENTS
 ";
 
-// No word at all, and words of no command.
+// No word at all, and words that do not state a command.
 const NO_COMMANDS: &str = "
 spool
 spool 1 1
@@ -283,9 +283,9 @@ struct Streams {
     notes: MemSink,
 }
 
-// A source of this text, which gives so many bytes a call, and fails at the call of this number. Here and below want of memory stops the
-// test: what returns nothing returns at its end alone, and so its caller holds nothing that an early return drops, which would be most
-// of its proof.
+// Makes a source of this text, which gives at most `step` bytes a call, and fails at the call of this number. Here and below, a
+// test stops if memory runs out. So a function that returns nothing returns only at its end, and its caller holds nothing that
+// an early return would drop, which would be most of its proof.
 fn source<X: Abort + AllocGlobal>(rt: &X, text: &[u8], step: usize, call: u64) -> MemSource {
     let Ok(source) = MemSource::new(rt.alloc(), text, step.max(1), &[call]) else {
         panic!(rt; "no memory for a source")
@@ -293,7 +293,7 @@ fn source<X: Abort + AllocGlobal>(rt: &X, text: &[u8], step: usize, call: u64) -
     source
 }
 
-// A sink with this much room, that takes at most `step` bytes a call, and fails at the call of this number.
+// Makes a sink with this much room, that takes at most `step` bytes a call, and fails at the call of this number.
 fn sink<X: Abort + AllocGlobal>(rt: &X, [room, step, call]: [usize; 3]) -> MemSink {
     let fail = [call as u64];
     let made = if step < room {
@@ -307,15 +307,15 @@ fn sink<X: Abort + AllocGlobal>(rt: &X, [room, step, call]: [usize; 3]) -> MemSi
     sink
 }
 
-// Sinks that have room for what these runs write, and fail at no call: for a report or a note, and for a journal.
+// Sinks that have room for what these runs write, and fail at no call: one for a report or a note, and one for a journal.
 const SHORT: [usize; 3] = [4096, 4096, 4096];
 
 const WIDE: [usize; 3] = [1 << 24, 1 << 24, 1 << 24];
 
-// For the longest journal that a run may write.
+// A sink for the longest journal that a run may write.
 const WIDEST: [usize; 3] = [1 << 26, 1 << 26, 1 << 26];
 
-// Streams over this input, of which no call fails.
+// Makes streams over this input, of which no call fails.
 fn streams_over<X: Abort + AllocGlobal>(rt: &X, input: &[u8]) -> Streams {
     Streams {
         input: source(rt, input, 1 << 20, u64::MAX),
@@ -325,7 +325,7 @@ fn streams_over<X: Abort + AllocGlobal>(rt: &X, input: &[u8]) -> Streams {
     }
 }
 
-// The words of a text, parted by spaces.
+// Returns the words of a text, which spaces separate.
 fn words_of(alloc: Global, text: &str) -> Result<Vec<String>, AllocError> {
     let mut words = Vec::new(alloc);
     for word in text.split_whitespace() {
@@ -334,7 +334,7 @@ fn words_of(alloc: Global, text: &str) -> Result<Vec<String>, AllocError> {
     Ok(words)
 }
 
-// Runs the command whose words stand in a text.
+// Runs the command of the words in a text.
 fn run_by<X: Abort + AllocGlobal + Threads + Wait + Clock + Sync, G: Gate + Sync>(
     rt: &X,
     text: &str,
@@ -359,7 +359,7 @@ fn run_by<X: Abort + AllocGlobal + Threads + Wait + Clock + Sync, G: Gate + Sync
     )
 }
 
-// The same where no task is held.
+// Runs the command of the words in a text, with a gate that holds no task.
 fn run<X: Abort + AllocGlobal + Threads + Wait + Clock + Sync>(
     rt: &X,
     text: &str,
@@ -368,7 +368,7 @@ fn run<X: Abort + AllocGlobal + Threads + Wait + Clock + Sync>(
     run_by(rt, text, on, &OpenGate)
 }
 
-// These bytes are those. The row says of what run, here and below.
+// Asserts that the two byte strings are equal. The row says which run they are from, here and below.
 fn assert_bytes<X: Abort>(rt: &X, bytes: &[u8], expected: &[u8], row: &str) {
     assert_eq!(rt; bytes, expected, "{row}");
 }
@@ -385,7 +385,7 @@ fn assert_exit<X: Abort>(rt: &X, status: Status, exit: u8, row: &str) {
     assert_count(rt, status.exit() as u64, exit as u64, row);
 }
 
-// Runs a command: it ends with this exit, and leaves this report and this note.
+// Runs a command, and asserts that it ends with this exit, this report and this note.
 fn assert_ends<X: Abort + AllocGlobal + Threads + Wait + Clock + Sync>(
     rt: &X,
     words: &str,
@@ -400,7 +400,7 @@ fn assert_ends<X: Abort + AllocGlobal + Threads + Wait + Clock + Sync>(
     assert_text(rt, on.notes.bytes(), note, words);
 }
 
-// Whether a text has this piece.
+// Returns whether a text has this piece.
 fn has(text: &[u8], piece: &str) -> bool {
     match std::str::from_utf8(text) {
         Ok(text) => text.contains(piece),
@@ -408,7 +408,7 @@ fn has(text: &[u8], piece: &str) -> bool {
     }
 }
 
-// The journal is a legal history, as `replay` judges it.
+// Asserts that the journal is a legal history, as `replay` judges it.
 fn assert_legal<X: Abort + AllocGlobal + Threads + Wait + Clock + Sync>(rt: &X, journal: &[u8]) {
     let mut on = streams_over(rt, journal);
     let status = run(rt, "replay", &mut on);
@@ -416,7 +416,7 @@ fn assert_legal<X: Abort + AllocGlobal + Threads + Wait + Clock + Sync>(rt: &X, 
     assert!(rt; on.report.bytes().starts_with(b"LEGAL "));
 }
 
-// The journal has this piece, and is legal; without a piece there is none.
+// Asserts that the journal has this piece, and is legal; or is empty if the piece is.
 fn assert_journal<X: Abort + AllocGlobal + Threads + Wait + Clock + Sync>(
     rt: &X,
     journal: &[u8],
@@ -430,8 +430,8 @@ fn assert_journal<X: Abort + AllocGlobal + Threads + Wait + Clock + Sync>(
     }
 }
 
-// A run over this input ends with this exit, and leaves what is told, the report or the note, and a journal with this piece. It has read
-// its input to the end, or nothing of it where the command has none.
+// Asserts that a run over this input ends with this exit, this report or note, and a journal with this piece. It has read its
+// input to the end, or none of it if the command reads no input or there is no command.
 fn assert_run<X: Abort + AllocGlobal + Threads + Wait + Clock + Sync>(
     rt: &X,
     words: &str,
@@ -448,7 +448,7 @@ fn assert_run<X: Abort + AllocGlobal + Threads + Wait + Clock + Sync>(
     assert_journal(rt, on.journal.bytes(), piece);
 }
 
-// What is left of an input, which is short.
+// Asserts what is left of an input, which is short.
 fn assert_left<X: Abort + AllocGlobal>(rt: &X, input: &mut MemSource, expected: &str) {
     let Ok(left) = read_limited(rt.alloc(), input, 1000) else {
         panic!(rt; "more is left, or it can't be read")
@@ -456,7 +456,7 @@ fn assert_left<X: Abort + AllocGlobal>(rt: &X, input: &mut MemSource, expected: 
     assert_text(rt, &left, expected, "what is left");
 }
 
-// What stands before and behind a piece of a text, which has it.
+// Returns the parts of a text before and after a piece, which the text has.
 fn parted<'a, X: Abort>(rt: &X, text: &'a str, piece: &str) -> (&'a str, &'a str) {
     let Some(parts) = text.split_once(piece) else {
         panic!(rt; "{text} has no {piece}")
@@ -471,7 +471,7 @@ fn number_of<X: Abort>(rt: &X, text: &str) -> u8 {
     number
 }
 
-// A text for which there has to be memory.
+// Returns a text, and stops the test if there was no memory for it.
 fn made<X: Abort>(rt: &X, text: Result<String, AllocError>) -> String {
     match text {
         Ok(text) => text,
@@ -479,7 +479,7 @@ fn made<X: Abort>(rt: &X, text: Result<String, AllocError>) -> String {
     }
 }
 
-// Each row of a table.
+// Asserts each row of a table.
 fn assert_rows<X: Abort + AllocGlobal + Threads + Wait + Clock + Sync>(rt: &X, rows: &str) {
     for row in rows.split("==\n") {
         let (run, comes_to) = parted(rt, row, "--\n");
@@ -490,7 +490,7 @@ fn assert_rows<X: Abort + AllocGlobal + Threads + Wait + Clock + Sync>(rt: &X, r
     }
 }
 
-// A kind of text: the words of a command that reads it, how its faults are told, and the exit then.
+// A kind of text: the words of a command that reads it, its name in notes of faults, and the exit of a fault.
 struct Format {
     words: &'static str,
     name: &'static str,
@@ -515,8 +515,8 @@ const JOURNAL: Format = Format {
     exit: 11,
 };
 
-// A text with its first fault, the line and the kind, and a space behind each; `0 0` where it has none. It stands between a front and
-// what is behind.
+// Asserts the first fault of a text. The row is the fault's line and kind, with a space after each, and the text; `0 0` means
+// no fault. The text is put between `front` and `behind`.
 fn assert_fault<X: Abort + AllocGlobal + Threads + Wait + Clock + Sync>(
     rt: &X,
     format: &Format,
@@ -539,7 +539,7 @@ fn assert_fault<X: Abort + AllocGlobal + Threads + Wait + Clock + Sync>(
     }
 }
 
-// A text without fault, which this row made.
+// Asserts that a text has no fault. This row made it.
 fn assert_no_fault<X: Abort + AllocGlobal + Threads + Wait + Clock + Sync>(
     rt: &X,
     format: &Format,
@@ -551,7 +551,7 @@ fn assert_no_fault<X: Abort + AllocGlobal + Threads + Wait + Clock + Sync>(
     assert_exit(rt, status, 0, row);
 }
 
-// A text of which this is noted, and nothing else is told. This row made it.
+// Asserts that a text gives this note, and no report or journal. This row made it.
 fn assert_told<X: Abort + AllocGlobal + Threads + Wait + Clock + Sync>(
     rt: &X,
     format: &Format,
@@ -567,8 +567,8 @@ fn assert_told<X: Abort + AllocGlobal + Threads + Wait + Clock + Sync>(
     assert_text(rt, on.journal.bytes(), "", row);
 }
 
-// Texts by such rows, parted by semicolons, so that a test is as short to prove with many as with one. A row that begins with `#` says
-// what those behind it have in common.
+// Asserts the faults of texts by such rows, separated by semicolons, so that a test with many rows is as short to prove as one
+// with one row. A row that begins with `#` says what the rows after it have in common.
 fn assert_faults<X: Abort + AllocGlobal + Threads + Wait + Clock + Sync>(
     rt: &X,
     format: &Format,
@@ -589,7 +589,7 @@ fn decks(rt: HostRuntime) {
     assert_rows(&rt, DECKS);
 }
 
-// Four events of the scheduler and four of the initiator, or five where its pause parked.
+// The journal has four events of the scheduler and four of the initiator, or five if its pause parked.
 #[test]
 fn no_job(rt: HostRuntime) {
     let mut on = streams_over(&rt, b"//\n");
@@ -618,7 +618,7 @@ fn words_that_are_no_command(rt: HostRuntime) {
     }
 }
 
-// A text is refused for its bytes, with this exit and this note.
+// Asserts that a text is refused for its bytes, with this exit and this note.
 fn assert_no_utf_8<X: Abort + AllocGlobal + Threads + Wait + Clock + Sync>(
     rt: &X,
     words: &str,
@@ -630,7 +630,7 @@ fn assert_no_utf_8<X: Abort + AllocGlobal + Threads + Wait + Clock + Sync>(
     assert_ends(rt, words, &mut on, exit, "", note);
 }
 
-// Bytes that no UTF-8 text has.
+// Bytes that are not UTF-8.
 #[test]
 fn texts_that_are_no_utf_8(rt: HostRuntime) {
     let script = b"\x80";
@@ -639,7 +639,7 @@ fn texts_that_are_no_utf_8(rt: HostRuntime) {
     assert_no_utf_8(&rt, "replay", journal, 11, "JOURNAL LINE 2 KIND 1\n");
 }
 
-// Comments and the null statement, 1,048,576 bytes in all, and then a space more.
+// Comments and the null statement, 1,048,576 bytes in all, and then the same with one more space.
 #[test]
 fn a_deck_at_the_limit_and_one_byte_more(rt: HostRuntime) {
     let comments = made(&rt, "//*\n".repeat(rt.alloc(), 262_142));

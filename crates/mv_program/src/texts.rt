@@ -1,5 +1,5 @@
-//! Both texts of a run: the report, made in memory, and the journal, ready to be written. Clauses cite specs/Texts and the report's
-//! `Outcome.antt`.
+//! The two texts of a run: the report, made in memory, and the journal, ready to be written. Clauses cite specs/Texts and
+//! `Outcome.antt` of mv_report.
 
 ghost use Rattle.std.specs.Prelude.{◌≡◌, ◌≤◌, [], All, length, None, IfOk, IfErr};
 ghost use Rattle.mv_deck.specs.Deck.{deck_data, deck_of};
@@ -35,23 +35,23 @@ use std::sync::Wait;
 use std::thread::Threads;
 use std::time::Clock;
 
-/// What a run writes.
+/// The texts that a run writes.
 #[derive(Drop)]
 pub(crate) struct Texts {
     pub report: Vec<u8>,
     pub journal: HistoryText,
 }
 
-/// Where the tasks of a deck are run.
+/// The threads on which the tasks of a deck run.
 #[derive(Clone, Copy)]
 pub(crate) enum Way {
-    /// Each on a thread of its own.
+    /// Each task on its own thread.
     Threads,
-    /// All on the calling thread, polled in the round order of this seed.
+    /// All tasks on the calling thread, polled in the round order of this seed.
     Polled(u32),
 }
 
-// Runs the deck. The gate is for tasks on threads alone.
+// Runs the deck. Only tasks on threads pass the gate.
 fn run_of<X: Threads + Wait + Clock + Sync, G: Gate + Sync>(
     host: &Host<'_, X, G>,
     deck: &Deck,
@@ -79,7 +79,7 @@ fn run_of<X: Threads + Wait + Clock + Sync, G: Gate + Sync>(
     }
 }
 
-// The texts of a run of this deck.
+// Runs this deck, and returns the texts of the run.
 fn texts_of_deck<X: Threads + Wait + Clock + Sync, G: Gate + Sync>(
     host: &Host<'_, X, G>,
     deck: &Deck,
@@ -98,7 +98,7 @@ fn texts_of_deck<X: Threads + Wait + Clock + Sync, G: Gate + Sync>(
     Ok(Texts { report, journal })
 }
 
-/// The texts of a run of the deck that the input states, by so many initiators.
+/// Runs the deck of the input with this many initiators, and returns the texts of the run.
 pub(crate) fn texts_of<X: Threads + Wait + Clock + Sync, G: Gate + Sync>(
     host: &Host<'_, X, G>,
     input: &[u8],
@@ -120,7 +120,7 @@ pub(crate) fn texts_of<X: Threads + Wait + Clock + Sync, G: Gate + Sync>(
     Ok(texts)
 }
 
-// The deck of a load.
+// Returns the deck of a load.
 fn deck_of_load(alloc: Global, jobs: u32, initiators: u32) -> Result<Deck, NoMemory>
     requires jobs { AreJobs jobs }
     requires initiators { AreInitiators initiators }
@@ -137,7 +137,7 @@ fn deck_of_load(alloc: Global, jobs: u32, initiators: u32) -> Result<Deck, NoMem
     }
 }
 
-/// The summary of a load of so many jobs, and the journal of its run by so many initiators.
+/// Runs a load of this many jobs with this many initiators, and returns its summary and the journal of the run.
 pub(crate) fn texts_of_load<X: Threads + Wait + Clock + Sync, G: Gate + Sync>(
     host: &Host<'_, X, G>,
     jobs: u32,
@@ -155,7 +155,7 @@ pub(crate) fn texts_of_load<X: Threads + Wait + Clock + Sync, G: Gate + Sync>(
     Ok(Texts { report, journal })
 }
 
-// The answers and the journal of a run of this script.
+// Runs this script, and returns its answers and the journal of the run.
 fn texts_of_run<X: Threads + Wait + Clock + Sync>(
     rt: &X,
     alloc: Global,
@@ -170,7 +170,7 @@ fn texts_of_run<X: Threads + Wait + Clock + Sync>(
     Ok(Texts { report, journal })
 }
 
-/// The answers and the journal of a run of the script that the input states.
+/// Runs the script of the input, and returns its answers and the journal of the run.
 pub(crate) fn texts_of_script<X: Threads + Wait + Clock + Sync>(
     rt: &X,
     alloc: Global,

@@ -1,5 +1,5 @@
-//! Streams that fail at each of their calls, or take little at a time, and input that ends too early. Each row says what every
-//! sink holds in the end; the numbers of bytes and lines are counted by hand.
+//! Streams that fail at each of their calls, or take few bytes at a time, and input that ends too early. Each row says what
+//! every sink holds in the end; the numbers of bytes and lines are counted by hand.
 
 ghost use Rattle.std.specs.Prelude.{◌≤◌, IfOk};
 
@@ -8,7 +8,7 @@ use mv_io::{Partial, ReadRefusal, Sink, Source, StdSink, StdSource, write_all};
 use std::io;
 use std::io::{ErrorKind, Read, Write};
 
-// Each byte is a call of its own, and one more finds the end. After that no call is made.
+// Each byte takes one call, and one more call finds the end. After that no call is made.
 #[test]
 fn a_source_that_fails_at_each_of_its_calls(rt: HostRuntime) {
     for call in 0..139 {
@@ -17,7 +17,7 @@ fn a_source_that_fails_at_each_of_its_calls(rt: HostRuntime) {
     assert_read(&rt, 139, 0, PAYROLL_REPORT, "");
 }
 
-// A run whose deck is read from a source that fails at this call.
+// Asserts the outcome of a run whose deck is read from a source that fails at this call.
 fn assert_read<X: Abort + AllocGlobal + Threads + Wait + Clock + Sync>(
     rt: &X,
     call: u64,
@@ -35,8 +35,9 @@ fn assert_read<X: Abort + AllocGlobal + Threads + Wait + Clock + Sync>(
     assert!(rt; on.journal.bytes().is_empty() == (exit != 0));
 }
 
-// Report and journal are written to such sinks. So many bytes of the report stand there in the end, and behind a whole one a front of the
-// journal, which is all that stands there of it, or a whole journal with this piece.
+// Runs the payroll deck into these two sinks, and asserts what they hold. The report's sink holds the first `length` bytes of
+// the report. At exit 7 the journal's sink holds just `piece`, a prefix of the journal; otherwise it holds a legal journal with
+// `piece`, or nothing if `piece` is empty.
 fn assert_written<X: Abort + AllocGlobal + Threads + Wait + Clock + Sync>(
     rt: &X,
     sinks: [[usize; 3]; 2],
@@ -60,7 +61,7 @@ fn assert_written<X: Abort + AllocGlobal + Threads + Wait + Clock + Sync>(
     }
 }
 
-// So many bytes of a text, which has them.
+// Returns the first `length` bytes of a text, which has that many.
 fn front_of<'a, X: Abort>(rt: &X, text: &'a str, length: usize) -> &'a str {
     let Some(front) = text.get(..length) else {
         panic!(rt; "no front of {length} bytes")
@@ -68,7 +69,8 @@ fn front_of<'a, X: Abort>(rt: &X, text: &'a str, length: usize) -> &'a str {
     front
 }
 
-// The report has 150 bytes. A sink fails at once, fails at its third call and takes four bytes at a time, or has too little room.
+// The report has 150 bytes. A sink fails at once; or takes four bytes at a time and fails at its third call; or has too little
+// room.
 #[test]
 fn report_sinks_that_fail(rt: HostRuntime) {
     let note = "REPORT FAILED\n";
@@ -86,7 +88,7 @@ fn journal_sinks_that_fail(rt: HostRuntime) {
     assert_written(&rt, [WIDE, [4096, 4, 2]], 7, note, 150, "JOURNAL ");
 }
 
-// Report and journal are whole where each call takes so many bytes, and the report's sink has just the room.
+// The report and the journal are whole if each call takes this many bytes, and the report's sink has just enough room.
 #[test]
 fn sinks_that_take_little_at_a_time(rt: HostRuntime) {
     for step in [1, 2, 149, 150] {
@@ -102,7 +104,7 @@ fn notes_that_fail_change_no_status(rt: HostRuntime) {
     assert_noted(&rt, [4096, 4, 2], "DECK LIN");
 }
 
-// The note of an empty deck's fault is written to such a sink, which takes a front of it.
+// Writes the note of an empty deck's fault to this sink, and asserts the prefix of it that the sink takes.
 fn assert_noted<X: Abort + AllocGlobal + Threads + Wait + Clock + Sync>(
     rt: &X,
     notes: [usize; 3],
@@ -134,7 +136,7 @@ fn decks_that_are_cut(rt: HostRuntime) {
     assert_run(&rt, "spool 2", front, 0, PAYROLL_REPORT, "= PURGED 0 0\n");
 }
 
-// A reader and a writer of std that pass two bytes a call and fail at their second call.
+// A reader and writer of std that passes two bytes a call, and fails at its second call.
 #[derive(Drop)]
 struct Worn {
     calls: u64,
@@ -170,7 +172,7 @@ impl Write for Worn {
     }
 }
 
-// Each error of the reader or the writer is one fault, and what succeeds later adds none.
+// Each error of the reader or the writer is one fault, and later successes add none.
 #[test]
 fn a_failing_stream_of_std_counts_one_fault(rt: HostRuntime) {
     let mut source = StdSource::new(Worn { calls: 0 });

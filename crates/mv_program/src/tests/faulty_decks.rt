@@ -1,8 +1,8 @@
-//! Decks by their texts: the first fault of each, worked out by hand; `0 0` where there is none.
+//! The first fault of each deck, worked out by hand; `0 0` if it has none.
 
 use super::*;
 
-// Hard lines: how a text is cut, comments, and which of two faults is told.
+// Hard lines: how a text is cut into lines, comments, and which of two faults is the first.
 const LINES_AND_COMMENTS: &str = "\
     # no line, ignored lines alone;\
     1 12 ;\
@@ -320,7 +320,7 @@ fn decks_by_their_first_fault(rt: HostRuntime) {
     }
 }
 
-// The steps of a heavy deck's last job, but for one.
+// The steps of a heavy deck's last job, without the last one.
 const STEPS: &str = "\
 // USE 0 X
 // FREE 0
@@ -333,7 +333,7 @@ const STEPS: &str = "\
 // USE 0 X
 ";
 
-// This many jobs, the last with these steps and one more.
+// Makes a deck of this many jobs, the last with these steps and one more.
 fn heavy_deck(alloc: Global, jobs: u32, step: &str) -> Result<String, AllocError> {
     let mut text = String::new(alloc);
     for job in 0..jobs {
@@ -342,7 +342,7 @@ fn heavy_deck(alloc: Global, jobs: u32, step: &str) -> Result<String, AllocError
     format!(in alloc; "{text}{STEPS}{step}//\n")
 }
 
-// A deck of 30,839 jobs runs to its end.
+// Asserts that a deck of 30,839 jobs runs to its end.
 fn assert_runs<X: Abort + AllocGlobal + Threads + Wait + Clock + Sync>(rt: &X, deck: &str) {
     let mut on = streams_over(rt, deck.as_bytes());
     on.report = sink(rt, WIDE);
@@ -361,8 +361,8 @@ JOBS 30839 ENDED 30839 ABENDED 0 NOT RUN 0
 VOLUMES 0 0 0 0 0 0 0 0
 ";
 
-// 30,839 jobs weigh 524,272 for one initiator; USE and FREE weigh 3, USE and COUNT 4. At 524,287 the deck is run, and above that the
-// last step is its fault.
+// For one initiator, 30,839 jobs weigh 524,272; USE and FREE weigh 3, USE and COUNT 4. A deck of weight 524,287 is run, and
+// above that the last step is at fault.
 #[test]
 fn the_heaviest_deck(rt: HostRuntime) {
     let deck = made(&rt, heavy_deck(rt.alloc(), 30_839, "// FREE 0\n"));

@@ -1,15 +1,15 @@
-//! Texts that are no journals, each with the line and the kind of its first fault, worked out by hand.
+//! Texts that are not journals, each with the line and the kind of its first fault, worked out by hand.
 
 use super::*;
 
-// Six lines up to the quotas.
+// The six lines of a head up to the quotas.
 const COUNTS: &str = "JOURNAL 1\nCALLERS 1\nELEMENTS 1\nVOLUMES 1\nLATCHES 1\nQUOTA 1 0\n";
 
 // A head of eight lines, the last of them `EVENTS`.
 const HEAD: &str =
     "JOURNAL 1\nCALLERS 1\nELEMENTS 1\nVOLUMES 1\nLATCHES 1\nQUOTA 1 0\nBUDGET 5\nEVENTS\n";
 
-// The same of version 2.
+// The same head in version 2.
 const SECOND_HEAD: &str =
     "JOURNAL 2\nCALLERS 1\nELEMENTS 1\nVOLUMES 1\nLATCHES 1\nQUOTA 1 0\nBUDGET 5\nEVENTS\n";
 
@@ -192,7 +192,7 @@ fn journals_with_a_fault_in_an_entry(rt: HostRuntime) {
     }
 }
 
-// One block more than the 131,072 that there may be; the line is that of EVENTS.
+// One block more than the limit of 131,072. The fault is on the line of EVENTS.
 #[test]
 fn a_journal_with_a_block_too_many(rt: HostRuntime) {
     let blocks = made(&rt, "ECB 0\n".repeat(rt.alloc(), 131_073));

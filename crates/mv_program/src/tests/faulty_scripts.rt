@@ -1,9 +1,9 @@
-//! Scripts by their texts: the first fault of each, worked out by hand; `0 0` where there is none. Each kind, and each two kinds that
-//! can meet in a line.
+//! The first fault of each script, worked out by hand; `0 0` if it has none. Each kind is here, and each two kinds that can
+//! occur together in a line.
 
 use super::*;
 
-// How a text is cut, and where END is missing.
+// How a text is cut into lines, and scripts without END.
 const CUTS: &str = "\
     1 9 ;\
     3 9 \n\n;\
@@ -15,7 +15,7 @@ const CUTS: &str = "\
     0 0 SCRIPT 8\nTASK\nTASK\nTASK\nTASK\nTASK\nTASK\nTASK\nTASK\nEND;\
     0 0 SCRIPT 1\nECB 0\nECB 0\nEXIT 0 1\nEXIT 0 1 1 1 1\nTASK\nEND";
 
-// What may stand before SCRIPT: nothing, and a line that names what is not there is told for that.
+// Lines before SCRIPT: none is allowed there, and a line that also names what does not exist has kind 4.
 const BEFORE_THE_SCRIPT: &str = "\
     1 5 TASK;\
     1 5 END;\
@@ -32,7 +32,7 @@ const BEFORE_THE_SCRIPT: &str = "\
     1 4 READ 8;\
     1 4 TABLE 0 0 0 0 0 1";
 
-// A second SCRIPT, and lines behind later ones.
+// A second SCRIPT, and lines after the ones that they should precede.
 const OUT_OF_ORDER: &str = "\
     2 5 SCRIPT 1\nSCRIPT 1;\
     5 5 SCRIPT 1\nECB 0\nECB 0\nEXIT 0 1\nECB 0;\
@@ -64,8 +64,8 @@ const BYTES_AND_COUNTS: &str = "\
     4 8 SCRIPT 1\nTASK\nOBTAIN 8 1 S COND\nFREE 2 U;\
     0 0 SCRIPT 1\nTASK\nOBTAIN 0 1 S COND\nFREE 1 C\nCHECK 1\nEND";
 
-// Two kinds meet in a line, and the lower is told. In the last two rows a later line has a kind that is lower or not, and the first
-// line is told.
+// Two kinds occur together in a line, and the lower one is the fault. In the last two rows a later line has a lower kind or
+// not, and the fault is in the first line.
 const MEETING: &str = "\
     1 1 \t                                                                                ;\
     1 1 ALLOC\t;\
@@ -101,8 +101,8 @@ fn scripts_whose_lines_are_out_of_order(rt: HostRuntime) {
 const SPACES: &str =
     "                                                                                ";
 
-// A line of eighty spaces is ignored. One that is too long has no other kind in the second row and the last, and each that can
-// meet it between them.
+// A line of eighty spaces is ignored. Lines that are too long: with no other kind in the second row and the last, and with each
+// kind that can occur with it in the rows between them.
 const TOO_LONG: &str = "\
     2 9 ;\
     1 2  ;\
@@ -123,7 +123,7 @@ fn scripts_whose_lines_are_too_long(rt: HostRuntime) {
 // A head of three lines.
 const HEAD: &str = "SCRIPT 1\nECB 0\nTASK\n";
 
-// Calls with the lowest and the highest of their numbers: the fault is that of the line behind them.
+// Calls with the lowest and the highest of their numbers. The fault is in the line after them.
 const GOOD_CALLS: &str = "\
     5 3 WAIT 0;\
     5 3 WAIT 99 0 0 0 0 0 0 0 0;\
@@ -138,7 +138,7 @@ const GOOD_CALLS: &str = "\
     5 3 EOT 0 - 0;\
     5 3 EOT 0 0 1073741823";
 
-// Words that fit no form; in the last rows a number is bad too.
+// Malformed lines; in the last rows a number is bad too.
 const NO_FORMS: &str = "\
     4 3  ALLOC;\
     4 3 alloc;\
@@ -180,7 +180,7 @@ const NO_FORMS: &str = "\
     4 3 TRANSFER 4.0 0.0 X;\
     4 3 OBTAIN 100 1 Y COND";
 
-// Numbers with a zero in front, out of their ranges, or of what is not there.
+// Numbers that have a leading zero, are out of their ranges, or name what does not exist.
 const BAD_NUMBERS: &str = "\
     4 4 SCRIPT 01;\
     4 4 ECB 00;\
@@ -215,7 +215,7 @@ const BAD_NUMBERS: &str = "\
     4 4 TABLE 0 0 0 0 1 1;\
     4 4 TABLE 0 0 0 0 0 100";
 
-// The same of the lines that are no calls.
+// Lines that are not calls: malformed ones, and ones with a bad number.
 const OTHER_LINES: &str = "\
     1 4 SCRIPT 0;\
     1 4 SCRIPT 9;\
@@ -239,14 +239,14 @@ fn scripts_with_calls_that_are_none(rt: HostRuntime) {
     }
 }
 
-// As many blocks as there may be, and one more, which may name no task.
+// As many blocks as the limit allows, and one more, which may also name a task that does not exist.
 const MANY_BLOCKS: &str = "\
     0 0 TASK\nEND;\
     66 6 ECB 0;\
     66 4 ECB 1;\
     67 5 TASK\nECB 0";
 
-// The same of exits, of which one more may lead down.
+// As many exits as the limit allows, and one more, which may also lead down.
 const MANY_EXITS: &str = "\
     0 0 TASK\nEND;\
     20 6 EXIT 0 1;\
@@ -254,7 +254,8 @@ const MANY_EXITS: &str = "\
     20 4 EXIT 0 2;\
     21 5 TASK\nEXIT 0 1";
 
-// The same of calls, of which one more may have no OBTAIN. Each task may make as many.
+// As many calls as the limit allows, and one more, which may also name an OBTAIN that does not exist. The limit is for each
+// task.
 const MANY_CALLS: &str = "\
     0 0 TASK\nREAD 0\nEND;\
     131 6 READ 0;\
@@ -262,7 +263,7 @@ const MANY_CALLS: &str = "\
     131 4 READ 8;\
     131 6 END";
 
-// Scripts by such rows, each behind a front and a line that stands so many times.
+// Asserts the faults of scripts by such rows, after a front and this many copies of a line.
 fn assert_behind<X: Abort + AllocGlobal + Threads + Wait + Clock + Sync>(
     rt: &X,
     front: &str,
@@ -286,8 +287,8 @@ fn scripts_with_one_too_many(rt: HostRuntime) {
     }
 }
 
-// Exits from each of the blocks 7 to 15 to four times the next one. So block 16 reaches 1, block 15 reaches 5, and so on up to
-// block 8 with 87,381 and block 7 with 349,525. The lines are 27.
+// Exits from each of the blocks 7 to 15 to four times the next block. So block 16 reaches 1, block 15 reaches 5, and so on up
+// to block 8 with 87,381 and block 7 with 349,525. The head has 27 lines.
 const CHAIN: &str = "\
     SCRIPT 1\n\
     ECB 0\nECB 0\nECB 0\nECB 0\nECB 0\nECB 0\nECB 0\nECB 0\nECB 0\n\
@@ -296,8 +297,8 @@ const CHAIN: &str = "\
     EXIT 10 11 11 11 11\nEXIT 11 12 12 12 12\nEXIT 12 13 13 13 13\n\
     EXIT 13 14 14 14 14\nEXIT 14 15 15 15 15\nEXIT 15 16 16 16 16\n";
 
-// What calls cost: 349,525 and twice 87,381 are 524,287, and a PURGE costs more than that. Where a call costs too much and has
-// another fault, the other is told.
+// The costs of calls: 349,525 and twice 87,381 are 524,287, and a PURGE costs more than that. If a call costs too much and has
+// another fault, the other fault is the first.
 const COSTS: &str = "\
     0 0 TASK\nPOST 7 0\nPOST 8 0\nPOST 8 0\nEND;\
     32 10 TASK\nPOST 7 0\nPOST 8 0\nPOST 8 0\nREAD 0\nEND;\
@@ -316,7 +317,8 @@ const COSTS: &str = "\
 // A call that costs too much, on a line that is too long.
 const LONG_COSTS: &str = "32 2 TASK\nPOST 7 0\nPOST 8 0\nPOST 8 0\nREAD 0";
 
-// Behind three calls that cost all there is, and 125 more that cost nothing: one more is one too many and costs too much.
+// After three calls that cost all that is allowed, and 125 more that cost nothing, one more call is too many and costs too
+// much.
 const MANY_COSTS: &str = "\
     0 0 END;\
     157 6 READ 0;\
@@ -331,10 +333,10 @@ fn scripts_whose_calls_cost_too_much(rt: HostRuntime) {
     assert_behind(&rt, &front, "WAIT 0\n", 125, MANY_COSTS);
 }
 
-// Four blocks of task 0, and one of task 1. The lines are six.
+// Four blocks of task 0, and one of task 1, in a head of six lines.
 const BLOCKS: &str = "SCRIPT 2\nECB 0\nECB 0\nECB 0\nECB 0\nECB 1\n";
 
-// Tables where they may not stand, and each refusal of a table but that of a volume that there is not.
+// Tables where none is allowed, and each refusal of a table except that of a volume that does not exist.
 const TABLES: &str = "\
     7 12 TABLE 0 0 0 0 2 0;\
     7 12 TABLE 0 0 0 0 2 33;\
@@ -351,8 +353,8 @@ const TABLES: &str = "\
     8 5 TASK\nTABLE 0 0 0 0 2 0;\
     9 5 TABLE 0 0 0 2 0 2\nTASK\nTABLE 0 0 0 2 0 2";
 
-// Behind a table with latch 3 and volume 4, calls on it, and others that use what is the table's or not: then the fault is that of the
-// line behind them.
+// After a table with latch 3 and volume 4: calls on it, and calls that use its parts or others. If they have no fault, the
+// fault is in the line after them.
 const USES: &str = "\
     9 4 EVPOST 2 0;\
     9 4 EVPOST 0 1073741824;\

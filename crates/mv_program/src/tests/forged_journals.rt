@@ -1,8 +1,9 @@
-//! Journals that are cut, or say of one event what is not so. `replay` and `convert` refuse each at the line where it is.
+//! Journals that are cut, or are wrong about one event. `replay` and `convert` refuse each at the line of the fault.
 
 use super::*;
 
-// A task posts two of its blocks and waits for two of the three, and then looks at the third. The events stand on the lines 12 to 20.
+// A task posts two of its three blocks, waits for two of the three, and then tests the third. The events are on the lines 12 to
+// 20.
 const WAIT: &str = "\
 JOURNAL 2
 CALLERS 1
@@ -27,7 +28,7 @@ EVENTS
 END 9
 ";
 
-// A task waits for a block that another posts, and releases a pause of that one.
+// A task waits for a block that another task posts, and releases that task's pause.
 pub(crate) const PAUSE: &str = "\
 JOURNAL 2
 CALLERS 4
@@ -75,17 +76,17 @@ const FORGED_POSTS: &str = "\
 11 JOURNAL LINE 13 KIND 2|END 2|END 02
 ";
 
-// What is said otherwise of the second: that its task opens its element in another call, and what its pause is given.
+// Forgeries of the second journal: its task opens its element in another call, or its pause is given another code.
 const FORGED_PAUSE: &str = "\
 10 ILLEGAL AT LINE 14|2.0 P2 0|2.1 P2 0
 10 ILLEGAL AT LINE 20|GIVEN 0 1|GIVEN 5 1
 ";
 
-// The same of the pause alone, which has this line in version 1 too.
+// The forgery of the pause alone, which is on this line in version 1 too.
 const FORGED_GIFT: &str = "10 ILLEGAL AT LINE 20|GIVEN 0 1|GIVEN 5 1\n";
 
-// What is said otherwise of each event of the first: that its place is one higher, or that its reply is another; and at the end a number
-// with a leading zero. Beside each stands the line on which it is refused.
+// Forgeries of each event of the first journal: its place is one higher, or its reply is another; and at the end a number with
+// a leading zero. Each row begins with the line at which it is refused.
 const FORGERIES: &str = "\
 10 ILLEGAL AT LINE 12|E0 0 POST 7 = POSTED|E0 1 POST 7 = POSTED
 10 ILLEGAL AT LINE 13|E2 0 POST 9 = POSTED|E2 1 POST 9 = POSTED
@@ -108,7 +109,7 @@ const FORGERIES: &str = "\
 11 JOURNAL LINE 21 KIND 2|END 9|END 09
 ";
 
-// The number of its call is one higher.
+// Forgeries of the call number of each event of the first journal: it is one higher.
 const MISNUMBERED: &str = "\
 10 ILLEGAL AT LINE 12|0.0 E0 0|0.1 E0 0
 10 ILLEGAL AT LINE 13|0.1 E2 0|0.2 E2 0
@@ -121,7 +122,7 @@ const MISNUMBERED: &str = "\
 10 ILLEGAL AT LINE 20|0.3 E1 2|0.4 E1 2
 ";
 
-// A journal in version 1, without the numbers of calls.
+// Returns a journal in version 1, without call numbers.
 pub(crate) fn unnumbered<X: Abort + AllocGlobal>(rt: &X, journal: &str) -> String {
     let mut text = made(rt, journal.replace(rt.alloc(), "JOURNAL 2", "JOURNAL 1"));
     for number in [".0 ", ".1 ", ".2 ", ".3 "] {
@@ -130,7 +131,7 @@ pub(crate) fn unnumbered<X: Abort + AllocGlobal>(rt: &X, journal: &str) -> Strin
     text
 }
 
-// Both commands on journals end with this exit, and with this note.
+// Asserts that both commands on journals end with this exit and this note.
 fn assert_refused<X: Abort + AllocGlobal + Threads + Wait + Clock + Sync>(
     rt: &X,
     journal: &str,
@@ -142,7 +143,7 @@ fn assert_refused<X: Abort + AllocGlobal + Threads + Wait + Clock + Sync>(
     assert_run(rt, "convert", journal, exit, &note, "");
 }
 
-// Each of these in turn is said of one event, and all others stay.
+// Asserts that the journal is refused with each of these forgeries of one event, while all other events stay.
 pub(crate) fn assert_forged<X: Abort + AllocGlobal + Threads + Wait + Clock + Sync>(
     rt: &X,
     journal: &str,
@@ -174,7 +175,7 @@ fn journals_that_are_forged(rt: HostRuntime) {
     assert_run(&rt, "replay", POSTS, 0, "LEGAL 2 EVENTS\n", "");
 }
 
-// Both commands on a text that is cut before any of its bytes end in the line of that byte.
+// Asserts that both commands on a text that is cut before any of its bytes find the fault in the line of that byte.
 fn assert_cut<X: Abort + AllocGlobal + Threads + Wait + Clock + Sync>(rt: &X, journal: &str) {
     for length in 0..journal.len() {
         let Some(front) = journal.get(..length) else {
@@ -192,7 +193,7 @@ fn a_journal_cut_at_each_length(rt: HostRuntime) {
     assert_cut(&rt, PAUSE);
 }
 
-// A journal of nine events is legal, and is converted to this one.
+// Asserts that a journal of nine events is legal, and is converted to this one.
 fn assert_converted<X: Abort + AllocGlobal + Threads + Wait + Clock + Sync>(
     rt: &X,
     journal: &str,

@@ -1,4 +1,4 @@
-//! Runs whose tasks are held at two points until both are reached: so two tasks are there at once.
+//! Runs whose tasks are held at two points until both points are reached, so that two tasks are at their points at once.
 
 use super::*;
 use mv_task::MeetGate;
@@ -40,8 +40,8 @@ JOBS 2 ENDED 2 ABENDED 0 NOT RUN 0
 VOLUMES 12 0 0 0 0 0 0 0
 ";
 
-// Runs a deck while two points are held for a million rounds at most: both are reached, neither hold runs out, and the report is this.
-// The journal is legal, and has each of these pieces.
+// Runs a deck while two points are held for a million rounds at most, and asserts that both are reached, that neither hold runs
+// out, and that the report is this one. The journal is legal, and has each of these pieces.
 fn assert_meets<X: Abort + AllocGlobal + Threads + Wait + Clock + Sync>(
     rt: &X,
     words: &str,
@@ -57,7 +57,7 @@ fn assert_meets<X: Abort + AllocGlobal + Threads + Wait + Clock + Sync>(
     assert_legal(rt, on.journal.bytes());
 }
 
-// Runs a deck while two points are held, and says whether they meet.
+// Runs a deck while two points are held, and asserts whether both are reached at once.
 fn assert_held<X: Abort + AllocGlobal + Threads + Wait + Clock + Sync>(
     rt: &X,
     words: &str,
@@ -92,14 +92,14 @@ fn reader_and_scheduler_meet(rt: HostRuntime) {
     assert_meets(&rt, "spool 1", PRINTS, points, PRINTED, "= PURGED");
 }
 
-// The writer has the first job's end while the second is begun.
+// The writer has the end of the first job while the second is begun.
 #[test]
 fn writer_and_initiator_meet(rt: HostRuntime) {
     let points = (Point::Written(0), Point::Started(1));
     assert_meets(&rt, "spool 1", PRINTS, points, PRINTED, "= PURGED");
 }
 
-// Of two jobs that count on one volume the one that is held last writes last.
+// Of two jobs that count on one volume, the one that is held last writes last.
 const SEVEN_FIRST: &str = "\
 = PURGED
  V0 0 READ =
@@ -124,7 +124,7 @@ fn who_is_held_last_counts_last(rt: HostRuntime) {
     assert_meets(&rt, "spool 2", COUNTS, points, COUNTED, FIVE_FIRST);
 }
 
-// Each is held at the first point until it has run out: the second comes only by what stands behind the first.
+// Each first point is held until its hold has run out, since the second point comes only after it.
 #[test]
 fn each_point_comes_before_what_it_announces(rt: HostRuntime) {
     for points in [
@@ -137,7 +137,7 @@ fn each_point_comes_before_what_it_announces(rt: HostRuntime) {
     }
 }
 
-// A gate that counts who passes it by the number that the task has at that point, and who does not.
+// A gate that counts the passes by the number of the task that reaches that point, and the passes by any other number.
 #[derive(Drop)]
 struct Numbers {
     own: AtomicU64,

@@ -1,5 +1,5 @@
-//! Journals that are legal: each cell of the tables of blocks and elements, latches, and calls of several events; and what the machine has
-//! no answer to. The replies were worked out by hand from the tables.
+//! Legal journals: each cell of the tables of blocks, elements and latches, and calls of several events; and events that the
+//! machine does not admit. The replies were worked out by hand from the tables.
 
 ghost use Rattle.std.specs.Prelude.{◌≤◌, IsTrue, All};
 ghost use Rattle.mv_machine.specs.Limits.{highest_place};
@@ -12,9 +12,10 @@ use mv_entrytext::{Journal, read_journal, write_journal, write_old_journal};
 use mv_io::NoMemory;
 use mv_machine::{Entry, HIGHEST_PLACE, replay};
 
-// Two callers, three blocks of callers 0, 0 and 1, and an exit from block 0 to block 1. The events stand from line 14 on: on block 0 each
-// operation in each state; on element 1 each operation in each phase, and with a generation that is not the current one; on a volume; and
-// on the latch, where a shared request does not pass an exclusive one, and a purge takes out granted and waiting requests.
+// Two callers, three blocks of callers 0, 0 and 1, and an exit from block 0 to block 1. The events begin on line 14: on block
+// 0, each operation in each state; on element 1, each operation in each phase, and with a generation that is not the current
+// one; on a volume; and on the latch, where a shared request does not pass an exclusive one, and a purge takes out granted and
+// waiting requests.
 const CELLS: &str = "\
 JOURNAL 1
 CALLERS 2
@@ -123,8 +124,9 @@ EVENTS
 END 91
 ";
 
-// What the machine has no answer to: a caller that there is none of, a block of another, an exit of no block, an element of another, a
-// volume and a latch that there is none of, a second request that is to be posted, a post to a block of another, and a third request.
+// Events that the machine does not admit: by a caller that does not exist, on a block of another caller, with an exit that does
+// not exist, on an element of another caller, on a volume that does not exist, a second request of the Posted form, on a latch
+// that does not exist, a request that posts a block of another caller, and a third request.
 const UNANSWERED: &str = "\
 10 ILLEGAL AT LINE 14|0 E0 0 TEST = WORD 0|2 E0 0 TEST = WORD 0
 10 ILLEGAL AT LINE 17|0 E0 3 ARM = ARMED|1 E0 3 ARM = ARMED
@@ -143,7 +145,8 @@ fn each_cell_of_the_table(rt: HostRuntime) {
     assert_forged(&rt, CELLS, UNANSWERED);
 }
 
-// A post that runs an exit; a release and a pause behind it, as a transfer has them; and a pause behind a release that was refused.
+// A post that starts an exit; a release and a pause after it, as a transfer makes them; and a pause after a release that was
+// refused.
 const CALLS: &str = "\
 JOURNAL 2
 CALLERS 2
@@ -172,7 +175,7 @@ EVENTS
 END 11
 ";
 
-// Exits, and no event.
+// Exits, and no events.
 const EXITS: &str = "\
 JOURNAL 2
 CALLERS 1
@@ -190,7 +193,7 @@ EVENTS
 END 0
 ";
 
-// No block, and no event.
+// No blocks, and no events.
 const NO_EVENT: &str = "\
 JOURNAL 1
 CALLERS 1
@@ -203,7 +206,8 @@ EVENTS
 END 0
 ";
 
-// Each operation and each reply, with numbers at the ends of their ranges. The machine has no answer to the first: it has no such caller.
+// Each operation and each reply, with numbers at the ends of their ranges. The machine does not admit the first event, whose
+// caller does not exist.
 const RANGES: &str = "\
 JOURNAL 1
 CALLERS 1
@@ -258,7 +262,7 @@ fn are_low(entries: &[Entry]) -> bool
     entries.iter().all(|e| e.place <= HIGHEST_PLACE)
 }
 
-// What was read is legal, and its text in version 2 is this.
+// Asserts that the journal that was read is legal, and that its text in version 2 is this one.
 fn assert_converted(rt: &impl Abort, alloc: Global, journal: &Journal, text: &[u8]) {
     assert!(rt; are_low(&journal.entries));
     assert!(rt; journal.entries.len() < 4_294_967_296);
@@ -271,14 +275,14 @@ fn assert_converted(rt: &impl Abort, alloc: Global, journal: &Journal, text: &[u
     assert_bytes(rt, &written, text, "in version 2");
 }
 
-// The text in version 1 of what was read.
+// Returns the text in version 1 of a journal that was read.
 fn written_again(alloc: Global, journal: &Journal) -> Result<Vec<u8>, NoMemory>
     requires { HasJournal journal.now.config journal.now.entries.items }
 {
     write_old_journal(alloc, &journal.config, &journal.entries)
 }
 
-// A text is read, and written in version 1: that is this one.
+// Asserts that a text is read, and that the same journal in version 1 is the text `old`.
 fn assert_written_again(rt: &impl Abort, alloc: Global, text: &[u8], old: &[u8]) {
     assert!(rt; text.len() < 10_000);
     let Ok(journal) = read_journal(alloc, text) else {
@@ -290,7 +294,7 @@ fn assert_written_again(rt: &impl Abort, alloc: Global, text: &[u8], old: &[u8])
     assert_bytes(rt, &written, old, "in version 1");
 }
 
-// The numbers that were read are those of the calls, as mv_calls has them for those who have no text.
+// Asserts that the call numbers that were read are those that mv_calls computes for a list of entries.
 fn assert_numbered(rt: &impl Abort, alloc: Global, journal: &Journal) {
     assert!(rt; are_low(&journal.entries) && journal.entries.len() < 100);
     assert!(rt; journal.calls.len() == journal.entries.len());
@@ -302,7 +306,7 @@ fn assert_numbered(rt: &impl Abort, alloc: Global, journal: &Journal) {
     assert!(rt; numbers.as_slice() == journal.calls.as_slice());
 }
 
-// A text of version 2 is read, and its numbers are those of the calls.
+// Asserts that a text of version 2 is read, and that its call numbers are right.
 fn assert_calls_read(rt: &impl Abort, alloc: Global, text: &[u8]) {
     assert!(rt; text.len() < 1000);
     let Ok(journal) = read_journal(alloc, text) else {

@@ -1,10 +1,11 @@
-//! Decks whose tasks are polled: they come to what tasks on threads come to, and each run from one seed is the same.
+//! Decks whose tasks are polled: they have the same outcome as tasks on threads, and all runs from one seed are the same.
 
 use super::*;
 use mv_deck::load_deck;
 
 // One initiator and no job, from seed 0. The picks are the reader, the initiator, the writer, the initiator, the scheduler, the
-// initiator: the initiator says that it is idle before the scheduler waits for that. The reader and the writer have no event.
+// initiator: the initiator reports that it is idle before the scheduler waits for that. The reader and the writer have no
+// event.
 const NO_JOB_JOURNAL: &str = "\
 JOURNAL 2
 CALLERS 4
@@ -30,8 +31,9 @@ EVENTS
 END 9
 ";
 
-// The same from seed 1. The picks are the scheduler, the initiator, the writer, the scheduler, the initiator, the reader: the
-// scheduler waits before the initiator says that it is idle, so the arm answers ARMED, and the post answers WOKE.
+// One initiator and no job, from seed 1. The picks are the scheduler, the initiator, the writer, the scheduler, the initiator,
+// the reader: the scheduler waits before the initiator reports that it is idle, so the arm gets the reply ARMED, and the post
+// gets WOKE.
 const NO_JOB_JOURNAL_OF_SEED_1: &str = "\
 JOURNAL 2
 CALLERS 4
@@ -57,7 +59,7 @@ EVENTS
 END 9
 ";
 
-// Rows of decks, polled from the seed 5 on.
+// Asserts rows of decks, polled from seed 5.
 fn assert_polled<X: Abort + AllocGlobal + Threads + Wait + Clock + Sync>(rt: &X, rows: &str) {
     let mut text = made(rt, rows.replace(rt.alloc(), "spool 1\n", "polled 1 5\n"));
     text = made(rt, text.replace(rt.alloc(), "spool 2\n", "polled 2 5\n"));
@@ -79,7 +81,7 @@ fn decks_are_polled(rt: HostRuntime) {
     assert_polled(&rt, FAULTY_DECKS);
 }
 
-// The empty deck, polled from this seed on, has the journal that the seed's order of tasks gives.
+// Asserts that the empty deck, polled from this seed, has the journal that the seed's order of tasks gives.
 fn assert_no_job<X: Abort + AllocGlobal + Threads + Wait + Clock + Sync>(
     rt: &X,
     words: &str,
@@ -96,7 +98,7 @@ fn a_seed_gives_the_order_of_the_tasks(rt: HostRuntime) {
     assert_no_job(&rt, "polled 1 1", NO_JOB_JOURNAL_OF_SEED_1);
 }
 
-// A run of this deck.
+// Runs this deck by polls.
 fn polled<X: Abort + AllocGlobal + Threads + Wait + Clock + Sync>(rt: &X, deck: &[u8]) -> Streams {
     let mut on = streams_over(rt, deck);
     let status = run(rt, "polled 4 7", &mut on);
@@ -104,7 +106,7 @@ fn polled<X: Abort + AllocGlobal + Threads + Wait + Clock + Sync>(rt: &X, deck: 
     on
 }
 
-// One more run of this deck writes the same report and the same journal.
+// Asserts that one more run of this deck writes the same report and the same journal.
 fn assert_again<X: Abort + AllocGlobal + Threads + Wait + Clock + Sync>(
     rt: &X,
     deck: &[u8],

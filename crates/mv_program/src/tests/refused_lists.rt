@@ -1,5 +1,5 @@
-//! Lists and a text that the calls of the library refuse, each with its refusal: no clause tells a refusal from a want of memory.
-//! The list has two entries, and its values were worked out by hand.
+//! Lists and a text that the library's calls refuse, each with its refusal, since no clause distinguishes a refusal from
+//! running out of memory. The list has two entries, whose values were worked out by hand.
 
 ghost use Rattle.std.specs.Prelude.{◌≤◌, IsTrue, All};
 ghost use Rattle.mv_machine.specs.Limits.{highest_place};
@@ -39,7 +39,7 @@ fn two_calls(rt: &impl Abort, alloc: Global) -> Journal {
     journal
 }
 
-// The text ends within its last line, its twelfth.
+// The text ends within its last line, the twelfth.
 #[test]
 fn a_text_that_is_cut_is_refused_there(rt: HostRuntime) {
     let cut = read_journal(rt.alloc(), &TWO_CALLS[..TWO_CALLS.len() - 1]);
@@ -51,7 +51,7 @@ fn a_text_that_is_cut_is_refused_there(rt: HostRuntime) {
     );
 }
 
-// The second entry is of call 1, and not 7.
+// The second entry is of call 1, and not of call 7.
 #[test]
 fn a_list_is_refused_at_its_first_wrong_number(rt: HostRuntime) {
     let alloc = rt.alloc();

@@ -1,8 +1,8 @@
-//! Scripts whose tasks meet in an order that the schedule decides. What their answers can be was worked out by hand.
+//! Scripts whose tasks meet in an order that the schedule decides. Their possible answers were worked out by hand.
 
 use super::*;
 
-// The answers of a script whose tasks' order the schedule decides. Its journal has this piece.
+// Runs a script whose tasks' order the schedule decides, and returns its answers. Its journal has this piece.
 fn answers_of<X: Abort + AllocGlobal + Threads + Wait + Clock + Sync>(
     rt: &X,
     script: &str,
@@ -22,7 +22,7 @@ fn text_of<X: Abort + AllocGlobal>(rt: &X, bytes: &[u8]) -> String {
     made(rt, String::from_str(rt.alloc(), text))
 }
 
-// Two tasks that wait for each other's posts, and of which one may wait for the latch that the other holds.
+// Two tasks wait for each other's posts, and one of them may wait for the latch that the other holds.
 const PAIR: &str = "\
 SCRIPT 2
 ECB 1
@@ -48,7 +48,7 @@ fn two_tasks_wait_for_each_other(rt: HostRuntime) {
     assert!(rt; answers.ends_with("\n1 3 GRANTED\n"));
 }
 
-// A task waits for a block that another posts.
+// A task waits for a block that another task posts.
 const ONE_WAITS: &str = "\
 SCRIPT 2
 ECB 0
@@ -70,7 +70,7 @@ fn a_task_waits_for_another(rt: HostRuntime) {
     assert_text(&rt, answers.as_bytes(), expected, ONE_WAITS);
 }
 
-// A task pauses, and another releases its element once that is in use.
+// A task pauses, and another task releases the element once it is in use.
 const ONE_PAUSES: &str = "\
 SCRIPT 2
 ECB 1
@@ -92,7 +92,7 @@ fn a_pause_is_given_the_code_of_its_release(rt: HostRuntime) {
     assert!(rt; answers.ends_with(" EARLY\n") || answers.ends_with(" WOKE\n"));
 }
 
-// Of sixteen posts of one block by two tasks one is taken, and each other is told its code.
+// Of sixteen posts of one block by two tasks one is taken, and every other one gets its code.
 const POSTS_OF_ONE_BLOCK: &str = "\
 SCRIPT 2
 ECB 0
@@ -117,7 +117,7 @@ POST 0 18
 END
 ";
 
-// A text has this piece so many times.
+// Asserts that a text has this piece this many times.
 fn assert_times<X: Abort>(rt: &X, text: &str, piece: &str, times: u64) {
     assert_count(rt, text.matches(piece).count() as u64, times, piece);
 }

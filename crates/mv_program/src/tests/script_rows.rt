@@ -1,5 +1,5 @@
-//! Scripts of each service; those that ask for what is not theirs, what is over, or more than there is; and some with a fault. Their
-//! answers were worked out by hand.
+//! Scripts of each service; scripts whose calls use what is another task's, what is over, or more than there is; and scripts
+//! with a fault. Their answers were worked out by hand.
 
 use super::*;
 
@@ -366,8 +366,8 @@ END
 END 21
 ";
 
-// Calls on blocks and elements of others, and on blocks that are extended; and lists of a wait that are none. Of two reasons to
-// refuse a call the first is told.
+// Calls on blocks and elements of other tasks, and on blocks that are extended; and invalid lists of a wait. If there are two
+// reasons to refuse a call, the answer is the first.
 const OTHERS: &str = "\
 script
 SCRIPT 2
@@ -477,8 +477,8 @@ END
 END 0
 ";
 
-// Tokens and codes at their ends: what is over is SPENT, a code that reaches nobody is lost with its element, and the highest
-// codes are codes.
+// Tokens and codes at the ends of their ranges: a token that is over is SPENT, a code that reaches no pause is lost with its
+// element, and the highest codes are valid.
 const OVER: &str = "\
 script
 SCRIPT 1
@@ -568,7 +568,7 @@ END
 END 7
 ";
 
-// Requests that are purged as they wait, and quotas that are used up.
+// Requests that are purged while they wait, and quotas that are used up.
 const REQUESTS: &str = "\
 script
 SCRIPT 1
@@ -703,7 +703,7 @@ END
 END 18
 ";
 
-// Codes of posts and releases that are one too high, and others.
+// Codes of posts and releases that are one too high, and other faults.
 const FAULTS: &str = "\
 script
 SCRIPT 1
