@@ -1,4 +1,4 @@
--- How contracts see a board.
+-- What contracts see of a board, and its invariant.
 use Rattle.std.specs.Prelude.{◌≡◌, ◌≤◌, [], vec_capacity}
 use Rattle.mv_machine.specs.Check.{IsValid}
 use Rattle.mv_machine.specs.Room.{IsRoomFor}
@@ -6,11 +6,12 @@ use Rattle.mv_board.specs.declared.board.Board.TheInside.{Inside}
 use Rattle.mv_board.specs.Faces.{BoardFace}
 use Rattle.mv_board.specs.Words.{word_count}
 
--- its table, and the configuration that it was opened with
+-- a board's table, and the configuration that it was opened with
 abbrev pub board_of : Inside → BoardFace
 board_of b = record { table = b.table.shared.table_id; config = b.config }
 
--- its table is of its configuration, with a word for each object and a slot for the lists, and what `close` uses is there
+-- the invariant of a board: its table is that of its configuration, with a word for each object and one slot for the lists; and
+-- `close` has the room that it needs for the history and for the callers' logs
 pub record IsOpen (b : Inside) : Type 0 where
   pub key : b.table.shared.key ≡ b.config
   pub valid : IsValid b.config

@@ -1,4 +1,4 @@
--- How contracts see a caller.
+-- What contracts see of a caller, and its invariant.
 use Rattle.std.specs.Prelude.{◌≡◌, ◌*◌, ◌<◌, ◌≤◌, [], ◌∷◌, vec_capacity}
 use Rattle.std.specs.List.{AllByRecursion}
 use Rattle.mv_machine.specs.Limits.{events_limit}
@@ -7,7 +7,7 @@ use Rattle.mv_board.specs.declared.caller.Caller.TheInside.{Inside}
 use Rattle.mv_board.specs.Faces.{CallerFace, last_of, part_of}
 use Rattle.mv_board.specs.View.{own}
 
--- what its seat and its log say of it
+-- what a caller's seat, events and log say of it
 abbrev pub face_of : Inside → CallerFace
 face_of i = record {
   table = i.seat.table_id;
@@ -23,8 +23,9 @@ face_of i = record {
   ready = i.seat.me.0.ready;
 }
 
--- the seat holds nothing, and knows the caller alone, with its log, which has room for all its events. There is room for all wakes.
--- There is such a caller, and no caller has more events left than all have together
+-- the invariant of a caller: between its calls the seat has taken nothing out of a slot and does not hold the turn, and its view
+-- has the part of this caller only. The log has room for all events that are left, and `wakes` for all wakes of an event; `wakes`
+-- is the last element of the told list. The configuration has such a caller, and at most `events_limit` events are left to it
 pub record IsSeated (i : Inside) : Type 0 where
   pub empty : i.seat.me.1 ≡ []
   pub parts : i.seat.me.0.parts ≡ part_of (face_of i) ∷ []

@@ -1,4 +1,4 @@
--- How contracts see a board that ends.
+-- What contracts see of a board that ends, and its invariant.
 use Rattle.std.specs.Prelude.{◌≡◌, ◌≤◌, List, [], map, vec_capacity, Option, Some, None}
 use Rattle.atomic_table.specs.declared.shared.Seat.{Seat}
 use Rattle.atomic_table.specs.Seated.{TableId}
@@ -11,7 +11,7 @@ use Rattle.mv_board.specs.declared.view.View.{View}
 use Rattle.mv_board.specs.Faces.{ClosingFace, AreNumbered, log_of}
 use Rattle.mv_board.specs.Words.{word_count}
 
--- the parts that a seat holds, if there is one
+-- the parts in a seat's view; none if there is no seat
 abbrev pub held : Option (Seat Item View) → List Part
 held None = []
 held (Some seat) = seat.me.0.parts
@@ -20,13 +20,13 @@ held (Some seat) = seat.me.0.parts
 abbrev pub closing_of : Inside → ClosingFace
 closing_of b = record { board = record { table = b.table.shared.table_id; config = b.config }; back = held b.seat }
 
--- a seat, if there is one, is of this table
+-- the seat, if there is one, is of this table
 abbrev pub IsSeatAt : TableId → Option (Seat Item View) → Type 0
 IsSeatAt t None = Unit {0}
 IsSeatAt t (Some seat) = seat.table_id ≡ t
 
--- The table is of the configuration, and the room for the merge is there. The logs are those of the callers
--- that came back, which are numbered from 0 on, and there is room for all of them.
+-- The invariant of a board that ends: the table is that of the configuration, and the room for the merge is there. The callers
+-- that came back are numbered from 0 on. `logs` has their logs, and room for those of all callers.
 pub record IsClosing (b : Inside) : Type 0 where
   pub key : b.table.shared.key ≡ b.config
   pub valid : IsValid b.config

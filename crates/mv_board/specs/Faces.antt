@@ -1,5 +1,5 @@
--- What contracts see of a board and of a caller, and what a call makes of a caller. A board is b, a configuration c, a caller's number k,
--- and a caller's face f, or g behind a call.
+-- What contracts see of a board and of a caller, and how a call changes a caller. Here b is a board, c a configuration, k a
+-- caller's number, f a caller before a call, and g the same caller after it.
 use Rattle.std.specs.Prelude.{◌≡◌, ◌≢◌, ℕ, suc, ◌+◌, ◌<◌, Bool, true, false, List, [], ◌∷◌, ◌++◌, length, slice_index, Some, if◌then◌else◌}
 use Rattle.std.specs.List.{AllByRecursion, Contains}
 use Rattle.atomic_table.specs.Seated.{TableId}
@@ -36,39 +36,39 @@ use Rattle.mv_machine.specs.Kept.{HasMade}
 use Rattle.mv_board.specs.Steps.{AreAt, is_ready}
 use Rattle.mv_board.specs.View.{off}
 
--- what contracts see of a board: which table it is, and its configuration
+-- what contracts see of a board: the id of its table, and its configuration
 pub record BoardFace : Type 0 where
   pub table : TableId
   pub config : Setup
 
--- and of a caller: which table it has its seat at, and what it did, was told and met
+-- what contracts see of a caller: the table at which it has its seat, the configuration, its number, and what it did and observed
 pub record CallerFace : Type 0 where
   pub table : TableId
   pub about : List Setup
   pub number : ℕ
-  -- the events that it may still make, and the entries that its log takes without memory
+  -- the number of events that it may still make, and the number of entries for which its log has room
   pub left : ℕ
   pub room : ℕ
-  -- its entries, what it was told after each of those on the latch set, and the last of that
+  -- its entries, the wakes that each of its events on the latch set showed it, and the last of these
   pub log : List Entry
   pub told : List (List Wake)
   pub wakes : List Wake
-  -- each word that it found, and the lists that it gave back without an event
+  -- each word that it read without an event, the lists that it gave back without an event, and the watches that it saw ready
   pub met : List Sight
   pub returned : List (List (List Request))
   pub ready : List Watch
 
--- the caller is of this board
+-- the caller is one of this board
 abbrev pub IsOf : BoardFace → CallerFace → Type 0
 IsOf b f = (f.table ≡ b.table) × (f.about ≡ b.config ∷ [])
 
--- the same caller of the same board
+-- f and g are the same caller of the same board
 pub record IsSame (f g : CallerFace) : Type 0 where
   pub table : g.table ≡ f.table
   pub about : g.about ≡ f.about
   pub number : g.number ≡ f.number
 
--- a caller of a new board, with room for all its events
+-- f is caller k of a new board, with all its events left and room for their entries
 pub record IsFresh (b : BoardFace) (k : ℕ) (f : CallerFace) : Type 0 where
   pub board : IsOf b f
   pub number : f.number ≡ k
@@ -81,22 +81,23 @@ pub record IsFresh (b : BoardFace) (k : ℕ) (f : CallerFace) : Type 0 where
   pub returned : f.returned ≡ []
   pub ready : f.ready ≡ []
 
--- the callers of a new board, in order from number k on
+-- these are the callers of a new board, in order from number k on
 abbrev pub AreFresh : BoardFace → ℕ → List CallerFace → Type 0
 AreFresh b k [] = Unit {0}
 AreFresh b k (f ∷ fs) = IsFresh b k f × AreFresh b (suc k) fs
 
--- what an event shows: one on the latch set its wakes, and any other nothing
+-- what an event shows its caller: an event on the latch set shows its wakes, any other shows nothing
 abbrev pub Shows : Object → CallerFace → CallerFace → Type 0
 Shows Latches f g = g.told ≡ f.told ++ g.wakes ∷ []
 Shows o f g = (g.told ≡ f.told) × (g.wakes ≡ f.wakes)
 
--- what an event meets on its way: words of its own object alone, and on the latch set none. What was met before stays
+-- the words that an event reads before it takes effect: only words of its own object, and none on the latch set; words read
+-- earlier stay recorded
 abbrev pub LooksAt : Object → CallerFace → CallerFace → Type 0
 LooksAt Latches f g = g.met ≡ f.met
 LooksAt o f g = (more : List Sight) × (g.met ≡ f.met ++ more) × AreAt o (length f.log) more
 
--- One event of the caller, at this place, which is above those that it had at the object.
+-- The caller made one event at this place, which is above the places of its earlier events on the object, and no other event.
 pub record HappenedAt (f : CallerFace) (o : Object) (place : ℕ) (op : Op) (reply : Reply) (g : CallerFace) : Type 0 where
   pub same : IsSame f g
   pub above : IsBelow o place f.log
@@ -108,11 +109,12 @@ pub record HappenedAt (f : CallerFace) (o : Object) (place : ℕ) (op : Op) (rep
   pub returned : g.returned ≡ f.returned
   pub ready : g.ready ≡ off o op f.ready
 
--- the same, at some place
+-- the caller made one event, at some place
 abbrev pub Happened : CallerFace → Object → Op → Reply → CallerFace → Type 0
 Happened f o op reply g = (place : ℕ) × HappenedAt f o place op reply g
 
--- The caller found the word at the object, and that is all. The word is one of the object's, above those of its log.
+-- The caller read the word w of the object, and made no event. The word's place is above those of the caller's own events on that
+-- object. What becomes of `ready` is left to the definitions that use this one.
 pub record Found (f : CallerFace) (o : Object) (w : ℕ) (g : CallerFace) : Type 0 where
   pub same : IsSame f g
   pub place : ℕ
@@ -127,8 +129,8 @@ pub record Found (f : CallerFace) (o : Object) (w : ℕ) (g : CallerFace) : Type
   pub wakes : g.wakes ≡ f.wakes
   pub returned : g.returned ≡ f.returned
 
--- an exchange that was made, and met nothing before: the entry has the place that the expected word has, and the reply that its
--- state gives
+-- an exchange that succeeded: the event has the place that is packed in the expected word and the reply to the state in it, and
+-- the caller read no other word before it
 pub record Exchanged (f : CallerFace) (o : Object) (op : Op) (expected : ℕ) (reply : Reply) (g : CallerFace) : Type 0 where
   pub place : ℕ
   pub state : WordState
@@ -137,32 +139,33 @@ pub record Exchanged (f : CallerFace) (o : Object) (op : Op) (expected : ℕ) (r
   pub happened : HappenedAt f o place op reply g
   pub met : g.met ≡ f.met
 
--- one that found another word
+-- an exchange that failed: the caller read another word than the expected one
 pub record Missed (f : CallerFace) (o : Object) (expected : ℕ) (moved : Moved) (g : CallerFace) : Type 0 where
   pub other : moved.0 ≢ expected
   pub found : Found f o moved.0 g
   pub ready : g.ready ≡ f.ready
 
--- ---- looks for what a caller waits for
+-- ---- looks at what a caller waits for
 
--- the caller may wait for it: its own block, its own element, or a request that it made
+-- the caller may watch this: its own block, its own element, or a request that it made
 abbrev pub MayWatch : Setup → CallerFace → Watch → Type 0
 MayWatch c f (watch.Ecb n) = (n < length c.owners) × (owner_of c n ≡ f.number)
 MayWatch c f (watch.Element n) = (n < element_count c) × (element_owner c n ≡ f.number)
 MayWatch c f (watch.Latch latch id) = HasMade latch id f.log
 
--- what is ready is listed
+-- the listed watches, with this one appended if it is ready
 abbrev pub with_watch : Bool → Watch → List Watch → List Watch
 with_watch is w ws = if is then ws ++ w ∷ [] else ws
 
--- an object's word was looked at: it says whether its state is ready
+-- the caller read the object's word, and the answer says whether the state in it is ready
 pub record PeekedAt (f : CallerFace) (o : Object) (w : Watch) (is : Bool) (g : CallerFace) : Type 0 where
   pub word : ℕ
   pub found : Found f o word g
   pub answer : is ≡ is_ready found.state
   pub ready : g.ready ≡ with_watch is w f.ready
 
--- the lists of the latch set were looked at, and given back: they say whether the request no longer waits
+-- the caller took the lists of the latch set and gave them back unchanged, and the answer says whether the request no longer
+-- waits
 pub record PeekedIn (f : CallerFace) (latch id : ℕ) (is : Bool) (g : CallerFace) : Type 0 where
   pub lists : List (List Request)
   pub answer : is ≡ is_settled (confirm_reply f.number id (list_of lists latch))
@@ -176,31 +179,31 @@ pub record PeekedIn (f : CallerFace) (latch id : ℕ) (is : Bool) (g : CallerFac
   pub wakes : g.wakes ≡ f.wakes
   pub met : g.met ≡ f.met
 
--- a look for what a watch names
+-- the caller looked at what a watch names
 abbrev pub Peeks : CallerFace → Watch → Bool → CallerFace → Type 0
 Peeks f (watch.Ecb n) is g = PeekedAt f (Ecb n) (watch.Ecb n) is g
 Peeks f (watch.Element n) is g = PeekedAt f (Element n) (watch.Element n) is g
 Peeks f (watch.Latch latch id) is g = PeekedIn f latch id is g
 
--- ---- what a listed watch promises
+-- ---- what a listed watch promises of the reply
 
--- the pause was given its code
+-- whether a reply says that the pause was given its code
 abbrev pub is_given : Reply → Bool
 is_given (reply_of.Element (Given code next)) = true
 is_given _ = false
 
--- the block is complete
+-- whether a reply says that the block is complete
 abbrev pub is_complete_reply : Reply → Bool
 is_complete_reply (reply_of.Ecb (ecb_reply.Complete code)) = true
 is_complete_reply _ = false
 
--- the request no longer waits
+-- whether a reply says that the request no longer waits
 abbrev pub is_settled_reply : Reply → Bool
 is_settled_reply (reply_of.Latch r) = is_settled r
 is_settled_reply _ = false
 
--- While its watch is listed a block is answered Complete to its Settle, an element Given to the Resume of the pause that parked,
--- and a request Granted or Gone to its Confirm.
+-- If the watch of the object is listed, the reply is as it promises: Complete to the Settle of a block, Given to the Resume of
+-- the pause of an element that parked, and Granted or Gone to the Confirm of a request.
 abbrev pub IsAsListed : CallerFace → Object → Op → Reply → Type 0
 IsAsListed f (Ecb n) (op_on.Ecb ecb_op.Settle) r = Contains f.ready (watch.Ecb n) → is_complete_reply r ≡ true
 IsAsListed f (Element n) (op_on.Element (element_op.Resume g)) r = Contains f.ready (watch.Element n) → parked n f.log ≡ Some g
@@ -208,7 +211,7 @@ IsAsListed f (Element n) (op_on.Element (element_op.Resume g)) r = Contains f.re
 IsAsListed f Latches (op_on.Latch (Confirm latch id)) r = Contains f.ready (watch.Latch latch id) → is_settled_reply r ≡ true
 IsAsListed f o op r = Unit {0}
 
--- the last of some lists of wakes; none where there is none
+-- the last of these lists of wakes; empty if there is none
 abbrev pub last_of : List (List Wake) → List Wake
 last_of [] = []
 last_of (ws ∷ []) = ws
@@ -216,7 +219,7 @@ last_of (ws ∷ more ∷ rest) = last_of (more ∷ rest)
 
 -- ---- the end of a board
 
--- callers of this board, in order from number k on
+-- these are callers of this board, in order from number k on
 abbrev pub AreInOrder : BoardFace → ℕ → List CallerFace → Type 0
 AreInOrder b k [] = Unit {0}
 AreInOrder b k (f ∷ fs) = IsOf b f × (f.number ≡ k) × AreInOrder b (suc k) fs
@@ -225,30 +228,31 @@ AreInOrder b k (f ∷ fs) = IsOf b f × (f.number ≡ k) × AreInOrder b (suc k)
 abbrev pub part_of : CallerFace → Part
 part_of f = record { caller = f.number; left = f.left; log = f.log; told = f.told; sights = f.met }
 
--- its entries alone
+-- the log in a part
 abbrev pub log_of : Part → List Entry
 log_of p = p.log
 
--- a board that ends, and what it keeps of the callers that came back so far, in order
+-- what contracts see of a board that ends: the board, and the parts of the callers that came back so far, in order
 pub record ClosingFace : Type 0 where
   pub board : BoardFace
   pub back : List Part
 
--- they have the numbers from k on
+-- the callers of these parts have the numbers from k on, in order
 abbrev pub AreNumbered : ℕ → List Part → Type 0
 AreNumbered k [] = Unit {0}
 AreNumbered k (p ∷ ps) = (p.caller ≡ k) × AreNumbered (suc k) ps
 
--- what a caller did, was told and met is so in the history
+-- the log and the told list of a part are its caller's in the history, and each word that the caller read was the object's
+-- between the caller's entries on that object
 pub record IsPartIn (c : Setup) (history : List Entry) (p : Part) : Type 0 where
   pub logged : of p.caller history ≡ p.log
   pub told : told c p.caller history ≡ p.told
   pub met : AllByRecursion (λ m. Had c history p.caller m.after m.object m.word) p.sights
 
--- the same of a caller
+-- the log, the told list and the words of a caller are its own in the history
 abbrev pub IsIn : Setup → List Entry → CallerFace → Type 0
 IsIn c history f = IsPartIn c history (part_of f)
 
--- the numbers are those that the volumes of a configuration hold
+-- these are the numbers in the volumes of the configuration
 abbrev pub AreHeld : Setup → System → List ℕ → Type 0
 AreHeld c s numbers = (volume : ℕ) → volume < c.volumes → slice_index numbers volume ≡ (s.volume volume).state

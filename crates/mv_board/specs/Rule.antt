@@ -1,6 +1,6 @@
--- The one rule. At every moment, between any two steps of any threads, there is one legal history: the merge of the
--- callers' logs that the views hold. The words and the lists of the latch set are what it leads to, and each view's parts
--- are its callers' parts of it.
+-- The rule of the table, an inductive invariant. Between any two steps of any threads there is one legal history: the merge of
+-- the callers' logs that the views hold. The words, and the lists of the latch set, are what this history leads to, and each part
+-- in a view is its caller's part of this history.
 use Rattle.std.specs.Prelude.{◌≡◌, ℕ, zero, suc, ◌+◌, ◌<◌, ◌≤◌, ◌==◌, true, ◌⊎◌, List, [], ◌∷◌, ◌++◌, length, slice_index}
 use Rattle.std.specs.Prelude.{if◌then◌else◌}
 use Rattle.std.specs.List.{AllByRecursion}
@@ -34,21 +34,21 @@ use Rattle.mv_board.specs.Words.{HasWord, word_number, word_count, turn_word}
 
 -- ---- sums over the views
 
--- the sum over all views
+-- the sum of f over all views
 abbrev pub tally : (View → ℕ) → List View → ℕ
 tally f [] = 0
 tally f (v ∷ vs) = f v + tally f vs
 
--- how many parts of a view are this caller's
+-- how many of these parts are of caller k
 abbrev pub holders_in : ℕ → List Part → ℕ
 holders_in k [] = 0
 holders_in k (p ∷ ps) = (if p.caller == k then 1 else 0) + holders_in k ps
 
--- how many parts of a view are of this caller
+-- how many parts of a view are of caller k
 abbrev pub holders : ℕ → View → ℕ
 holders k v = holders_in k v.parts
 
--- how many callers were made so far, and how many seats hold the turn
+-- how many callers were made so far
 abbrev pub made : List View → ℕ
 made vs = tally (λ v. v.made) vs
 
@@ -58,17 +58,17 @@ turns vs = tally (λ v. length v.turn) vs
 
 -- ---- the history, read off the views
 
--- the parts of all views
+-- the parts of all views together
 abbrev pub all_parts : List View → List Part
 all_parts [] = []
 all_parts (v ∷ vs) = v.parts ++ all_parts vs
 
--- a caller's log. A caller that was not made yet has none
+-- the log of caller k in these parts; empty if it has no part, as before the caller is made
 abbrev pub log_in : ℕ → List Part → List Entry
 log_in k [] = []
 log_in k (p ∷ ps) = if p.caller == k then p.log else log_in k ps
 
--- the log of each of n callers, from caller k on, as the views have it
+-- the logs of n callers from caller k on, as the views have them
 abbrev pub logs_from : ℕ → ℕ → List View → List (List Entry)
 logs_from k zero vs = []
 logs_from k (suc n) vs = log_in k (all_parts vs) ∷ logs_from (suc k) n vs
@@ -79,20 +79,21 @@ history_of c vs = merged (logs_from 0 c.callers vs)
 
 -- ---- what the views hold of a history
 
--- a caller's log and told list are its part of the history, its budget is used up by its events, and each word that it met
--- was had
+-- a caller's log and told list are its part of the history, its budget is the events in its log and those left, and each word
+-- that it read was the object's between the caller's entries on that object
 pub record IsPart (c : Setup) (h : List Entry) (p : Part) : Type 0 where
   pub logged : p.log ≡ of p.caller h
   pub shown : p.told ≡ told c p.caller h
   pub budget : length p.log + p.left ≡ slice_index c.budgets p.caller
   pub had : AllByRecursion (λ m. Had c h p.caller m.after m.object m.word) p.sights
 
--- a view that counts the callers has their number, and each of its parts is one
+-- what a view says is so: if it counts the callers, its count is the number of callers made, and each of its parts is one of h
 pub record Knows (c : Setup) (h : List Entry) (callers : ℕ) (v : View) : Type 0 where
   pub counted : 0 < v.made → v.made ≡ callers
   pub parts : AllByRecursion (IsPart c h) v.parts
 
--- Each caller that was made has one part in all the views, and the others have none and no entry.
+-- Each caller that was made has exactly one part in all views, and any other has no part and no entry. The configuration has all
+-- callers that were made, and what each view says is so.
 pub record Logs (c : Setup) (vs : List View) (h : List Entry) : Type 0 where
   pub one : (k : ℕ) → k < made vs → tally (holders k) vs ≡ 1
   pub none_yet : (k : ℕ) → made vs ≤ k → tally (holders k) vs ≡ 0
@@ -102,15 +103,15 @@ pub record Logs (c : Setup) (vs : List View) (h : List Entry) : Type 0 where
 
 -- ---- the latch set's turn
 
--- the lists in the slot, or as a view names them, are these
+-- these lists are the latch set of the history, with its place
 abbrev pub IsLists : Setup → Cell (List (List Request)) → Lists → Type 0
 IsLists c x l = (l.place ≡ x.place) × (l.latches ≡ latches_of c x.state)
 
--- a view names the lists as they are, with their place
+-- a view that holds the turn names the lists as they are in the history, with their place
 abbrev pub IsNamed : Cell (List (List Request)) → Named → Type 0
 IsNamed x t = (t.place ≡ x.place) × (t.lists ≡ x.state)
 
--- The turn's word is 0 and the lists are in the slot, or it is 1 and one view holds the turn and names them.
+-- Either the turn's word is 0 and the lists are in the slot, or it is 1 and exactly one view holds the turn and names the lists.
 pub record Turns (c : Setup) (x : Cell (List (List Request))) (word : ℕ) (homes : List (Option Item)) (vs : List View) : Type 0 where
   pub count : word ≡ turns vs
   pub single : word ≤ 1
@@ -119,25 +120,25 @@ pub record Turns (c : Setup) (x : Cell (List (List Request))) (word : ℕ) (home
 
 -- ---- watches
 
--- a caller's own block is complete, its own element released, its own request granted or gone
+-- what caller k watches is its own and ready: its block is complete, its element is released, or its request is granted or gone
 abbrev pub IsReady : Setup → List Entry → ℕ → Watch → Type 0
 IsReady c h k (watch.Ecb n) = (n < length c.owners) × (owner_of c n ≡ k) × (is_complete ((after c h).ecb n).state ≡ true)
 IsReady c h k (watch.Element n) = (n < element_count c) × (element_owner c n ≡ k) × (is_released ((after c h).element n).state.phase ≡ true)
 IsReady c h k (watch.Latch latch id) = HasMade latch id (of k h) × (IsGranted k latch id (after c h) ⊎ IsGone k latch id (after c h))
 
--- what is listed is the own caller's, and ready. A view without parts lists nothing
+-- each listed watch is ready for the view's own caller; a view without parts lists nothing
 abbrev pub ReadyFor : Setup → List Entry → List Part → List Watch → Type 0
 ReadyFor c h [] ws = ws ≡ []
 ReadyFor c h (p ∷ ps) ws = AllByRecursion (IsReady c h p.caller) ws
 
--- a view with parts has the configuration
+-- a view with parts has the configuration, and one without parts has none
 abbrev pub AboutFor : Setup → List Part → List Setup → Type 0
 AboutFor c [] cs = cs ≡ []
 AboutFor c (p ∷ ps) cs = cs ≡ c ∷ []
 
 -- ---- the rule
 
--- a history stands: it is legal, and the words, the slot and the views are those of it
+-- the history h explains the state of the table: it is legal, and the words, the slot and the views are those that it leads to
 pub record Stands (c : Setup) (s : State Item View) (h : List Entry) : Type 0 where
   pub valid : IsValid c
   pub legal : Legal c h
@@ -149,6 +150,6 @@ pub record Stands (c : Setup) (s : State Item View) (h : List Entry) : Type 0 wh
   pub about : (j : ℕ) (v : View) → get_elem? s.views j ≡ some v → AboutFor c v.parts v.about
   pub idle : (j : ℕ) (v : View) → get_elem? s.views j ≡ some v → v.parts ≡ [] → v.turn ≡ []
 
--- The history is computed: the merge of the logs.
+-- The invariant of the table. It names its history: the merge of the logs.
 abbrev pub Ruled : Setup → State Item View → Type 0
 Ruled c s = Stands c s (history_of c s.views)

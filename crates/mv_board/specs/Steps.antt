@@ -1,4 +1,4 @@
--- What each kind of step tells the seat that makes it.
+-- What each kind of step says of the view of the seat that makes it.
 use Rattle.std.specs.Prelude.{◌≡◌, ◌≢◌, ℕ, ◌<◌, Bool, true, false, List, [], ◌++◌, length, Some, None}
 use Rattle.std.specs.Prelude as std
 use Rattle.std.specs.List.{AllByRecursion, Contains}
@@ -31,29 +31,29 @@ use Rattle.mv_board.specs.Words.{object_of, changed, fits, test_of}
 
 -- ---- what was announced
 
--- the operation that an item announces
+-- the operation that an item announces; a read of a volume if it announces none
 abbrev pub op_said : Item → Op
 op_said (Said op) = op
 op_said _ = op_on.Volume Read
 
--- the same, where an item is announced
+-- the operation that a step announces; a read of a volume if it announces none
 abbrev pub op_of : Option Item → Op
 op_of (some i) = op_said i
 op_of none = op_on.Volume Read
 
--- ---- what a seat knows of itself
+-- ---- what a view says of its own caller
 
--- the own log and told list are possible
+-- the own log and told list occur in some history of the configuration
 abbrev pub PossibleFor : View → Type 0
 PossibleFor v = AllByRecursion (λ c. IsPossible c (own v).caller (own v).log (own v).told) v.about
 
--- whether a state is what a watch of the object waits for
+-- whether a state is what a watch of its object waits for
 abbrev pub is_ready : WordState → Bool
 is_ready (state_of.Ecb s) = is_complete s
 is_ready (state_of.Element s) = is_released s.phase
 is_ready (state_of.Volume n) = false
 
--- the watch of an object that has a word. A volume has none
+-- the watch of a block or an element; a volume and the latch set have none
 abbrev pub watch_of : Object → std.Option Watch
 watch_of (Ecb n) = Some (watch.Ecb n)
 watch_of (Element n) = Some (watch.Element n)
@@ -61,8 +61,9 @@ watch_of _ = None
 
 -- ---- steps on a word
 
--- what a seat learns of a word that it finds: it is one of the object's, its place is above the own ones and leaves room for an
--- event, and what is listed is ready, an element for the pause that parked
+-- What a seat learns of a word that it reads. The word is one of the object's; its place is above those of the caller's own
+-- events on that object, and leaves room for an event if one is left. If the object's watch is listed, the state is ready, and
+-- that of an element is of the generation of the pause that parked.
 pub record Meets (v : View) (o : Object) (w : ℕ) : Type 0 where
   pub place : ℕ
   pub state : WordState
@@ -74,23 +75,23 @@ pub record Meets (v : View) (o : Object) (w : ℕ) : Type 0 where
   pub pause : (n g : ℕ) (s : ElementState) → o ≡ Element n → state ≡ state_of.Element s → Contains v.ready (watch.Element n)
       → parked n (own v).log ≡ Some g → s.generation ≡ g
 
--- a load
+-- a load of a word
 pub record Looked (st : Step Item) (m : Me Item View) (r : ℕ) (n : Me Item View) : Type 0 where
   pub slots : n.1 ≡ m.1
   pub view : n.0 ≡ met (object_of st.word) r m.0
   pub meets : Meets m.0 (object_of st.word) r
 
--- a load that lists the object's watch where it is ready
+-- a load of a word that lists the object's watch if its state is ready
 pub record Peeked (st : Step Item) (m : Me Item View) (r : ℕ) (n : Me Item View) : Type 0 where
   pub slots : n.1 ≡ m.1
   pub meets : Meets m.0 (object_of st.word) r
   pub view : n.0 ≡ listed (is_ready meets.state) (watch_of (object_of st.word)) (met (object_of st.word) r m.0)
 
--- the entry of the own caller's event on a word
+-- the entry of an event of the view's own caller on a word
 abbrev pub entry_of : View → Object → Op → ℕ → Reply → Entry
 entry_of v o op place reply = record { caller = (own v).caller; object = o; place = place; op = op; reply = reply }
 
--- the event was made on this word
+-- the own caller's event took effect on the word r
 pub record Made (v : View) (o : Object) (op : Op) (r : ℕ) (new : View) : Type 0 where
   pub place : ℕ
   pub word : ℕ
@@ -99,30 +100,30 @@ pub record Made (v : View) (o : Object) (op : Op) (r : ℕ) (new : View) : Type 
   pub view : new ≡ logged (entry_of v o op place reply) [] v
   pub possible : PossibleFor new
 
--- an exchange: the event where the word was as expected, and otherwise a look
+-- an exchange of a word: an event if the word was the expected one, otherwise only a look at the word
 pub record Tried (st : Step Item) (m : Me Item View) (r : ℕ) (n : Me Item View) : Type 0 where
   pub slots : n.1 ≡ m.1
   pub meets : Meets m.0 (object_of st.word) r
   pub hit : r ≡ st.first → Made m.0 (object_of st.word) (op_of st.said) r n.0
   pub miss : r ≢ st.first → n.0 ≡ met (object_of st.word) r m.0
 
--- an addition, which is always the event
+-- an addition to a word, which is always an event
 pub record Tested (st : Step Item) (m : Me Item View) (r : ℕ) (n : Me Item View) : Type 0 where
   pub slots : n.1 ≡ m.1
   pub meets : Meets m.0 (object_of st.word) r
   pub event : Made m.0 (object_of st.word) (test_of (object_of st.word)) r n.0
 
--- these were met at the object, when the log was this long
+-- these words were read at the object, when the log had n entries
 abbrev pub AreAt : Object → ℕ → List Sight → Type 0
 AreAt o n sights = AllByRecursion (λ s. (s.object ≡ o) × (s.after ≡ n)) sights
 
--- looks at an object change nothing but what the seat met there
+-- looks at an object's word, which only add what was read to the view v
 pub record LooksOn (v : View) (o : Object) (w : View) : Type 0 where
   pub more : List Sight
   pub there : AreAt o (length (own v).log) more
   pub view : w ≡ record v { parts = with_own (λ p. record p { sights = p.sights ++ more }) v.parts }
 
--- looks, and then the event, on a word that the seat may meet
+-- looks at an object's word, and then an event on a word that the view admits
 pub record MadeAfterLooks (v : View) (o : Object) (op : Op) (place : ℕ) (reply : Reply) (new : View) : Type 0 where
   pub between : View
   pub looks : LooksOn v o between

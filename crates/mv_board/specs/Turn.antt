@@ -1,4 +1,4 @@
--- What each kind of step on the turn of the latch set tells the seat that makes it.
+-- What each kind of step on the turn of the latch set says of the view of the seat that makes it.
 use Rattle.std.specs.Prelude.{◌≡◌, ◌≢◌, ℕ, ◌<◌, ◌≤◌, true, [], ◌∷◌, length, Some}
 use Rattle.std.specs.List.{AllByRecursion, Contains}
 use mathlib.Core.Option.{some}
@@ -23,12 +23,13 @@ use Rattle.mv_board.specs.declared.watch.Watch.TheVariants as watch
 use Rattle.mv_board.specs.Steps.{op_of, PossibleFor}
 use Rattle.mv_board.specs.View.{own, logged, listed, with_turn, with_returned}
 
--- the lists as the view that holds the turn names them
+-- the lists, as the view that holds the turn names them
 abbrev pub named_by : Lists → Named
 named_by l = record { place = l.place; lists = l.latches.lists }
 
--- what a seat learns of the lists that it takes: their place is above the own ones and leaves room for an event, they are the
--- configuration's, one for each latch, what the own entries allow they admit, and what is listed no longer waits
+-- What a seat learns of the lists that it takes. Their place is above those of its own entries, and leaves room for an event if
+-- one is left. There is one list for each latch of the configuration, and each latch of a request that the caller made exists.
+-- The lists admit every operation that the caller's log allows, and a request whose watch is listed no longer waits.
 pub record MeetsLists (v : View) (l : Lists) : Type 0 where
   pub above : IsBelow Latches l.place (own v).log
   pub room : 0 < (own v).left → l.place < events_limit
@@ -41,12 +42,12 @@ pub record MeetsLists (v : View) (l : Lists) : Type 0 where
   pub ready : (latch id : ℕ) → Contains v.ready (watch.Latch latch id)
       → is_settled (confirm_reply (own v).caller id (list_of l.latches.lists latch)) ≡ true
 
--- the turn is taken where it was free, and the lists may be taken out of the slot
+-- an exchange that takes the turn if it is free: the seat may then take the lists out of the slot; otherwise nothing changes
 pub record Took (st : Step Item) (m : Me Item View) (r : ℕ) (n : Me Item View) : Type 0 where
   pub free : r ≡ 0 → (l : Lists) × (n.1 ≡ (0, Held l) ∷ m.1) × (n.0 ≡ with_turn (named_by l ∷ []) m.0) × MeetsLists m.0 l
   pub busy : r ≢ 0 → n ≡ m
 
--- the entry of the own caller's event on the lists that it named
+-- the entry of the caller's event on the lists that its view names
 abbrev pub latch_entry : View → LatchOp → Named → Entry
 latch_entry v op t = record {
   caller = (own v).caller;
@@ -56,14 +57,14 @@ latch_entry v op t = record {
   reply = reply_of.Latch (latch_step (own v).caller t.place op t.lists).1;
 }
 
--- the turn is given back with an event
+-- an exchange that gives the turn back with an event
 pub record Gave (st : Step Item) (m : Me Item View) (r : ℕ) (n : Me Item View) : Type 0 where
   pub slots : n.1 ≡ rest m.1
   pub view : (op : LatchOp) (t : Named) → op_of st.said ≡ op_on.Latch op → m.0.turn ≡ t ∷ []
       → n.0 ≡ with_turn [] (logged (latch_entry m.0 op t) (wakes (own m.0).caller op t.lists ∷ []) m.0)
   pub possible : PossibleFor n.0
 
--- the turn is given back without one, behind a look at one request
+-- an exchange that gives the turn back without an event, after a look at one request
 pub record Returned (st : Step Item) (m : Me Item View) (r : ℕ) (n : Me Item View) : Type 0 where
   pub slots : n.1 ≡ rest m.1
   pub view : (latch id : ℕ) (t : Named) → st.said ≡ some (Sought latch id) → m.0.turn ≡ t ∷ []

@@ -1,4 +1,4 @@
--- The views of the seats: how they begin, are cut, joined and grow.
+-- The views of the seats: how they begin, are split and joined, and how they change with each step.
 use Rattle.std.specs.Prelude.{ℕ, ◌+◌, ◌-◌, ◌==◌, Bool, true, false, not, List, [], ◌∷◌, ◌++◌, length, filter, slice_index, Option, Some}
 use Rattle.mv_latch.specs.declared.operation.Wake.{Wake}
 use Rattle.mv_latch.specs.declared.request.Request.{Request}
@@ -17,35 +17,36 @@ use Rattle.mv_board.specs.declared.watch.Watch.TheVariants as watch
 
 -- ---- parts
 
--- a caller that has done nothing
+-- the part of a caller that has done nothing
 abbrev pub fresh : Setup → ℕ → Part
 fresh c k = record { caller = k; left = slice_index c.budgets k; log = []; told = []; sights = [] }
 
--- the own part, which stands first
+-- the first of these parts: that of the view's own caller
 abbrev pub first_of : List Part → Part
 first_of [] = record { caller = 0; left = 0; log = []; told = []; sights = [] }
 first_of (p ∷ ps) = p
 
--- the part of the caller whose seat it is
+-- the part of the caller whose seat has this view
 abbrev pub own : View → Part
 own v = first_of v.parts
 
--- the own part with an event, and with what was told of it
+-- the own part with one event more, and with what that event showed
 abbrev pub part_logged : Entry → List (List Wake) → Part → Part
 part_logged e shown p = record p { left = p.left - 1; log = p.log ++ e ∷ []; told = p.told ++ shown }
 
--- the own part, which met a word
+-- the own part after its caller read a word
 abbrev pub part_met : Object → ℕ → Part → Part
 part_met o w p = record p { sights = p.sights ++ record { object = o; word = w; after = length p.log } ∷ [] }
 
--- the first part changed
+-- these parts with the first one changed
 abbrev pub with_own : (Part → Part) → List Part → List Part
 with_own f [] = []
 with_own f (p ∷ ps) = f p ∷ ps
 
 -- ---- watches
 
--- an event on an object takes its watch off, and one on the latch set that is no obtain all latch watches
+-- whether an event takes a watch off the list: an event on a block or an element takes off the watch of that object, and one on
+-- the latch set other than Obtain takes off all watches of requests
 abbrev pub takes_off : Object → Op → Watch → Bool
 takes_off (Ecb n) op (watch.Ecb m) = m == n
 takes_off (Element n) op (watch.Element m) = m == n
@@ -53,43 +54,43 @@ takes_off Latches (op_on.Latch (Obtain latch requestor mode form)) (watch.Latch 
 takes_off Latches op (watch.Latch l id) = true
 takes_off o op w = false
 
--- the watches that an event leaves
+-- the watches that stay listed after an event
 abbrev pub off : Object → Op → List Watch → List Watch
 off o op ws = filter (λ w. not (takes_off o op w)) ws
 
 -- ---- views
 
--- a view that holds nothing
+-- the view of a seat that gave everything away
 abbrev pub spent_view : View
 spent_view = record { parts = []; made = 0; turn = []; returned = []; ready = []; about = [] }
 
--- that of a caller that has done nothing
+-- the view of caller k that has done nothing, with this count of callers
 abbrev pub fresh_view : Setup → ℕ → ℕ → View
 fresh_view c k made = record { parts = fresh c k ∷ []; made = made; turn = []; returned = []; ready = []; about = c ∷ [] }
 
--- that of the first seat: caller 0, and the count of the callers
+-- the view of the first seat: that of caller 0, which counts one caller
 abbrev pub first_view : Setup → View
 first_view c = fresh_view c 0 1
 
--- a split leaves the count one higher, and gives the next caller
+-- the view that remains at a split: it counts one caller more
 abbrev pub cut_left : View → View
 cut_left v = record v { made = v.made + 1 }
 
--- the part of caller k, where there is a configuration
+-- the part of a new caller k; none if there is no configuration
 abbrev pub fresh_in : List Setup → ℕ → List Part
 fresh_in [] k = []
 fresh_in (c ∷ cs) k = fresh c k ∷ []
 
--- what the new seat of a split sees
+-- the view of the new seat of a split, which has the next caller
 abbrev pub cut_right : View → View
 cut_right v = record { parts = fresh_in v.about v.made; made = 0; turn = []; returned = []; ready = []; about = v.about }
 
--- the configuration of either view
+-- the configuration of the first of two views, or of the second if the first has none
 abbrev pub either_about : List Setup → List Setup → List Setup
 either_about [] cs = cs
 either_about (c ∷ cs) ds = c ∷ cs
 
--- a join takes over the other's parts. No watch stays listed
+-- the view of two joined seats: it has the parts of both, and lists no watch
 abbrev pub joined : View → View → View
 joined v w = record {
   parts = v.parts ++ w.parts;
@@ -100,23 +101,23 @@ joined v w = record {
   about = either_about v.about w.about;
 }
 
--- an event of the seat's own caller
+-- the view after an event of its own caller, and after what that showed
 abbrev pub logged : Entry → List (List Wake) → View → View
 logged e shown v = record v { parts = with_own (part_logged e shown) v.parts; ready = off e.object e.op v.ready }
 
--- the seat met a word
+-- the view after its caller read a word
 abbrev pub met : Object → ℕ → View → View
 met o w v = record v { parts = with_own (part_met o w) v.parts }
 
--- a watch that was seen ready is listed
+-- the view with this watch listed, if what it watches is ready
 abbrev pub listed : Bool → Option Watch → View → View
 listed true (Some w) v = record v { ready = v.ready ++ w ∷ [] }
 listed _ _ v = v
 
--- the turn, held or not
+-- the view with these as the lists that it names: one element if it holds the turn, otherwise none
 abbrev pub with_turn : List Named → View → View
 with_turn ts v = record v { turn = ts }
 
--- lists that were given back without an event
+-- the view after its caller gave these lists back without an event
 abbrev pub with_returned : List (List Request) → View → View
 with_returned lists v = record v { returned = v.returned ++ lists ∷ [] }

@@ -1,4 +1,4 @@
--- Which word of the table is which object's, and what an operation makes of a word.
+-- Which word of the table belongs to which object, and how an operation changes a word.
 use Rattle.std.specs.Prelude.{ℕ, ◌+◌, ◌*◌, ◌-◌, ◌%◌, ◌^◌, ◌==◌, nat_le, nat_lt, Bool, true, ◌&&◌, length, Option, None}
 use Rattle.std.specs.Prelude.{option_map, option_and_then, if◌then◌else◌}
 use Rattle.mv_machine.specs.declared.entry.Object.{Object}
@@ -16,17 +16,17 @@ use Rattle.mv_machine.specs.Limits.{volumes_limit, events_limit}
 use Rattle.mv_machine.specs.Packing.{pack, unpack, state_step}
 use Rattle.mv_machine.specs.Setup.{Setup, IsObjectOf}
 
--- ---- the words: of the volumes, of the elements of all callers, of the turn of the latch set, and of the event control blocks
+-- ---- the words in order: volumes, elements of all callers, the turn of the latch set, event control blocks
 
--- the first word of an element: behind those of the volumes
+-- the number of the first word of an element, after those of the volumes
 abbrev pub first_element_word : ℕ
 first_element_word = volumes_limit
 
--- the word of the turn: behind those of `callers_limit * elements_limit` elements
+-- the number of the word of the turn, after those of `callers_limit * elements_limit` elements
 abbrev pub turn_word : ℕ
 turn_word = 264
 
--- the first word of an event control block: behind the turn
+-- the number of the first word of an event control block, after that of the turn
 abbrev pub first_ecb_word : ℕ
 first_ecb_word = 265
 
@@ -45,34 +45,34 @@ object_of i =
     else if i == turn_word then Latches
     else Ecb (i - first_ecb_word)
 
--- how many words a board has
+-- how many words the board of a configuration has
 abbrev pub word_count : Setup → ℕ
 word_count c = first_ecb_word + length c.owners
 
--- the object is there, and has a word of its own
+-- the configuration has this object, and it is not the latch set, which has no word to change
 abbrev pub HasWord : Setup → Object → Type 0
 HasWord c Latches = ⊥
 HasWord c o = IsObjectOf c o
 
--- the number that the word of a volume holds, below its place
+-- the number in the word of a volume, which is below the bits of its place
 abbrev pub number_in : ℕ → ℕ
 number_in word = word % 2 ^ 32
 
 -- ---- an operation on a word
 
--- an element of a high generation has had many events
+-- whether a state can occur at this place: an element's place is at least twice its generation, plus the number of events that
+-- its present pause has had at least
 abbrev pub fits : ℕ → WordState → Bool
 fits place (state.Element s) = nat_le (2 * s.generation + extra s.phase) place
 fits place s = true
 
--- the place, the word one event later, and the reply. Nothing where the word is none that the object can have before a
--- further event
+-- the place in a word, the word after one event, and the reply. None if the object cannot have this word before a further event
 abbrev pub changed : Object → Op → ℕ → Option (ℕ × ℕ × Reply)
 changed o op w =
     option_and_then (λ x. if nat_lt x.0 events_limit && fits x.0 x.1 then option_map (λ r. (x.0, pack (x.0 + 1) r.0, r.1))
     (state_step op x.1) else None) (unpack o w)
 
--- the operation that reads a word and changes its place alone
+-- the operation that reads a word and changes nothing except its place
 abbrev pub test_of : Object → Op
 test_of (Ecb n) = op_on.Ecb ecb_op.Test
 test_of (Element n) = op_on.Element element_op.Test

@@ -1,5 +1,6 @@
-//! The board: how it is opened, and its calls on objects. Clauses cite `specs/Faces.antt`, and of its steps `specs/Steps.antt`,
-//! `specs/View.antt` and `specs/Words.antt`; what contracts see of it is `specs/Board.antt`, and its table keeps `specs/Rule.antt`.
+//! The board: how it is opened, and its calls on objects. Clauses cite `specs/Faces.antt`; those of its steps also
+//! `specs/Steps.antt`, `specs/View.antt` and `specs/Words.antt`. What contracts see of a board is in `specs/Board.antt`, and the
+//! invariant of its table in `specs/Rule.antt`.
 
 ghost use Rattle.std.specs.Prelude.{◌≡◌, ◌<◌, ◌≤◌, ◌∷◌, [], true, length, vec_capacity, IfOk, MatchResult, Some};
 ghost use Rattle.std.specs.List.{Contains};
@@ -30,13 +31,15 @@ use std::alloc::Global;
 use std::marker::Model;
 use std::sync::Wait;
 
-/// The shared objects of a configuration. It is shared by reference; each caller makes its calls with its own `Caller`. Who writes
-/// tasks takes a `Station` of mv_wait, which wakes those that park; here nothing parks, and a call that waits tries again.
+/// The shared objects of a configuration.
+///
+/// Threads share a board by reference, and each makes its calls with a `Caller`. No call here parks or wakes a task: a call that
+/// has to wait tries again. To write tasks, use the `Station` of mv_wait, which parks and wakes them.
 #[derive(Drop)]
 pub struct Board {
     pub(crate) config: ValidConfig,
     pub(crate) table: Table<Item, View, ValidConfig, OneHistory, Global>,
-    // What `close` uses: room for the history and for the callers' logs.
+    // Room for the history and for the callers' logs, which `close` uses.
     pub(crate) room: MergeRoom,
     pub(crate) logs: Vec<Log>,
 }
@@ -53,12 +56,13 @@ impl Model for Board {
 }
 
 impl Board {
-    /// A board with all objects at place 0, and its callers in the order of their numbers. All memory that later calls use
-    /// is taken here.
+    /// Opens a board with all objects at place 0, and returns it with its callers in the order of their numbers.
+    ///
+    /// All memory that later calls use is taken here.
     ///
     /// # Errors
     ///
-    /// `NoMemory` where there is not enough. The configuration is dropped then.
+    /// `NoMemory` if memory runs out. The configuration is dropped then.
     ///
     /// # Example
     ///
@@ -84,15 +88,16 @@ impl Board {
         Ok((board, callers))
     }
 
-    /// The configuration that it was opened with.
+    /// Returns the configuration with which the board was opened.
     pub fn config(&self) -> &ValidConfig
         ensures { result.now ≡ self.now.config }
     {
         &self.config
     }
 
-    /// One load of an object's word: its place times 2^45, and its state in the 45 bits below, as `unpack` reads it. It is no
-    /// event, and the word may be another one at once. It waits for nobody. The latch set has no word.
+    /// Loads an object's word, which is the object's place times 2^45 plus its state in the 45 bits below, as `unpack` reads it.
+    ///
+    /// This is not an event, and other callers may change the word at once. The call does not wait. The latch set has no word.
     pub fn look(&self, caller: &mut Caller, object: Object) -> u64
         requires board { IsOf self.now caller.old }
         requires word { HasWord self.now.config object }
@@ -104,10 +109,12 @@ impl Board {
             .load::<Look>(&mut caller.seat, word_number(object))
     }
 
-    /// Whether what a caller waits for is so: its own block is complete, its own element released, its own request granted or
-    /// gone. It is no event. Where it is so, it stays so whatever others do, until an event of the caller's own that takes it off
-    /// the list: one on that block or element, or one on the latch set that is no obtain. For a request it waits while another
-    /// caller has the lists.
+    /// Returns whether what a caller waits for has happened: its own block is complete, its own element is released, or its own
+    /// request is granted or gone.
+    ///
+    /// This is not an event. If the answer is `true`, it stays so whatever other callers do, until an event of this caller takes
+    /// the watch off its list: one on that block or element, or one on the latch set other than Obtain. At a block or an element
+    /// the call does not wait; for a request it spins while another caller has the lists.
     pub fn peek<R: Wait>(&self, rt: &R, caller: &mut Caller, watch: Watch) -> bool
         requires board { IsOf self.now caller.old }
         requires own { MayWatch self.now.config caller.old watch }
@@ -121,7 +128,7 @@ impl Board {
         }
     }
 
-    // Whether the state of an own object is what a watch of it waits for.
+    // Whether the state of the caller's own block or element is what a watch of it waits for.
     fn peek_word(&self, caller: &mut Caller, object: Object) -> bool
         requires board { IsOf self.now caller.old }
         requires word { HasWord self.now.config object }
@@ -136,9 +143,11 @@ impl Board {
         is_ready(object, word)
     }
 
-    /// The event that reads an object and changes its place alone, by one addition: Test of an event control block or an
-    /// element, Read of a volume. It cannot fail, and waits for nobody. It is not for the latch set, which has no word, and
-    /// the caller must have an event left.
+    /// Makes the event that reads an object and changes nothing except its place: Test of an event control block or an element,
+    /// Read of a volume.
+    ///
+    /// The event is one addition, which cannot fail, and the call does not wait. The latch set has no word. The caller must have an event
+    /// left.
     pub fn test(&self, caller: &mut Caller, object: Object) -> Reply
         requires board { IsOf self.now caller.old }
         requires word { HasWord self.now.config object }
@@ -159,9 +168,10 @@ impl Board {
         reply
     }
 
-    /// One exchange of an object's word: the event where the word is the one expected, and otherwise no event, but a look.
-    /// It waits for nobody. The words are those that `look` answers. It is not for the latch set, which has no word, and the
-    /// caller must have an event left. The operation is one that `event` would take.
+    /// Tries one exchange of an object's word: an event if the word is the expected one, otherwise only a look at the word.
+    ///
+    /// The call does not wait. Words are as `look` returns them. The latch set has no word. The caller must have an event left,
+    /// and the operation must be one that `event` would take.
     ///
     /// # Example
     ///
@@ -172,7 +182,7 @@ impl Board {
     ///
     /// # Errors
     ///
-    /// `Moved(w)` where the word found was w and not `expected`.
+    /// `Moved(w)` if the word was `w` and not `expected`.
     pub fn try_event(
         &self,
         caller: &mut Caller,
@@ -209,10 +219,13 @@ impl Board {
         Ok(reply)
     }
 
-    /// One event on an object, and its reply. On an object with a word it tries again while others are quicker; on the latch
-    /// set it waits while another caller has the lists. The caller must have an event left.
+    /// Makes one event on an object, and returns its reply.
     ///
-    /// Whether the operation is admitted goes by the configuration and the caller's own log: others can't take the leave away.
+    /// On an object with a word the call retries as long as other callers change the word first; on the latch set it spins while
+    /// another caller has the lists. The caller must have an event left.
+    ///
+    /// Whether the operation is admitted depends only on the configuration and on the caller's own log, so no other caller can
+    /// take the permission away.
     #[inline(always)]
     pub fn event<R: Wait>(&self, rt: &R, caller: &mut Caller, object: Object, op: Op) -> Reply
         requires board { IsOf self.now caller.old }
@@ -228,7 +241,7 @@ impl Board {
         }
     }
 
-    // One event on an object that has a word, and its reply.
+    // Makes one event on an object that has a word, and returns its reply.
     #[inline(always)]
     fn word_event<R: Wait>(&self, rt: &R, caller: &mut Caller, object: Object, op: Op) -> Reply
         requires board { IsOf self.now caller.old }
@@ -244,7 +257,7 @@ impl Board {
         reply
     }
 
-    // One event of a seat on an object's word: its place and its reply.
+    // Makes one event of a seat on an object's word, and returns its place and its reply.
     #[inline(always)]
     fn exchange<R: Wait>(
         &self,
@@ -287,7 +300,7 @@ impl Board {
     }
 }
 
-// The table of a configuration's objects, which are all at place 0, and its first seat.
+// Makes the table of a configuration's objects, all at place 0, and its first seat.
 fn table_of(
     alloc: Global,
     config: &ValidConfig,
@@ -306,13 +319,13 @@ fn table_of(
     let words = vec![in alloc; 0u64; BEFORE_ECBS + config.config().owners.len()]?;
     let slots = vec![in alloc; Item::Held(lists_of(alloc, config)?)]?;
     let Ok(table) = Table::new(alloc, &words, slots, config) else {
-        // out of memory: a table is refused for nothing else.
+        // out of memory: a table is refused for no other reason.
         return Err(NoMemory);
     };
     Ok(table)
 }
 
-// The callers of a new table, in order, of which the first has this seat.
+// Makes the callers of a new table, in order. The first of them gets the seat `first`.
 fn seats(
     alloc: Global,
     config: &ValidConfig,
@@ -336,7 +349,7 @@ fn seats(
     Ok(callers)
 }
 
-// What `close` uses: room for the history of a configuration, and for its callers' logs.
+// Makes the room that `close` uses: for the history of a configuration, and for its callers' logs.
 fn rooms_of(alloc: Global, config: &ValidConfig) -> Result<(MergeRoom, Vec<Log>), NoMemory>
     ensures valid { IsValid config.now }
     ensures room { IfOk result (λ r. IsRoomFor config.now r.0) }
@@ -348,7 +361,7 @@ fn rooms_of(alloc: Global, config: &ValidConfig) -> Result<(MergeRoom, Vec<Log>)
     Ok((room, logs))
 }
 
-// The empty lists of a configuration's latch set.
+// Makes the empty lists of a configuration's latch set.
 fn lists_of(alloc: Global, config: &ValidConfig) -> Result<Lists, NoMemory>
     ensures { IfOk result (λ l. IsLists config.now (opening config.now).latches l) }
 {
@@ -358,7 +371,7 @@ fn lists_of(alloc: Global, config: &ValidConfig) -> Result<Lists, NoMemory>
     })
 }
 
-// A caller with this seat, and room for all its entries and wakes.
+// Makes a caller with this seat, and with room for all its entries and wakes.
 fn seated(
     alloc: Global,
     config: &ValidConfig,

@@ -1,4 +1,4 @@
-//! A caller: the events that it made, and its seat at the table (`specs/Caller.antt`). Clauses cite `specs/Faces.antt`.
+//! A caller: its events, and its seat at the table (`specs/Caller.antt`). Clauses cite `specs/Faces.antt`.
 
 ghost use Rattle.std.specs.Prelude.{◌≡◌, ◌<◌, ◌≤◌, ◌-◌};
 ghost use Rattle.std.specs.List.{AllByRecursion};
@@ -15,23 +15,23 @@ use mv_machine::{Object, Op, OpenLog, Reply};
 use std::marker::Model;
 use thiserror::Error;
 
-/// The word that an exchange found in place of the one expected: a place times 2^45, and a state in the 45 bits below.
+/// The word that a failed exchange found in place of the expected one: a place times 2^45 plus a state in the 45 bits below.
 #[derive(Clone, Copy, Debug, PartialEq, Eq, Error)]
 #[error("the word was {0}")]
 pub struct Moved(pub u64);
 
-/// The events of one caller: those that it made, and how many it may still make.
+/// The events of one caller: those that it made, and the number that it may still make.
 #[derive(Drop)]
 pub(crate) struct Events {
     pub caller: u32,
     pub left: u32,
     pub log: OpenLog,
-    /// Those of the last event on the latch set.
+    /// The wakes of the caller's last event on the latch set.
     pub wakes: Vec<Wake>,
 }
 
 impl Events {
-    /// One event more, and one less that is left.
+    /// Appends an event to the log, and takes one from those that are left. It takes no memory.
     #[inline(always)]
     pub(crate) fn append(&mut self, object: Object, place: u32, op: Op, reply: Reply)
         requires left { 0 < self.old.left }
@@ -46,8 +46,9 @@ impl Events {
     }
 }
 
-/// One caller's seat at a board. No other caller's call changes anything of it. One thread has it at a time, and `close` takes it
-/// back.
+/// The seat of one caller at a board.
+///
+/// No other caller's call changes anything in it. One thread owns it at a time, and `Board::close` takes it back.
 #[derive(Drop)]
 pub struct Caller {
     pub(crate) events: Events,
@@ -66,7 +67,7 @@ impl Model for Caller {
 }
 
 impl Caller {
-    /// Its number, counted from 0. There is such a caller.
+    /// Returns the caller's number, which is counted from 0 and below the number of the configuration's callers.
     pub fn number(&self) -> u32
         ensures number { result ≡ self.now.number }
         ensures exists { AllByRecursion (λ (c : Setup). result < c.callers) self.now.about }
@@ -74,7 +75,9 @@ impl Caller {
         self.events.caller
     }
 
-    /// How many events it may still make. There is room for all of them, and all callers have together no more than 524,287.
+    /// Returns how many events the caller may still make.
+    ///
+    /// The log has room for all of them, and all callers together may make at most 524,287 (`EVENTS_LIMIT`).
     pub fn left(&self) -> u32
         ensures left { result ≡ self.now.left }
         ensures room { result ≤ self.now.room }
@@ -83,15 +86,16 @@ impl Caller {
         self.events.left
     }
 
-    /// Its entries so far, in order: its part of the history, whatever the others do.
+    /// Returns the caller's entries so far, in order. They are its part of the history, whatever other callers do.
     pub fn log(&self) -> &OpenLog
         ensures { result.now.entries ≡ self.now.log }
     {
         &self.events.log
     }
 
-    /// The wakes of its last event on the latch set, in order: who is to be posted or woken, which is left to the caller. Before
-    /// such an event there are none.
+    /// Returns the wakes of the caller's last event on the latch set, in order; none before the first such event.
+    ///
+    /// A wake names a block to post or a task to wake. The event does neither: its caller must do it.
     pub fn wakes(&self) -> &[Wake]
         ensures wakes { result.now ≡ self.now.wakes }
         ensures last { result.now ≡ last_of self.now.told }

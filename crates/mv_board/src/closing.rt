@@ -1,4 +1,4 @@
-//! How a board ends: its callers come back one by one, and their logs become the one history. Clauses cite `specs/Closing.antt` and
+//! How a board ends: its callers come back one by one, and their logs become one history. Clauses cite `specs/Closing.antt` and
 //! `specs/Faces.antt`.
 
 ghost use Rattle.std.specs.Prelude.{◌≡◌, ◌≤◌, ◌++◌, ◌∷◌, [], length, map};
@@ -20,21 +20,22 @@ use mv_machine::{History, Log, MergeRoom, ValidConfig};
 use std::alloc::Global;
 use std::marker::Model;
 
-/// What a board leaves.
+/// What remains of a board after its end.
 #[derive(Drop)]
 pub struct Closed {
-    /// All entries, as one legal history, which has the configuration that the board was opened with. None is given yet.
+    /// All entries as one legal history, with the board's configuration. No entry has been read from it yet.
     pub history: History,
-    /// What each volume holds behind it, by the number of the volume. There are 8, and a configuration may have fewer.
+    /// The number in each volume after this history, by the number of the volume. There are 8; a configuration may have fewer.
     pub volumes: [u32; 8],
 }
 
 impl Board {
-    /// Ends the board: takes its callers back, and makes one history of their logs. It needs no memory, and never refuses.
+    /// Ends the board: takes its callers back, and makes one history of their logs.
     ///
-    /// The history is the merge of the logs: again and again the lowest caller whose next entry has its object's next place gives
-    /// it. Each caller's part of it is that caller's log, its told list is what the history shows it, and each word that it met the
-    /// object had, between the caller's events on that object before and behind it.
+    /// The call takes no memory and never fails. The history is the merge of the logs. At each step, of the callers whose next
+    /// entry has the next place of its object, the one with the lowest number gives its next entry. Each caller's part of the
+    /// history is that caller's log, and its told list is what the history shows it. Each word that it read was the object's
+    /// between the caller's events on that object before and after.
     pub fn close(self, callers: Vec<Caller>) -> Closed
         requires order { AreInOrder self 0 callers.items }
         requires all { length callers.items ≡ self.config.callers }
@@ -54,7 +55,8 @@ impl Board {
         closing.done()
     }
 
-    /// Begins the end of the board, for those who have their callers within tasks of their own: they give them back one by one.
+    /// Begins the end of the board. Use it instead of `close` if each caller comes back from a task of its own: give them back
+    /// one by one.
     pub fn closing(self) -> Closing
         ensures board { result.board ≡ self }
         ensures none { result.back ≡ [] }
@@ -82,7 +84,7 @@ pub struct Closing {
     pub(crate) table: Table<Item, View, ValidConfig, OneHistory, Global>,
     pub(crate) room: MergeRoom,
     pub(crate) logs: Vec<Log>,
-    // Those of the callers that came back, joined.
+    // The joined seats of the callers that came back.
     pub(crate) seat: Option<Seat<Item, View>>,
 }
 
@@ -98,7 +100,7 @@ impl Model for Closing {
 }
 
 impl Closing {
-    /// Takes the next caller back: the one whose number is how many came before. It needs no memory.
+    /// Takes the next caller back: the one whose number is the count of those that came before. It takes no memory.
     pub fn take_back(&mut self, caller: Caller)
         requires board { IsOf self.old.board caller }
         requires next { caller.number ≡ length self.old.back }
@@ -120,7 +122,7 @@ impl Closing {
         self.logs.push_reserved(events.log.close());
     }
 
-    /// Makes one history of the logs of all callers: what `Board::close` says. It needs no memory, and never refuses.
+    /// Makes one history of the logs of all callers, as `Board::close` describes. It takes no memory and never fails.
     pub fn done(self) -> Closed
         requires all { length self.back ≡ self.board.config.callers }
         ensures config { result.history.config ≡ self.board.config }

@@ -1,5 +1,5 @@
-//! A board of shared objects, words that tasks change by single exchanges and a latch set behind a turn, of which at every moment
-//! one legal history has each caller's log as its part.
+//! A board of shared objects: words that tasks change by single exchanges, and a latch set that a turn (a spin lock) protects. At
+//! every moment the callers' logs are the parts of one legal history.
 #![tactic(auto)]
 
 mod board;

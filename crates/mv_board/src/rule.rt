@@ -1,11 +1,11 @@
-//! The rule of the table, `specs/Rule.antt`, and what each kind of step tells, `specs/Steps.antt` and `specs/Turn.antt`.
+//! The rule of the table, `specs/Rule.antt`, and the kinds of its steps, `specs/Steps.antt` and `specs/Turn.antt`.
 
 use crate::item::Item;
 use crate::view::View;
 use atomic_table::{Join, Play, Split, TableRule};
 use mv_machine::ValidConfig;
 
-/// At every moment the merge of the logs is a legal history, and the board is what it leads to.
+/// The invariant of the table: the merge of the logs is a legal history, and the words and the lists are what it leads to.
 pub struct OneHistory;
 
 impl TableRule<Item, View, ValidConfig> for OneHistory {
@@ -44,7 +44,7 @@ impl Play<Item, View> for Addition {
     ghost then = { Tested };
 }
 
-/// A seat is cut in two, or takes over another.
+/// A split of a seat into two, or a join of two seats.
 pub(crate) struct Seats;
 
 impl Split<View> for Seats {
@@ -63,7 +63,7 @@ impl Join<View> for Seats {
     ghost spent = { spent_view };
 }
 
-/// A load that lists what it finds ready.
+/// A load of a word that lists the object's watch if its state is ready.
 pub(crate) struct Peek;
 
 impl Play<Item, View> for Peek {
@@ -72,7 +72,7 @@ impl Play<Item, View> for Peek {
     ghost then = { Peeked };
 }
 
-/// The turn of the latch set is taken.
+/// An exchange that takes the turn of the latch set.
 pub(crate) struct Take;
 
 impl Play<Item, View> for Take {
@@ -81,7 +81,7 @@ impl Play<Item, View> for Take {
     ghost then = { Took };
 }
 
-/// The turn is given back with an event.
+/// An exchange that gives the turn back with an event.
 pub(crate) struct Give;
 
 impl Play<Item, View> for Give {
@@ -90,7 +90,7 @@ impl Play<Item, View> for Give {
     ghost then = { Gave };
 }
 
-/// The turn is given back without one.
+/// An exchange that gives the turn back without an event.
 pub(crate) struct Return;
 
 impl Play<Item, View> for Return {

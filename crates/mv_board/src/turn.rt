@@ -1,5 +1,5 @@
-//! The latch set: a turn lends its lists to one caller at a time. Clauses cite `specs/Turn.antt`, `specs/Faces.antt` and
-//! `specs/View.antt`.
+//! The calls on the latch set: a turn (a spin lock) lends its lists to one caller at a time. Clauses cite `specs/Turn.antt`,
+//! `specs/Faces.antt` and `specs/View.antt`.
 
 ghost use Rattle.std.specs.Prelude.{◌≡◌, ◌<◌, ◌∷◌, [], true};
 ghost use Rattle.std.specs.List.{Contains};
@@ -25,7 +25,7 @@ use mv_machine::{Object, Op, Reply};
 use std::sync::Wait;
 
 impl Board {
-    // Takes the turn, trying again while another holds it, and the lists out of their slot.
+    // Takes the turn, trying again while another caller holds it, and then takes the lists out of their slot.
     fn take<R: Wait>(&self, rt: &R, seat: &mut Seat<Item, View>) -> Lists
         requires board { seat.old.table_id ≡ self.now.table }
         requires empty { seat.old.me.1 ≡ [] }
@@ -48,7 +48,7 @@ impl Board {
         unreachable!()
     }
 
-    // Waits until the turn was seen free. It only reads the word, so the cache line stays with the caller that is to give it back.
+    // Spins until the turn was seen free. It only reads the word, so the cache line stays with the caller that holds the turn.
     fn await_turn<R: Wait>(&self, rt: &R, backoff: &Backoff) {
         for _ in rt.forever() {
             backoff.snooze();
@@ -58,7 +58,7 @@ impl Board {
         }
     }
 
-    // One event on the latch set, and its reply. It waits while another caller has the lists.
+    // Makes one event on the latch set, and returns its reply. It spins while another caller has the lists.
     pub(crate) fn latch_event<R: Wait>(
         &self,
         rt: &R,
@@ -96,7 +96,8 @@ impl Board {
         reply
     }
 
-    // Whether a request of the caller no longer waits. The turn is given back without an event.
+    // Returns whether a request of the caller no longer waits. It spins while another caller has the lists, and gives the turn
+    // back without an event.
     pub(crate) fn peek_latch<R: Wait>(
         &self,
         rt: &R,
@@ -124,7 +125,7 @@ impl Board {
     }
 }
 
-// Whether a request that is answered so no longer waits.
+// Whether this reply to a Confirm says that the request no longer waits.
 fn is_settled(reply: LatchReply) -> bool
     ensures { result ≡ is_settled_reply reply }
 {

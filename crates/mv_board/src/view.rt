@@ -1,18 +1,18 @@
-//! What a seat knows, for the proofs alone: no value of these types is made. Clauses see a linked list as the list itself.
+//! What a seat knows, for the proofs only: no value of these types is ever made. Clauses see a linked list as a list.
 
 use crate::watch::Watch;
 use mv_latch::{Request, Wake};
 use mv_machine::{Entry, Object, ValidConfig};
 use std::collections::LinkedList;
 
-/// A word that was met at an object, and how long the log was then.
+/// A word that a caller read at an object without an event, and the length of its log then (`after`).
 pub struct Sight {
     pub object: Object,
     pub word: u64,
     pub after: u32,
 }
 
-/// A caller: what it did and was told, what it may still do, and what it met.
+/// A caller's part of the history: its log and what it was shown, the events that are left to it, and the words that it read.
 pub struct Part {
     pub caller: u32,
     pub left: u32,
@@ -21,23 +21,23 @@ pub struct Part {
     pub sights: LinkedList<Sight>,
 }
 
-/// The latch set as the holder of the turn names it.
+/// The lists of the latch set and their place, as the view of the turn's holder names them.
 pub struct Named {
     pub place: u32,
     pub lists: LinkedList<LinkedList<Request>>,
 }
 
-/// The parts of the callers whose seats were joined here, the own one first.
+/// What a seat knows: the parts of the callers whose seats were joined in it, its own caller's first, and the fields below.
 pub struct View {
     pub parts: LinkedList<Part>,
-    /// How many callers were made so far, in the one view that counts them; 0 in all others.
+    /// In the one view that counts the callers, the number of callers made so far; 0 in all others.
     pub made: u32,
-    /// None or one.
+    /// The lists that the seat has taken: one element while it holds the turn, otherwise none.
     pub turn: LinkedList<Named>,
-    /// The lists that were given back without an event, in order.
+    /// The lists that the caller gave back without an event, in order.
     pub returned: LinkedList<LinkedList<LinkedList<Request>>>,
-    /// What was seen ready, since the own events on it.
+    /// The watches that were seen ready, and that no event of the caller has taken off since.
     pub ready: LinkedList<Watch>,
-    /// The configuration. Only a spent view has none.
+    /// The configuration: one element, and none in the view of a seat that gave everything away.
     pub about: LinkedList<ValidConfig>,
 }

@@ -1,4 +1,4 @@
-//! The words of the table, and what an operation makes of one: `specs/Words.antt` and `specs/Steps.antt`.
+//! The words of the table, and how an operation changes one: `specs/Words.antt` and `specs/Steps.antt`.
 
 ghost use Rattle.std.specs.Prelude.{◌≡◌, ℕ, Some};
 ghost use Rattle.mv_machine.specs.Elements.{extra as extra_of};
@@ -14,19 +14,19 @@ use mv_machine::{
     HIGHEST_PLACE, Object, Op, Reply, VolumeOp, WordState, pack, state_apply, unpack,
 };
 
-/// The first word of an element, behind those of the volumes.
+/// The number of the first word of an element, after those of the volumes.
 const FIRST_ELEMENT: usize = 8;
 
-/// The word of the latch set's turn.
+/// The number of the word of the latch set's turn.
 pub(crate) const TURN: usize = 264;
 
-/// How many words stand before those of the event control blocks.
+/// The number of words before those of the event control blocks.
 pub(crate) const BEFORE_ECBS: usize = 265;
 
-/// One place more, in a word.
+/// What one place more adds to a word.
 pub(crate) const PLACE: u64 = 1 << 45;
 
-/// The number of an object's word.
+/// Returns the number of an object's word.
 pub(crate) fn word_number(object: Object) -> usize
     ensures { result ≡ number_of object }
 {
@@ -38,7 +38,7 @@ pub(crate) fn word_number(object: Object) -> usize
     }
 }
 
-/// The operation that leaves an object's state as it is.
+/// Returns the operation that reads an object and leaves its state as it is. It is not for the latch set, which has no word.
 pub(crate) fn test_of(object: Object) -> Op
     ensures { result ≡ test_on object }
 {
@@ -49,14 +49,14 @@ pub(crate) fn test_of(object: Object) -> Op
     }
 }
 
-/// The number that a volume's word holds.
+/// Returns the number in a volume's word.
 pub(crate) fn number_in(word: u64) -> u32
     ensures { result ≡ number_in_word word }
 {
     (word % (1 << 32)) as u32
 }
 
-// Twice the generation, and the events at least that the pause at hand has had, are at most the place.
+// Whether a state can occur at this place: for an element, twice its generation plus `extra` of its phase is at most the place.
 fn fits(place: u32, state: &WordState) -> bool
     ensures { result ≡ fits_place place state.now }
 {
@@ -68,6 +68,7 @@ fn fits(place: u32, state: &WordState) -> bool
     }
 }
 
+// The number of events that the present pause has had at least, by its phase.
 fn extra(phase: Phase) -> u64
     ensures { result ≡ extra_of phase }
 {
@@ -79,8 +80,8 @@ fn extra(phase: Phase) -> u64
     }
 }
 
-/// What an operation makes of a word: the place before, the word after, and the reply. There is nothing where the object
-/// can't have this word before a further event of the run.
+/// Applies an operation to a word, and returns the place before, the word after, and the reply. Returns `None` if the object
+/// cannot have this word before a further event.
 #[inline(always)]
 pub(crate) fn change(object: Object, op: Op, word: u64) -> Option<(u32, u64, Reply)>
     requires { HasOpFields op }
@@ -94,7 +95,7 @@ pub(crate) fn change(object: Object, op: Op, word: u64) -> Option<(u32, u64, Rep
     Some((place, pack(place + 1, next), reply))
 }
 
-// Whether a state is what a watch of its object waits for: a block that is complete, an element that is released.
+// Whether a state is what a watch of its object waits for: a complete block, or a released element.
 fn is_ready_state(state: &WordState) -> bool
     ensures { result ≡ ready_in state.now }
 {
@@ -105,7 +106,7 @@ fn is_ready_state(state: &WordState) -> bool
     }
 }
 
-/// Whether a word of an object is what a watch of it waits for.
+/// Returns whether a word of an object is what a watch of it waits for.
 pub(crate) fn is_ready(object: Object, word: u64) -> bool
     ensures { (place : ℕ) (state : AnyState) → unpack_of object word ≡ Some (place, state) → result ≡ ready_in state }
 {
