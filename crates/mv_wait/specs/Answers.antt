@@ -1,4 +1,4 @@
--- The answers of the calls, and what they are in the programs.
+-- How the values that the calls return correspond to the answers of their programs.
 use Rattle.std.specs.Prelude.{ℕ, List, map, Option, Some, None, Result, Ok, Err}
 use Rattle.mv_calls.specs.Posts.{Posting}
 use Rattle.mv_calls.specs.Posts as posting
@@ -14,46 +14,46 @@ use Rattle.mv_wait.specs.declared.waiting.WaitRefusal.TheVariants as wait_refusa
 use Rattle.mv_wait.specs.declared.waiting.WaitSlot.{WaitSlot}
 use Rattle.mv_wait.specs.declared.waiting.WaitSlot.TheVariants as slot
 
--- a post's answer says whether a task was woken or an exit run, and not which exit
+-- the answer for the outcome of a post: it says whether a task was woken or an exit run, but not which exit
 abbrev pub post_answer : Posting → PostAnswer
 post_answer posting.Posted = answer.Posted
 post_answer (posting.Woke exit) = answer.Woke
 post_answer (posting.Already code) = answer.Already code
 
--- a slot has the code of a block that is complete
+-- the code in a slot: that of a complete block, none if the block is open
 abbrev pub slot_of : WaitSlot → Option ℕ
 slot_of (slot.Complete code) = Some code
 slot_of slot.Open = None
 
--- the slots of a wait, in the order of its list
+-- the codes in the slots of a wait, in the order of its list
 abbrev pub slots_of : List WaitSlot → List (Option ℕ)
 slots_of slots = map slot_of slots
 
--- why a wait is refused, and at which place of its list, where one block is the cause
+-- the reason for which a wait is refused, with the position in its list if one block is the cause
 abbrev pub wait_refused : WaitRefusal → Refusal
 wait_refused wait_refusal.TooMany = refusal.TooMany
 wait_refused (wait_refusal.Doubled p) = refusal.Doubled p
 wait_refused (wait_refusal.NotOwner p) = refusal.NotOwnerAt p
 wait_refused (wait_refusal.Extended p) = refusal.ExtendedAt p
 
--- why an extend is refused
+-- the reason for which an extend is refused
 abbrev pub extend_refused : ExtendRefusal → Refusal
 extend_refused extend_refusal.NotOwner = refusal.NotOwner
 extend_refused extend_refusal.BadExit = refusal.BadExit
 extend_refused extend_refusal.Extended = refusal.Extended
 extend_refused (extend_refusal.Complete code) = refusal.Complete code
 
--- a clear's answer: the fullword that was there
+-- the answer of a clear: the fullword that the block had
 abbrev pub clear_answer : Result ℕ NotOwner → Result ℕ Refusal
 clear_answer (Ok word) = Ok word
 clear_answer (Err why) = Err refusal.NotOwner
 
--- an extend's answer: nothing more to tell where it is done
+-- the answer of an extend, which has no value if it succeeds
 abbrev pub extend_answer : Result (Unit {0}) ExtendRefusal → Result (Unit {0}) Refusal
 extend_answer (Ok done) = Ok tt
 extend_answer (Err why) = Err (extend_refused why)
 
--- a wait's answer is in the slots
+-- the answer of a wait: the codes in its slots, or the reason for which it is refused
 abbrev pub wait_answer : Result (Unit {0}) WaitRefusal → List WaitSlot → Result (List (Option ℕ)) Refusal
 wait_answer (Ok done) out = Ok (slots_of out)
 wait_answer (Err why) out = Err (wait_refused why)

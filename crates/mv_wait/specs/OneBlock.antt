@@ -1,4 +1,4 @@
--- What a wait for one block has done.
+-- What a wait for one block adds to its task's log.
 use Rattle.std.specs.Prelude.{◌≡◌, ℕ, ◌+◌, [], ◌∷◌, ◌++◌}
 use Rattle.mv_ecb.specs.declared.operation.EcbOp.TheVariants.{Arm, Settle}
 use Rattle.mv_ecb.specs.declared.operation.EcbReply.TheVariants.{Complete}
@@ -8,7 +8,7 @@ use Rattle.mv_machine.specs.declared.entry.Op.TheVariants as op_on
 use Rattle.mv_machine.specs.declared.entry.Reply.TheVariants as reply_of
 use Rattle.mv_board.specs.Faces.{CallerFace}
 
--- the task armed this block, and settled it when it was complete with this code: two entries of its log
+-- the task armed this block, and settled it when it was complete with this code; these are the two entries that its log got
 pub record WaitedFor (ecb code : ℕ) (t u : CallerFace) : Type 0 where
   pub first : Entry
   pub second : Entry

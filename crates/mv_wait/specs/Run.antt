@@ -1,4 +1,4 @@
--- Events that a task has made, and how far its program has run by them.
+-- The events that a task has made, and how far these have taken its program.
 use Rattle.std.specs.Prelude.{◌≡◌, ℕ, ◌+◌, ◌≤◌, List, ◌++◌, length}
 use Rattle.mv_board.specs.declared.view.Sight.{Sight}
 use Rattle.mv_board.specs.Faces.{CallerFace, IsSame}
@@ -6,12 +6,12 @@ use Rattle.mv_calls.specs.Keeping.{Kept, kept_of}
 use Rattle.mv_calls.specs.Made.{IsMade, told_by, HaveTheirWakes}
 use Rattle.mv_calls.specs.Program.{Program, Call, Heard, Says, left, entries}
 
--- what a task keeps of its log
+-- what a task keeps by its log
 abbrev pub keeps : CallerFace → Kept
 keeps t = kept_of t.number t.log
 
--- The task made these events, each on the latch set with its wakes. They lengthen its log and what it was told, and lower what
--- is left to it by their number; what it met before stays.
+-- The task made these events and no others, each on the latch set with its wakes. They are appended to its log and to its told
+-- list, and their number is taken from the events that are left; words that it read earlier stay recorded.
 pub record Went (hs : List Heard) (t u : CallerFace) : Type 0 where
   pub same : IsSame t u
   pub wakes : HaveTheirWakes hs
@@ -20,7 +20,7 @@ pub record Went (hs : List Heard) (t u : CallerFace) : Type 0 where
   pub left : u.left + length hs ≡ t.left
   pub met : (more : List Sight) × (u.met ≡ t.met ++ more)
 
--- the task has made the events that the program says, at most so many, and this is left of the program
+-- the task has made events of the program p, at most `most`, and q is the residual program
 pub record Runs {A : Type 0} (most : ℕ) (p q : Program A) (t u : CallerFace) : Type 0 where
   pub events : List Heard
   pub went : Went events t u
@@ -28,8 +28,8 @@ pub record Runs {A : Type 0} (most : ℕ) (p q : Program A) (t u : CallerFace) :
   pub says : Says p events
   pub leaves : left p events ≡ q
 
--- The call was made of the task's log, with an answer that is so; its events were taken off what was left, and what the task met
--- before stays.
+-- The task made the events of this call and no others, at most `most`; the call began with what the task kept by its log. Its
+-- answer satisfies `Is`. The events are taken from those that are left, and words that the task read earlier stay recorded.
 pub record IsServed {A : Type 0} (most : ℕ) (call : Call A) (Is : A → Type 0) (t u : CallerFace) : Type 0 where
   pub answer : A
   pub is : Is answer

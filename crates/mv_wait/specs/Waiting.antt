@@ -1,4 +1,4 @@
--- The parts of a wait.
+-- The parts of a wait: its blocks are armed, and later settled.
 use Rattle.std.specs.Prelude.{◌≡◌, ℕ, ◌<◌, ◌≤◌, ◌==◌, false, List, ◌++◌, length, get_or, slice_index, Option, None, Result}
 use Rattle.std.specs.List.{AllByRecursion, list_any}
 use Rattle.mv_ecb.specs.Table.{code_limit}
@@ -23,33 +23,33 @@ use Rattle.mv_wait.specs.declared.waiting.WaitSlot.{WaitSlot}
 use Rattle.mv_wait.specs.declared.waiting.WaitSlot.TheVariants as slot
 use Rattle.mv_wait.specs.Run.{Runs}
 
--- the blocks exist, and are the caller's own
+-- these blocks exist, and are owned by caller k
 abbrev pub AreOwn : Setup → ℕ → List ℕ → Type 0
 AreOwn c k es = AllByRecursion (λ e. (e < length c.owners) × (owner_of c e ≡ k)) es
 
--- the same of the first n of them
+-- the first n of these blocks exist, and are owned by caller k
 abbrev pub AreOwnUpTo : Setup → ℕ → List ℕ → ℕ → Type 0
 AreOwnUpTo c k es n = (j : ℕ) → j < n → (get_or es j 0 < length c.owners) × (owner_of c (get_or es j 0) ≡ k)
 
--- none of them is extended, by the log
+-- by its log the task holds none of these blocks extended
 abbrev pub ArePlain : CallerFace → List ℕ → Type 0
 ArePlain t es = AllByRecursion (λ e. (kept_of t.number t.log).extended e ≡ false) es
 
--- these blocks are armed, and no other wait is open
+-- by this log exactly these blocks are armed, no pause is open, and no request waits to be confirmed
 pub record IsArmedFor (es : List ℕ) (log : List Entry) : Type 0 where
   pub armed : (n : ℕ) → (waits_from no_waits log).armed n ≡ list_any (λ e. n == e) es
   pub parked : (n : ℕ) → (waits_from no_waits log).parked n ≡ false
   pub queued : (latch id : ℕ) → (waits_from no_waits log).queued latch id ≡ false
 
--- what a wait answers, in the programs
+-- the answer of a wait in the programs
 abbrev pub Waited : Type 0
 Waited = Result (List (Option ℕ)) Refusal
 
--- each block was armed, whatever program follows
+-- the task armed each of these blocks, in the order of the list, whatever program follows
 abbrev pub ArmsAll : List ℕ → CallerFace → CallerFace → Type 0
 ArmsAll es t u = (p : Program Waited) → Runs (length es) (arm_all es p) p t u
 
--- a wait was accepted, and each of its blocks was armed
+-- the wait was accepted, and the task armed each of its blocks
 pub record IsArmed (c : Setup) (count : ℕ) (es : List ℕ) (t u : CallerFace) : Type 0 where
   pub accepted : wait_refusal c count es (kept_of t.number t.log) ≡ None
   pub arms : ArmsAll es t u
@@ -58,35 +58,35 @@ pub record IsArmed (c : Setup) (count : ℕ) (es : List ℕ) (t u : CallerFace) 
   pub plain : ArePlain u es
   pub distinct : AreDistinct es
 
--- each block was settled with these slots, whatever program follows
+-- the task settled each of these blocks with these slots, whatever program follows
 abbrev pub SettlesAll : List ℕ → List (Option ℕ) → CallerFace → CallerFace → Type 0
 SettlesAll es slots t u = (found : List (Option ℕ)) (f : List (Option ℕ) → Program Waited)
     → Runs (length es) (settle_all es found f) (f (found ++ slots)) t u
 
--- each block was settled with these slots, and so many of them are complete
+-- the task settled each of these blocks with these slots, of which at least `count` are complete
 pub record SettlesEnough (count : ℕ) (es : List ℕ) (slots : List (Option ℕ)) (t u : CallerFace) : Type 0 where
   pub settles : SettlesAll es slots t u
   pub enough : count ≤ complete_count slots
 
--- what a settle found, as its event's reply
+-- the reply to the event of a settle that found this
 abbrev pub settle_reply : WaitSlot → EcbReply
 settle_reply (slot.Complete code) = ecb_reply.Complete code
 settle_reply slot.Open = ecb_reply.Open
 
--- block e was settled, and found so
+-- the task settled block e, with this outcome
 abbrev pub IsBlockSettled : ℕ → CallerFace → WaitSlot → CallerFace → Type 0
 IsBlockSettled e t found u = Happened t (Ecb e) (op_on.Ecb Settle) (reply_of.Ecb (settle_reply found)) u
 
--- a slot has a code
+-- the slot has a code
 abbrev pub IsComplete : WaitSlot → Type 0
 IsComplete found = (code : ℕ) × (found ≡ slot.Complete code)
 
--- a slot's code, if it has one, has its 30 bits
+-- the slot's code, if it has one, is below `code_limit`
 abbrev pub HasLowCode : WaitSlot → Type 0
 HasLowCode (slot.Complete code) = code < code_limit
 HasLowCode slot.Open = Unit {0}
 
--- a wait that is refused since a block is extended names one that an exit starts from
+-- if the wait is refused because a block is extended, an exit starts from that block
 abbrev pub NamesSource : Setup → List ℕ → WaitRefusal → Type 0
 NamesSource c es (refusal.Extended p) = StartsExit c (slice_index es p)
 NamesSource c es refusal.TooMany = Unit {0}

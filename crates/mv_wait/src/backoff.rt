@@ -9,40 +9,43 @@ use std::sync::{Arc, Wait};
 use std::time::{Clock, Instant};
 use std::{hint, thread};
 
-// The steps of a wait that spin: 2,047 rounds in all, about as long as it takes to park and to be woken.
+// The steps of a wait that spin: 2,047 rounds in all, which take about as long as a park and its wake.
 const SPINS: u32 = 131;
 
-// A step spins twice as many rounds as the last, up to 2 to this power.
+// Each step spins twice as many rounds as the one before, up to 2 to this power.
 const LONGEST_SPIN: u32 = 4;
 
-// The steps after these that yield the processor: about as long again, if no other program runs.
+// The steps of a wait that yield the processor, after those that spin. They take about as long again, if no other program runs.
 const YIELDS: u32 = 30;
 
-// The first step that parks, and so does each one after it.
+// The first step that parks; all later steps park too.
 const PARKS: u32 = SPINS + YIELDS;
 
-// How many waits yield at once after one that spun in vain.
+// After a wait that spun in vain, this many waits do not spin.
 const UNSPUN_WAITS: u32 = 63;
 
-// A yield that took more nanoseconds gave the processor to another program for a whole time slice.
+// A yield that takes more nanoseconds than this gave the processor to another program for a whole time slice.
 const LONGEST_YIELD: u32 = 1_000_000;
 
-// How many waits park without a yield after a long one. In all of them parking costs about as much as one such slice.
+// After a long yield, this many waits do not yield, and park at once. Parking in all of them costs about as much as one time
+// slice.
 const UNYIELDED_WAITS: u32 = 1_023;
 
-/// The backoff of a task that waits: it spins, then yields its processor, then parks. The `Backoff` of crossbeam_utils, which the board
-/// uses, ends with the yields.
+/// The backoff of a task that waits: it spins, then yields its processor, then parks.
 ///
-/// Spinning is best if the other task runs on another processor and hands over soon. If both tasks share a processor, the other one
-/// runs only when this one gives it up, and a yield costs a small part of a park and its wake. If other programs share the processor
-/// too, a yield gives them a whole time slice, but the scheduler puts a task that is woken from a park in front. So a task spins as long
-/// as that ends its waits, and yields as long as its yields are short; otherwise it tries each again only now and then.
+/// The `Backoff` of crossbeam_utils, which the board uses, never parks.
+///
+/// Spinning is best if the other task runs on another processor and hands over soon. If both tasks share a processor, the other
+/// one runs only when this one gives it up, and a yield costs a small part of a park and its wake. If other programs share the
+/// processor too, a yield gives them a whole time slice, but the scheduler favours a task that is woken from a park. So a task
+/// spins as long as spinning ends its waits, and yields as long as its yields are short; otherwise it tries each of them again
+/// only now and then.
 #[derive(Drop)]
 pub(crate) struct Backoff {
     parker: Parker,
     // 1 if the task was woken since it last listened, otherwise 0.
     woken: Arc<AtomicU64, Global>,
-    // How many steps this wait has taken; those after `PARKS` are not counted.
+    // How many steps this wait has taken, at most `PARKS`.
     step: Cell<u32>,
     // How many of the next waits do not spin.
     unspun: Cell<u32>,
@@ -50,7 +53,7 @@ pub(crate) struct Backoff {
     unyielded: Cell<u32>,
 }
 
-/// Wakes one task.
+/// What wakes one task: the other end of its `Backoff`.
 #[derive(Drop)]
 pub(crate) struct Waker {
     unparker: Unparker,
@@ -58,7 +61,7 @@ pub(crate) struct Waker {
 }
 
 impl Waker {
-    /// Ends the task's park or its watch of the word. What the task is woken for must have been done before.
+    /// Wakes the task, if it is parked or waits for a wake. What the task is woken for must have been done before.
     pub(crate) fn wake(&self) {
         self.woken.store(1, Ordering::SeqCst);
         self.unparker.unpark();
@@ -66,7 +69,11 @@ impl Waker {
 }
 
 impl Backoff {
-    /// The backoff of a new task, and its waker.
+    /// Makes the backoff of a new task, and its waker. All memory of both is taken here.
+    ///
+    /// # Errors
+    ///
+    /// `NoMemory` if memory runs out.
     pub(crate) fn open(alloc: Global) -> Result<(Backoff, Waker), NoMemory> {
         let parker = Parker::new(alloc)?;
         let unparker = parker.unparker().clone()?;
@@ -90,7 +97,7 @@ impl Backoff {
         self.step.set(0);
     }
 
-    /// One step of a wait, after a look that did not end it: spins, yields or parks.
+    /// Makes one step of a wait, after a look that did not end it: spins, yields or parks.
     pub(crate) fn snooze<R: Wait + Clock>(&self, rt: &R) {
         let step = self.step.get();
         if step < SPINS && counted_down(&self.unspun) {
@@ -114,12 +121,12 @@ impl Backoff {
         }
     }
 
-    /// Forgets earlier wakes. A look that follows this sees what any of them announced.
+    /// Forgets earlier wakes. A look after this call sees whatever any of them announced.
     pub(crate) fn listen(&self) {
         self.woken.store(0, Ordering::SeqCst);
     }
 
-    /// Waits until the task is woken, unless it was since it last listened.
+    /// Waits until the task is woken; returns at once if it was woken since it last listened.
     pub(crate) fn await_wake<R: Wait + Clock>(&self, rt: &R) {
         self.reset();
         for _ in rt.forever() {
@@ -131,14 +138,14 @@ impl Backoff {
     }
 }
 
-// Whether none of these waits is left; otherwise takes one off.
+// Whether none of these waits is left. If one is left, takes it off.
 fn counted_down(waits: &Cell<u32>) -> bool {
     let left = waits.get();
     waits.set(left.saturating_sub(1));
     left == 0
 }
 
-// Yields the processor, and returns whether that took long. If the clock cannot be read it did not.
+// Yields the processor, and returns whether that took longer than `LONGEST_YIELD`. If the clock cannot be read, it did not.
 fn is_yield_long<C: Clock>(clock: &C) -> bool {
     let before = Instant::now(clock);
     thread::yield_now();

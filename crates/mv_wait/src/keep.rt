@@ -1,4 +1,4 @@
-//! What a task keeps of its own entries, in tables. Clauses cite `specs/Keep.antt` and the calls' `Keeping.antt`.
+//! What a task keeps of its own entries, in tables. Clauses cite `specs/Keep.antt` and `Keeping.antt` of mv_calls.
 
 ghost use Rattle.std.specs.Prelude.{◌≡◌, ◌*◌, ◌+◌, ◌<◌, ◌≤◌, ◌==◌, ◌++◌, ◌∷◌, [], ℕ, Bool, not, List, length, count_by, is_some};
 ghost use Rattle.std.specs.Prelude.{IfOk, IfSome};
@@ -20,21 +20,22 @@ use mv_machine::{Object, Op, Reply, ValidConfig};
 use slab::Slab;
 use std::alloc::Global;
 
-/// One of a task's own elements.
+/// What a task keeps of one of its elements.
 #[derive(Clone, Copy)]
 pub(crate) struct OwnElement {
     pub in_use: bool,
     pub generation: u32,
 }
 
-/// A latch request that stands, and its latch.
+/// A standing latch request of the task, and its latch.
 #[derive(Clone, Copy)]
 pub(crate) struct HeldRequest {
     pub latch: u32,
     pub request: Request,
 }
 
-/// What a task keeps: which blocks it holds extended, its elements from the first on, and its requests that stand.
+/// What a task keeps of its entries: which blocks it holds extended, its elements from number `first` on, and its standing
+/// requests.
 #[derive(Drop)]
 pub(crate) struct Keep {
     pub caller: u32,
@@ -45,7 +46,11 @@ pub(crate) struct Keep {
 }
 
 impl Keep {
-    /// What a task keeps before its first entry: nothing, with room for as many requests as it has events left.
+    /// Returns what a task keeps before its first entry: nothing. All memory is taken here, with room for `left` requests.
+    ///
+    /// # Errors
+    ///
+    /// `NoMemory` if memory runs out.
     pub(crate) fn empty(
         alloc: Global,
         config: &ValidConfig,
@@ -73,7 +78,7 @@ impl Keep {
         })
     }
 
-    /// One more event of the task.
+    /// Records one more event of the task. It takes no memory.
     #[inline(always)]
     pub(crate) fn follow(&mut self, object: Object, op: Op, reply: Reply)
         requires block { Reaches object self.old }
@@ -105,7 +110,7 @@ impl Keep {
     ghost use Rattle.mv_machine.specs.declared.entry.Object.TheVariants as object;
     ghost use Rattle.mv_wait.specs.Keep.{AreExtended, AreElements};
 
-    // A block is extended from an extend that is answered Armed until it is cleared.
+    // Records an event on a block: the block is extended from an Extend with the reply Armed until a Clear.
     #[inline(always)]
     fn follow_block(&mut self, n: u32, op: EcbOp, reply: EcbReply)
         requires block { n < length self.old.extended.items }
@@ -121,7 +126,8 @@ impl Keep {
         }
     }
 
-    // An element is in use from its opening until it is closed, and its generation goes by what the replies say.
+    // Records an event on an element, if it is the task's own: it is in use from its Open to its Close, and the replies say its
+    // generation.
     #[inline(always)]
     fn follow_element(&mut self, n: u32, op: ElementOp, reply: ElementReply)
         requires closes { ClosesBelow (op_on.Element op) (reply_of.Element reply) }
@@ -142,7 +148,7 @@ impl Keep {
         self.elements[i] = after(old, op, reply);
     }
 
-    // A request stands from its obtain until it is gone, released or purged.
+    // Records an event on the latch set: a request stands from its Obtain until it is gone, released or purged.
     fn follow_latches(&mut self, op: LatchOp, reply: LatchReply)
         requires room { HasRoomFor self.old.requests 1 }
         ensures kept { (ts : List StandingRequest) → AreHeld ts self.old.requests.slots
@@ -177,7 +183,7 @@ impl Keep {
 }
 
 impl Keep {
-    // One request more stands. There is room for it.
+    // Records one more standing request. There is room for it.
     fn stand(&mut self, latch: u32, id: u32, requestor: u64, mode: Mode, form: LatchForm)
         requires room { HasRoomFor self.old.requests 1 }
         ensures kept { (ts : List StandingRequest) → AreHeld ts self.old.requests.slots
@@ -202,7 +208,7 @@ impl Keep {
     }
 }
 
-// An element after an event on it.
+// An element's entry after an event on it.
 fn after(element: OwnElement, op: ElementOp, reply: ElementReply) -> OwnElement
     requires { ClosesBelow (op_on.Element op) (reply_of.Element reply) }
     ensures { result ≡ element_after element op reply }
@@ -224,7 +230,7 @@ fn after(element: OwnElement, op: ElementOp, reply: ElementReply) -> OwnElement
     }
 }
 
-// The generation after a close.
+// The generation after an element was closed.
 fn closed(kept: u32, op: ElementOp) -> u32
     requires { ClosesBelow (op_on.Element op) (reply_of.Element Closed) }
     ensures { result ≡ generation_after kept op Closed }
@@ -249,7 +255,7 @@ fn retain_others(requests: &mut Slab<HeldRequest>, latch: u32, id: u32)
     );
 }
 
-// Takes out the requests of a requestor.
+// Takes out all requests of a requestor.
 fn retain_requestors(requests: &mut Slab<HeldRequest>, requestor: u64)
     ensures kept { (ts : List StandingRequest) → AreHeld ts requests.old.slots → AreHeld (less (is_for requestor) ts) requests.new.slots }
     ensures len { slab_len requests.new ≤ slab_len requests.old }
@@ -263,7 +269,7 @@ fn retain_requestors(requests: &mut Slab<HeldRequest>, requestor: u64)
     );
 }
 
-/// How many requests are to post a block at their grant.
+/// Returns how many requests have the Posted form, and so a block to post at their grant.
 pub(crate) fn posting_count(requests: &Slab<HeldRequest>) -> u32
     requires { slab_len requests.now ≤ events_limit }
     ensures { result ≡ count_by (meets is_posting) requests.now.slots }
@@ -277,7 +283,7 @@ pub(crate) fn posting_count(requests: &Slab<HeldRequest>) -> u32
     count
 }
 
-/// The key of a request of this number, if there is one.
+/// Returns the slab key of a request of this number, if there is one.
 pub(crate) fn key_of(requests: &Slab<HeldRequest>, id: u32) -> Option<usize>
     ensures stands { is_some result ≡ list_any (λ e. (request_of e.1).request.id == id) (entries requests.now) }
     ensures there { IfSome result (λ key. HoldsRequest requests.now id key) }

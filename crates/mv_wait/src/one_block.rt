@@ -1,4 +1,4 @@
-//! A wait for one block. Clauses cite the calls' `Waits.antt` and `Exits.antt`, `specs/Run.antt` and `specs/OneBlock.antt`.
+//! A wait for one block. Clauses cite `Waits.antt` and `Exits.antt` of mv_calls, `specs/Run.antt` and `specs/OneBlock.antt`.
 
 ghost use Rattle.std.specs.Prelude.{◌≡◌, ◌<◌, ◌≤◌, ◌∷◌, [], false, length, Some, Ok};
 ghost use Rattle.mv_ecb.specs.Table.{code_limit};
@@ -18,10 +18,12 @@ use std::sync::Wait;
 use std::time::Clock;
 
 impl Station {
-    /// Waits until this block is complete, and answers the code of 30 bits that it is complete with: `wait` for one block. The block
-    /// must be the task's own, and where an exit starts from it, the task must not hold it extended: so it is never refused. Two
-    /// events, which must be left. It parks until the block is posted, not at all where it is complete when it comes, and for ever
-    /// where nobody posts it.
+    /// Waits until this block is complete, and returns the code of 30 bits with which it is complete. This is `wait` for one
+    /// block.
+    ///
+    /// The block must be the task's own, and if an exit starts from it, the task must not hold it extended; so the wait is never
+    /// refused. It makes two events, which must be left. The task parks until the block is posted: not at all if the block is
+    /// already complete, and for ever if no task posts it.
     ///
     /// # Example
     ///

@@ -1,5 +1,5 @@
-//! Posts, each with the posts of its exit. Clauses cite the calls' `Posts.antt`, and `specs/Run.antt`,
-//! `specs/Answers.antt`, `specs/Posted.antt` and `specs/Task.antt`.
+//! Posts, each with the posts of its exit. Clauses cite `Posts.antt` of mv_calls, and `specs/Run.antt`, `specs/Answers.antt`,
+//! `specs/Posted.antt` and `specs/Task.antt`.
 
 ghost use Rattle.std.specs.Prelude.{◌≡◌, ◌<◌, ◌≤◌, ◌++◌, ◌+◌, ◌∷◌, length, reverse, vec_len, vec_capacity};
 ghost use Rattle.std.specs.List.{AllByRecursion};
@@ -22,21 +22,24 @@ use mv_ecb::EcbOp;
 use mv_machine::{Object, Op};
 use std::sync::Wait;
 
-/// What a post came to.
+/// The outcome of a post.
 #[derive(Clone, Copy, Debug, PartialEq, Eq)]
 pub enum PostAnswer {
-    /// Nobody waited.
+    /// The block was posted, and no task waited for it.
     Posted,
-    /// A task waited, or an exit was to run.
+    /// The block was posted, and its waiting task was woken or its exit was run.
     Woke,
-    /// The block was complete before, with this code, which stays; the new one is not kept.
+    /// The block was complete before with this code, which it keeps; the new code is dropped.
     Already(u32),
 }
 
 impl Station {
-    /// Posts a block with a code of 30 bits, and with the same code what its exit posts, each block with its own exits before the
-    /// next; wakes whoever waits for them. Any task may. As many events as `ValidConfig::reach` says of the block at most, which
-    /// must be left. It does not park, and nothing refuses it: the answer says whether the code was taken.
+    /// Posts a block with a code of 30 bits. If that runs an exit, it posts the exit's targets with the same code, each with its
+    /// own exits before the next.
+    ///
+    /// The call wakes the tasks that wait for the posted blocks. Any task may post any block. It makes at most as many events as
+    /// `ValidConfig::reach` gives for the block; these must be left. It does not park, takes no memory and is never refused: the
+    /// answer says whether the block took the code.
     ///
     /// # Example
     ///
@@ -74,7 +77,8 @@ impl Station {
         answer
     }
 
-    // Posts one block, and notes what its exit is to post behind what is pending, the first one last.
+    // Posts one block, wakes its owner if the reply is Woke, and puts the targets of the exit that this runs after the pending
+    // blocks, the first target last.
     fn post_one<R: Wait>(
         &self,
         rt: &R,
@@ -108,7 +112,7 @@ impl Station {
     }
 }
 
-// Puts these behind what is pending, the first one last.
+// Puts these blocks after the pending ones, the first of them last.
 fn note(pending: &mut Vec<u32>, targets: &[u32])
     requires { vec_len pending.old + length targets.now ≤ vec_capacity pending.old }
     ensures noted { pending.new.items ≡ pending.old.items ++ reverse targets.now }

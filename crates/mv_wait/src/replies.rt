@@ -1,4 +1,4 @@
-//! What replies say, where their kind is known. Clauses cite `specs/Says.antt`, `specs/Posted.antt`, `specs/Single.antt` and
+//! What a reply says, if its kind is known. Clauses cite `specs/Says.antt`, `specs/Posted.antt`, `specs/Single.antt` and
 //! `specs/Waiting.antt`.
 
 ghost use Rattle.std.specs.Prelude.{◌≡◌};
@@ -16,7 +16,7 @@ use crate::waiting::WaitSlot;
 use mv_ecb::EcbReply;
 use mv_machine::{Reply, VolumeReply};
 
-/// How a settled block was found.
+/// Returns what the reply to a Settle found.
 pub(crate) fn slot(reply: Reply) -> WaitSlot
     requires { SaysSettled reply }
     ensures { reply ≡ reply_of.Ecb (settle_reply result) }
@@ -28,7 +28,7 @@ pub(crate) fn slot(reply: Reply) -> WaitSlot
     }
 }
 
-/// The code that stood in the way of an extend, if one did.
+/// Returns the code with which a block was complete when it was to be extended; `None` if it was extended.
 pub(crate) fn taken(reply: Reply) -> Option<u32>
     requires { SaysExtended reply }
     ensures { reply ≡ reply_of.Ecb (extend_reply result) }
@@ -40,7 +40,7 @@ pub(crate) fn taken(reply: Reply) -> Option<u32>
     }
 }
 
-/// The word of a block.
+/// Returns the fullword in a reply.
 pub(crate) fn word(reply: Reply) -> u32
     requires { SaysWord reply }
     ensures { reply ≡ reply_of.Ecb (ecb_reply.Word result) }
@@ -51,7 +51,7 @@ pub(crate) fn word(reply: Reply) -> u32
     }
 }
 
-/// The number of a volume.
+/// Returns the number of a volume in a reply.
 pub(crate) fn value(reply: Reply) -> u32
     requires { SaysValue reply }
     ensures { reply ≡ reply_of.Volume (volume_reply.Value result) }
@@ -62,7 +62,7 @@ pub(crate) fn value(reply: Reply) -> u32
     }
 }
 
-/// What the reply to a post says.
+/// The outcome of one post, with the exit to run in `Woke` (0 for none).
 #[derive(Clone, Copy)]
 pub(crate) enum Came {
     Posted,
@@ -70,7 +70,7 @@ pub(crate) enum Came {
     Already(u32),
 }
 
-/// What a post came to.
+/// Returns the outcome that the reply to a Post says.
 pub(crate) fn posted(reply: Reply) -> Came
     requires { SaysPosted reply }
     ensures { reply ≡ reply_of.Ecb (reply_to_post (posting_of result)) }
@@ -84,7 +84,7 @@ pub(crate) fn posted(reply: Reply) -> Came
 }
 
 impl Came {
-    /// What the call answers.
+    /// Returns the answer of the call `post`.
     pub(crate) fn answer(self) -> PostAnswer
         ensures { result ≡ post_answer (posting_of self) }
     {
@@ -95,7 +95,7 @@ impl Came {
         }
     }
 
-    /// The exit that is to run, or 0.
+    /// Returns the exit that is to run, or 0.
     pub(crate) fn exit(self) -> u32
         ensures { result ≡ exit_run (posting_of self) }
     {

@@ -1,5 +1,5 @@
-//! The calls of one event. Clauses cite the calls' `Waits.antt` and `Posts.antt`, and `specs/Run.antt`,
-//! `specs/Answers.antt` and `specs/Single.antt`.
+//! The calls of one event. Clauses cite `Waits.antt` and `Posts.antt` of mv_calls, and `specs/Run.antt`, `specs/Answers.antt` and
+//! `specs/Single.antt`.
 
 ghost use Rattle.std.specs.Prelude.{◌≡◌, ◌<◌, ◌≤◌, length, option_map, MatchResult, None, true, false};
 ghost use Rattle.mv_ecb.specs.Table.{code_limit};
@@ -24,7 +24,7 @@ use mv_machine::{Object, Op, VolumeOp};
 use std::sync::Wait;
 use thiserror::Error;
 
-/// The block or element is another caller's.
+/// The error of a call on a block or an element that is another caller's.
 #[derive(Clone, Copy, Debug, PartialEq, Eq, Error)]
 #[error("the block or element is another caller's")]
 pub struct NotOwner;
@@ -47,12 +47,14 @@ pub enum ExtendRefusal {
 }
 
 impl Station {
-    /// Zeroes a block of the task's own for its next use, extended or not, and answers the fullword that it had: with the completion
-    /// bit, 2^30, and the code where it was complete. One event, which must be left. It does not park.
+    /// Zeroes a block of the task's own for its next use, extended or not, and returns the fullword that it had.
+    ///
+    /// If the block was complete, that fullword is the completion bit, 2^30, plus the code. The call makes one event, which must
+    /// be left, and does not park.
     ///
     /// # Errors
     ///
-    /// `NotOwner` where the block is another caller's; then no event is made.
+    /// `NotOwner` if the block is another caller's; then no event is made.
     pub fn clear<R: Wait>(&self, rt: &R, task: &mut Task, ecb: u32) -> Result<u32, NotOwner>
         requires task { IsOf self.now task.old }
         requires rest { IsAtRest task.old.log }
@@ -70,12 +72,15 @@ impl Station {
         Ok(word(reply))
     }
 
-    /// Makes the next post of a block of the task's own run an exit of the configuration, counted from 1, that starts from the
-    /// block. It holds for one post, and until the block is cleared. One event, which must be left. It does not park.
+    /// Makes the next post of a block of the task's own run this exit.
+    ///
+    /// Exits are numbered from 1 in the configuration, and the exit must start from the block. The extension holds for one post,
+    /// and until the block is cleared. The call makes at most one event, which must be left, and does not park.
     ///
     /// # Errors
     ///
-    /// The first refusal that holds, in the order of `ExtendRefusal`. Only `Complete` makes an event, whose reply it is.
+    /// The first refusal that applies, in the order of `ExtendRefusal`. Only `Complete` makes an event: it is the reply to that
+    /// event.
     pub fn extend<R: Wait>(
         &self,
         rt: &R,
@@ -102,7 +107,7 @@ impl Station {
         }
     }
 
-    // Why a block is not to be extended, if it is not.
+    // The reason for which a block is not to be extended, if there is one.
     fn refuses_extend(&self, task: &Task, ecb: u32, exit: u32) -> Option<ExtendRefusal>
         requires task { IsOf self.now task.now }
         requires block { ecb < length self.now.config.owners }
@@ -130,13 +135,14 @@ impl Station {
         !self.board.config().owns_ecb(task.number(), ecb)
     }
 
-    /// Posts a block with a code of 30 bits by one exchange of its word, which runs no exit and wakes nobody: the word that is
-    /// expected, place and state in 64 bits as `look` and `Moved` give it, has no wait bit. At most one event, which must be left.
-    /// It never waits.
+    /// Tries to post a block with a code of 30 bits, by one exchange of its word.
+    ///
+    /// The expected word, place and state in 64 bits as `look` and `Moved` give it, must have no wait bit; so the post runs no
+    /// exit and wakes no task. The call makes at most one event, which must be left, and never waits.
     ///
     /// # Errors
     ///
-    /// `Moved(w)` where the word found was w and not `expected`; then no event is made.
+    /// `Moved(w)` if the word was `w` and not `expected`; then no event is made.
     pub fn try_post(
         &self,
         task: &mut Task,
@@ -159,8 +165,9 @@ impl Station {
         Ok(posted(reply).answer())
     }
 
-    /// The fullword of any caller's block: wait bit 2^31, completion bit 2^30, code or exit below. One event, which must be left. It
-    /// never waits.
+    /// Returns the fullword of a block of any caller: wait bit 2^31, completion bit 2^30, and the code or the exit below.
+    ///
+    /// The call makes one event, which must be left, and never waits.
     pub fn test_ecb(&self, task: &mut Task, ecb: u32) -> u32
         requires task { IsOf self.now task.old }
         requires rest { IsAtRest task.old.log }
@@ -172,7 +179,9 @@ impl Station {
         word(reply)
     }
 
-    /// The number of 32 bits that a volume has. Any task may read it. One event, which must be left. It never waits.
+    /// Returns the number of 32 bits in a volume. Any task may read it.
+    ///
+    /// The call makes one event, which must be left, and never waits.
     pub fn read_volume(&self, task: &mut Task, volume: u32) -> u32
         requires task { IsOf self.now task.old }
         requires rest { IsAtRest task.old.log }
@@ -184,8 +193,10 @@ impl Station {
         value(reply)
     }
 
-    /// Gives a volume a number of 32 bits. Any task may; a read and a write are two events, between which others may write, so
-    /// guard them by a latch. One event, which must be left. It does not park.
+    /// Writes a number of 32 bits to a volume. Any task may write it.
+    ///
+    /// A read and a write are two events, between which other tasks may write; use a latch to keep them out. The call makes one
+    /// event, which must be left, and does not park.
     pub fn write_volume<R: Wait>(&self, rt: &R, task: &mut Task, volume: u32, number: u32)
         requires task { IsOf self.now task.old }
         requires rest { IsAtRest task.old.log }

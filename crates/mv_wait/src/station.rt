@@ -1,5 +1,5 @@
-//! The station: a board, and what wakes the tasks that wait. Clauses cite `specs/Station.antt`, `specs/Run.antt` and the
-//! board's `Faces.antt`.
+//! The station: a board, and a waker for each task. Clauses cite `specs/Station.antt`, `specs/Run.antt`, and `Faces.antt` of
+//! mv_board.
 
 ghost use Rattle.std.specs.Prelude.{◌≡◌, ◌<◌, ◌≤◌, ◌+◌, [], ◌++◌, ◌∷◌, true, length, map, vec_len, vec_capacity, IfOk, MatchResult};
 ghost use Rattle.std.specs.List.{Contains};
@@ -22,12 +22,14 @@ use std::marker::Model;
 use std::sync::Wait;
 use std::time::Clock;
 
-/// The shared objects of a configuration, for tasks that wait. It is shared by threads by reference; each thread acts by a `Task`
-/// of its own. All calls that name it go with a task that it gave, and with objects of its configuration.
+/// The shared objects of a configuration, for tasks that wait.
+///
+/// Threads share a station by reference, and each acts by a `Task`. Each call must be given a task that this station made, and
+/// objects of its configuration.
 #[derive(Drop)]
 pub struct Station {
     pub(crate) board: Board,
-    // What wakes each task, by its number.
+    // The waker of each task, by its number.
     pub(crate) wakers: Vec<Waker>,
 }
 
@@ -43,12 +45,13 @@ impl Model for Station {
 }
 
 impl Station {
-    /// A station with all objects at place 0, and its tasks in the order of their numbers. All memory that later calls use is
-    /// taken here.
+    /// Opens a station with all objects at place 0, and returns it with its tasks in the order of their numbers.
+    ///
+    /// All memory that later calls use is taken here.
     ///
     /// # Errors
     ///
-    /// `NoMemory` where there is not enough. The configuration is dropped then.
+    /// `NoMemory` if memory runs out. The configuration is dropped then.
     pub fn open(alloc: Global, config: ValidConfig) -> Result<(Station, Vec<Task>), NoMemory>
         ensures config { IfOk result (λ r. r.0.config ≡ config) }
         ensures tasks { IfOk result (λ r. AreFresh r.0 0 r.1.items) }
@@ -59,7 +62,7 @@ impl Station {
         Ok((Station { board, wakers }, tasks))
     }
 
-    /// Takes the last of the tasks that `open` gave, to be moved to its thread. No event, and it does not wait.
+    /// Takes the last of the tasks that `open` returned, to move it to its thread. It makes no event, and does not wait.
     pub fn take_last(&self, tasks: &mut Vec<Task>) -> Task
         requires some { 0 < length tasks.old.items }
         requires fresh { AreFresh self.now 0 tasks.old.items }
@@ -75,19 +78,21 @@ impl Station {
         task
     }
 
-    /// The configuration that it was opened with. No event, and it does not wait.
+    /// Returns the configuration with which the station was opened. It makes no event, and does not wait.
     pub fn config(&self) -> &ValidConfig
         ensures { result.now ≡ self.now.config }
     {
         self.board.config()
     }
 
-    /// One event on an object, and its reply: what the calls are made of. It takes one event that must be left, and the operation
-    /// must be one that the task may make by its own log. It does not park; on the latch set it waits for its turn.
+    /// Makes one event on an object, and returns its reply. The other calls are made of this one.
     ///
-    /// It wakes nobody, whatever its reply: a task that parks for what the event completes stays parked until the caller of this
-    /// wakes it by `wake`. Whom: at a post of a block or a release of an element that is answered Woke its owner, and on the latch
-    /// set those whom `Task::wakes` then names.
+    /// The event must be left, and the operation must be one that the task's own log permits. It does not park; on the latch set
+    /// it spins until it gets the turn.
+    ///
+    /// The call wakes no task, whatever its reply. A task that is parked until this event stays parked until the caller wakes it
+    /// by `wake`: the owner of a block or element if the reply to Post or Release is Woke, and on the latch set the tasks that
+    /// `Task::wakes` then names.
     #[inline(always)]
     pub fn event<R: Wait>(&self, rt: &R, task: &mut Task, object: Object, op: Op) -> Reply
         requires task { IsOf self.now task.old }
@@ -105,14 +110,16 @@ impl Station {
         reply
     }
 
-    /// One exchange of an object's word: a block's, an element's or a volume's. One event that must be left, which is taken only
-    /// where the exchange was made. It never waits.
+    /// Tries one exchange of the word of an object: a block, an element or a volume.
     ///
-    /// It wakes nobody, whatever its reply: where that is Woke, the caller of this wakes the owner of the block or element by `wake`.
+    /// An event must be left, and is used up only if the exchange succeeds. It never waits.
+    ///
+    /// The call wakes no task, whatever its reply. If that is Woke, the caller must wake the owner of the block or element by
+    /// `wake`.
     ///
     /// # Errors
     ///
-    /// `Moved(w)` where the word found was w and not `expected`; then no event is made.
+    /// `Moved(w)` if the word was `w` and not `expected`; then no event is made.
     pub fn try_event(
         &self,
         task: &mut Task,
@@ -139,8 +146,9 @@ impl Station {
         answer
     }
 
-    /// The event that reads an object that has a word: a block, an element or a volume. One event that must be left. It never
-    /// waits.
+    /// Makes the event that reads an object with a word: a block, an element or a volume.
+    ///
+    /// The event must be left. It never waits.
     pub fn test(&self, task: &mut Task, object: Object) -> Reply
         requires task { IsOf self.now task.old }
         requires word { HasWord self.now.config object }
@@ -153,7 +161,7 @@ impl Station {
         self.board.test(&mut task.caller, object)
     }
 
-    /// One load of an object's word: its place and its state in 64 bits. No event, and it never waits.
+    /// Loads an object's word: its place and its state in 64 bits. It makes no event, and never waits.
     pub fn look(&self, task: &mut Task, object: Object) -> u64
         requires task { IsOf self.now task.old }
         requires word { HasWord self.now.config object }
@@ -163,8 +171,10 @@ impl Station {
         self.board.look(&mut task.caller, object)
     }
 
-    /// Whether what a task waits for is so: its own block complete, its own element released, a request that it made granted or
-    /// gone. No event, and it does not park. What was so once stays so until the task's own event on it.
+    /// Returns whether what a task waits for has happened: its own block is complete, its own element is released, or a request
+    /// that it made is granted or gone.
+    ///
+    /// The call makes no event, and does not park. If the answer is `true`, it stays so until the task's own event on the object.
     pub fn peek<R: Wait>(&self, rt: &R, task: &mut Task, watch: Watch) -> bool
         requires task { IsOf self.now task.old }
         requires own { MayWatch self.now.config task.old watch }
@@ -174,8 +184,9 @@ impl Station {
         self.board.peek(rt, &mut task.caller, watch)
     }
 
-    /// Parks until what the task waits for is so, as `peek` tells. No event. It may never return: nothing promises that another
-    /// task ends the wait.
+    /// Parks until what the task waits for has happened, as `peek` says.
+    ///
+    /// The call makes no event. It may never return: nothing promises that another task ends the wait.
     pub fn park_for<R: Wait + Clock>(&self, rt: &R, task: &mut Task, watch: Watch)
         requires task { IsOf self.now task.old }
         requires own { MayWatch self.now.config task.old watch }
@@ -194,8 +205,8 @@ impl Station {
         }
     }
 
-    // The same for a request. A look at the latch set takes its turn from the task that is to release the latch, so there is one
-    // look after each wake and not one after each step of the backoff.
+    // Parks until a request is granted or gone. A look at the latch set takes the turn from the task that is to release the
+    // latch, so there is one look after each wake, and not one after each step of the backoff.
     fn park_for_latch<R: Wait + Clock>(&self, rt: &R, task: &mut Task, watch: Watch)
         requires task { IsOf self.now task.old }
         requires own { MayWatch self.now.config task.old watch }
@@ -211,8 +222,10 @@ impl Station {
         }
     }
 
-    /// Wakes the task of this number, if it parks; it looks again, and parks again where its wait is not over. No event, and it
-    /// never waits. The calls do it themselves: it is for calls that are made of events.
+    /// Wakes the task of this number if it is parked. The task then looks again, and parks again if its wait is not over.
+    ///
+    /// The call makes no event, and never waits. The service calls wake tasks themselves; use `wake` only in a call that you make
+    /// of events.
     pub fn wake(&self, caller: u32)
         requires { caller < self.now.config.callers }
     {
@@ -228,7 +241,8 @@ impl Station {
     ghost use Rattle.mv_board.specs.Faces.{AreInOrder, IsIn, AreHeld};
 
     /// Ends the station: takes back all its tasks, in the order of their numbers, and makes one legal history of their logs.
-    /// It takes no memory, never refuses, and does not wait: the tasks' threads must have ended.
+    ///
+    /// The call takes no memory, never fails, and does not wait: the tasks' threads must have ended.
     pub fn close(self, tasks: Vec<Task>) -> Closed
         requires order { AreInOrder self 0 tasks.items }
         requires all { length tasks.items ≡ self.config.callers }
@@ -250,7 +264,7 @@ impl Station {
     }
 }
 
-// A task for each of these callers in order, and what each is woken with.
+// Makes a task for each of these callers, in order, and its waker.
 fn tasks_of(
     alloc: Global,
     board: &Board,
@@ -270,7 +284,7 @@ fn tasks_of(
     Ok((tasks, wakers))
 }
 
-// A task with this caller, and what it is woken with.
+// Makes a task of this caller, and its waker.
 fn opened(alloc: Global, config: &ValidConfig, caller: Caller) -> Result<(Task, Waker), NoMemory>
     requires about { caller.about ≡ config.now ∷ [] }
     requires new { caller.log ≡ [] }
@@ -281,7 +295,7 @@ fn opened(alloc: Global, config: &ValidConfig, caller: Caller) -> Result<(Task, 
     Ok((task, waker))
 }
 
-// A task with this caller, whose tables are empty and have room for all its events.
+// Makes a task of this caller, with empty tables that have room for all its events.
 fn task_of(
     alloc: Global,
     config: &ValidConfig,
@@ -304,7 +318,7 @@ fn task_of(
     })
 }
 
-// Room for so many posts that are pending, and a place for each block.
+// Makes room for `left` blocks that are still to be posted, and a place for each block.
 fn rooms_of(alloc: Global, config: &Config, left: usize) -> Result<(Vec<u32>, Vec<u32>), NoMemory>
     ensures idle { IfOk result (λ r. r.0.items ≡ []) }
     ensures room { IfOk result (λ r. left ≤ vec_capacity r.0) }

@@ -1,5 +1,5 @@
-//! A task: one caller's seat, and what it keeps of its entries. Clauses cite `specs/Task.antt`, `specs/Keep.antt`, the board's
-//! `Faces.antt` and the calls' `Keeping.antt`.
+//! A task: a caller, and what it keeps of its entries. Clauses cite `specs/Task.antt`, `specs/Keep.antt`, `Faces.antt` of
+//! mv_board, and `Keeping.antt` of mv_calls.
 
 ghost use Rattle.std.specs.Prelude.{◌≡◌, ◌<◌, ◌≤◌};
 ghost use Rattle.std.specs.List.{AllByRecursion};
@@ -14,16 +14,17 @@ use mv_latch::Wake;
 use mv_machine::OpenLog;
 use std::marker::Model;
 
-/// One task of a station: a caller's seat, which one thread has at a time. No other task's call changes anything of it. None of
-/// its own methods makes an event or waits.
+/// One task of a station.
+///
+/// One thread owns it at a time, and no other task's call changes anything in it. None of its methods makes an event or waits.
 #[derive(Drop)]
 pub struct Task {
     pub(crate) caller: Caller,
     pub(crate) keep: Keep,
     pub(crate) backoff: Backoff,
-    // The blocks that a call is still to post, the next one last.
+    // The blocks that a call has still to post, the next one last.
     pub(crate) pending: Vec<u32>,
-    // A place for each block, where a wait notes at which position of its list it stands.
+    // A place for each block, where a wait notes the block's position in its list.
     pub(crate) places: Vec<u32>,
 }
 
@@ -39,7 +40,7 @@ impl Model for Task {
 }
 
 impl Task {
-    /// Its number, from 0 on, below the configuration's `callers`.
+    /// Returns the task's number, which is counted from 0 and below the configuration's `callers`.
     pub fn number(&self) -> u32
         ensures number { result ≡ self.now.number }
         ensures exists { AllByRecursion (λ (s : Setup). result < s.callers) self.now.about }
@@ -47,7 +48,8 @@ impl Task {
         self.caller.number()
     }
 
-    /// How many events it may still make: its budget less its entries. All tasks have together no more than 524,287.
+    /// Returns how many events the task may still make: its budget less its entries. All tasks together may make at most 524,287
+    /// (`EVENTS_LIMIT`).
     pub fn left(&self) -> u32
         ensures left { result ≡ self.now.left }
         ensures few { result ≤ events_limit }
@@ -55,14 +57,14 @@ impl Task {
         self.caller.left()
     }
 
-    /// Its entries so far, in order.
+    /// Returns the task's entries so far, in order.
     pub fn log(&self) -> &OpenLog
         ensures { result.now.entries ≡ self.now.log }
     {
         self.caller.log()
     }
 
-    /// The wakes of its last event on the latch set, in order. Before one there are none.
+    /// Returns the wakes of the task's last event on the latch set, in order; none before the first such event.
     pub fn wakes(&self) -> &[Wake]
         ensures wakes { result.now ≡ self.now.wakes }
         ensures last { result.now ≡ last_of self.now.told }
@@ -70,7 +72,7 @@ impl Task {
         self.caller.wakes()
     }
 
-    // Its caller, which the board takes back at its end.
+    // Returns the task's caller, which the board takes back at its end.
     pub(crate) fn into_caller(self) -> Caller
         ensures { result ≡ self }
     {
@@ -86,8 +88,8 @@ impl Task {
     ghost use Rattle.mv_machine.specs.Setup.{Setup, element_owner};
     ghost use Rattle.mv_calls.specs.Keeping.{kept_of};
 
-    /// Whether it holds a block extended: from an `extend` that was answered Ok until its `clear`. The block must be one of the
-    /// configuration's.
+    /// Returns whether the task holds a block extended: from an `extend` that returned `Ok` until its `clear`. The block must be
+    /// one of the configuration's.
     pub fn extended(&self, ecb: u32) -> bool
         requires { (s : Setup) × (self.now.about ≡ s ∷ []) × (ecb < length s.owners) }
         ensures { result ≡ (kept_of self.now.number self.now.log).extended ecb }
@@ -95,7 +97,8 @@ impl Task {
         self.keep.extended[ecb as usize]
     }
 
-    /// Whether an element of its own is in use: from its `allocate` until it is deallocated. The element must be its own.
+    /// Returns whether an element of the task is in use: from its `allocate` until it is deallocated. The element must be the
+    /// task's own.
     pub fn in_use(&self, element: u32) -> bool
         requires { (s : Setup) × (self.now.about ≡ s ∷ []) × (element_owner s element ≡ self.now.number) }
         ensures { result ≡ (kept_of self.now.number self.now.log).in_use element }
@@ -103,8 +106,8 @@ impl Task {
         self.element(element).in_use
     }
 
-    /// The generation of an element of its own, in use or not: 18 bits. It is that of the token of its next pause. The element must
-    /// be its own.
+    /// Returns the generation, of 18 bits, of an element of the task, in use or not. The token of its next pause has this
+    /// generation. The element must be the task's own.
     pub fn generation(&self, element: u32) -> u32
         requires { (s : Setup) × (self.now.about ≡ s ∷ []) × (element_owner s element ≡ self.now.number) }
         ensures kept { result ≡ (kept_of self.now.number self.now.log).generation element }
@@ -113,8 +116,10 @@ impl Task {
         self.element(element).generation
     }
 
-    /// How many of its latch requests stand, granted or waiting, by its own log: at most the configuration's `quota`. One that
-    /// another task purged stands until the task learns of it.
+    /// Returns how many standing latch requests the task has, granted or waiting, by its own log: at most the configuration's
+    /// `quota`.
+    ///
+    /// A request that another task purged still counts until this task learns of that.
     pub fn standing(&self) -> u32
         ensures count { result ≡ length (kept_of self.now.number self.now.log).requests }
         ensures kept { (kept_of self.now.number self.now.log).requests ≡ standing self.now.log }
@@ -122,14 +127,14 @@ impl Task {
         self.keep.requests.len() as u32
     }
 
-    /// How many of those are of the Posted form: at most the configuration's `posted_quota`.
+    /// Returns how many of the standing requests have the Posted form: at most the configuration's `posted_quota`.
     pub fn standing_posted(&self) -> u32
         ensures { result ≡ length (filter is_posting (kept_of self.now.number self.now.log).requests) }
     {
         posting_count(&self.keep.requests)
     }
 
-    /// The key under which its request of this number stands, if one stands.
+    /// Returns the slab key of the task's standing request of this number, if there is one.
     pub fn key(&self, id: u32) -> Option<usize>
         ensures { is_some result ≡ list_any (λ t. t.request.id == id) (kept_of self.now.number self.now.log).requests }
     {
@@ -145,7 +150,7 @@ impl Task {
     ghost use Rattle.mv_calls.specs.Waits.{refused_at};
     ghost use Rattle.mv_wait.specs.Keep.{IsKeptAs};
 
-    // The first position whose block it holds extended.
+    // The first position in this list whose block the task holds extended.
     pub(crate) fn first_extended(&self, ecbs: &[u32]) -> Option<u32>
         requires few { length ecbs.now < 2 ^ 32 }
         requires blocks { (s : Setup) × (self.now.about ≡ s ∷ []) × AllByRecursion (λ e. e < length s.owners) ecbs.now }
@@ -161,7 +166,7 @@ impl Task {
         None
     }
 
-    // What is kept of an element of its own.
+    // What the task keeps of an element of its own.
     fn element(&self, element: u32) -> OwnElement
         requires { (s : Setup) × (self.now.about ≡ s ∷ []) × (element_owner s element ≡ self.now.number) }
         ensures kept { IsKeptAs (kept_of self.now.number self.now.log) element result }

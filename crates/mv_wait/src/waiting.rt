@@ -1,5 +1,5 @@
-//! Waits for events. Clauses cite the calls' `Waits.antt`, and `specs/Run.antt`, `specs/Answers.antt`,
-//! `specs/Waiting.antt` and `specs/Listed.antt`.
+//! Waits for events. Clauses cite `Waits.antt` of mv_calls, and `specs/Run.antt`, `specs/Answers.antt`, `specs/Waiting.antt` and
+//! `specs/Listed.antt`.
 
 ghost use Rattle.std.specs.Prelude.{◌≡◌, ◌<◌, ◌≤◌, ◌*◌, ◌^◌, ◌==◌, not, [], ◌∷◌, true, length, take, option_map, Some, None};
 ghost use Rattle.std.specs.Prelude.{IfOk, IfErr, IfSome, MatchResult};
@@ -27,22 +27,22 @@ use std::sync::Wait;
 use std::time::Clock;
 use thiserror::Error;
 
-/// How a block of a wait was found.
+/// What a wait found of one of its blocks.
 #[derive(Clone, Copy, Debug, PartialEq, Eq)]
 pub enum WaitSlot {
-    /// It is complete with this code.
+    /// The block is complete with this code.
     Complete(u32),
-    /// It is not complete.
+    /// The block is not complete.
     Open,
 }
 
-/// Why a wait was refused. Positions count from 0.
+/// The reason for which a wait was refused. Positions count from 0.
 #[derive(Clone, Copy, Debug, PartialEq, Eq, Error)]
 pub enum WaitRefusal {
     /// The list is shorter than the count.
     #[error("the list is shorter than the count")]
     TooMany,
-    /// The block at this position stands earlier in the list.
+    /// The block at this position is also earlier in the list.
     #[error("the block at position {0} stands earlier in the list")]
     Doubled(u32),
     /// The block at this position is another caller's.
@@ -54,17 +54,21 @@ pub enum WaitRefusal {
 }
 
 impl Station {
-    /// Waits until at least `count` of these blocks are complete, and says of each whether it is, and with which code of 30 bits.
-    /// `out` has a slot for each block. Two events a block, which must be left. It parks until enough blocks are complete, not at
-    /// all where they are so when it comes, and for ever where nobody posts them. With the count 0 it only looks.
+    /// Waits until at least `count` of these blocks are complete, and reports in `out`, for each block, whether it is complete
+    /// and with which code of 30 bits.
     ///
-    /// It looks at each of n blocks until it has seen it complete, and each time at no more than it takes to know that its wait is not
-    /// over: n less the count, and one more, that are open. So a wait for all of them takes a look a block, and one for each time
-    /// that it is not over.
+    /// `out` has a slot for each block. The wait makes two events a block, which must be left. It parks until enough blocks are
+    /// complete: not at all if they already are, and for ever if no task posts them. With a count of 0 it does not wait, and only
+    /// reports.
+    ///
+    /// Once the wait has seen a block complete, it does not look at that block again. Each time it looks, it stops as soon as it
+    /// has found one more open block than may stay open (the length of the list less `count`), since then the wait is not over.
+    /// So a wait for all of its blocks looks once at each block, and once more for each time that it looked and the wait was not
+    /// over.
     ///
     /// # Errors
     ///
-    /// The first refusal that holds, in the order of `WaitRefusal`. Then no event is made, and `out` is as it was.
+    /// The first refusal that applies, in the order of `WaitRefusal`. Then no event is made, and `out` is unchanged.
     ///
     /// # Example
     ///
@@ -110,8 +114,10 @@ impl Station {
         Ok(())
     }
 
-    /// The beginning of a wait, for a call that does not park: each block is armed, unless the wait is refused. One event a block,
-    /// and as many are still to be left. Only `settle_wait` ends such a wait.
+    /// Begins a wait, for a call that does not park: arms each block, unless the wait is refused.
+    ///
+    /// The call makes one event a block, and as many more must be left for `settle_wait`, which is the only call that ends such a
+    /// wait.
     ///
     /// # Errors
     ///
@@ -140,8 +146,9 @@ impl Station {
         Ok(())
     }
 
-    /// The end of a wait that `arm_wait` began, once at least `count` of its blocks were seen to be complete: each block is settled.
-    /// `out` has a slot for each. One event a block, which must be left.
+    /// Ends a wait that `arm_wait` began, once at least `count` of its blocks were seen complete: settles each block.
+    ///
+    /// `out` has a slot for each block. It makes one event a block, which must be left.
     pub fn settle_wait<R: Wait>(
         &self,
         rt: &R,
@@ -168,7 +175,7 @@ impl Station {
         }
     }
 
-    // Why a wait is refused, if it is.
+    // The reason for which a wait is refused, if there is one.
     fn refuses_wait(&self, task: &mut Task, count: u32, ecbs: &[u32]) -> Option<WaitRefusal>
         requires task { IsOf self.now task.old }
         requires blocks { AllByRecursion (λ e. e < length self.now.config.owners) ecbs.now }
@@ -211,8 +218,8 @@ impl Station {
         }
     }
 
-    // Parks until `count` of the blocks are complete. Those that were not seen complete yet stand first in `places`. As long as it
-    // finds one more of these open than may stay open, the wait is not over, whatever the others are.
+    // Parks until `count` of the blocks are complete. The first places of `places` have the blocks that were not seen complete
+    // yet. If one more of these is open than may stay open, the wait is not over, whatever the others are.
     fn await_complete<R: Wait + Clock>(
         &self,
         rt: &R,
@@ -244,8 +251,9 @@ impl Station {
         }
     }
 
-    // Looks at the first of the blocks that were not seen complete, until one more than `spare` are found open, or no more than
-    // `spare` are left. The last of them takes the place of one that is complete. How many are left then.
+    // Looks at the blocks that were not seen complete, which are the first `unseen` ones of `places`, until one more than `spare`
+    // are found open, or at most `spare` are left. A block that is complete is replaced by the last of them. Returns how many are
+    // left.
     fn look_at_unseen<R: Wait>(
         &self,
         rt: &R,
@@ -292,8 +300,8 @@ impl Station {
     }
 }
 
-// The first position whose block stands earlier. `places` has a place for each block, whatever it says of it from earlier calls:
-// it is believed only where the list has that block there.
+// The first position whose block is also earlier in the list. `places` has a place for each block, which may be left from earlier
+// calls: it counts only if the list has that block at that place.
 fn doubled(places: &mut [u32], ecbs: &[u32]) -> Option<u32>
     requires few { length ecbs.now < 2 ^ 32 }
     requires blocks { AllByRecursion (λ e. e < length places.old) ecbs.now }
