@@ -1,8 +1,8 @@
--- The configurations of programs that need event control blocks alone.
+-- The configurations of programs that need event control blocks only.
 use Rattle.std.specs.Prelude.{ℕ, List, [], length}
 use Rattle.mv_machine.specs.Setup.{Setup}
 
--- a caller for each budget, a block for each owner, and of all else the least that a configuration may have
+-- a configuration with a caller for each budget and a block for each owner, and with the least that is allowed of all else
 abbrev pub blocks_setup : List ℕ → List ℕ → Setup
 blocks_setup budgets owners = record {
   callers = length budgets;

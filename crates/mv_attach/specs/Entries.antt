@@ -1,4 +1,4 @@
--- What a list of entries has of an event control block, for the clauses of programs.
+-- What a list of entries says of an event control block. The clauses of programs cite this.
 use Rattle.std.specs.Prelude.{◌≡◌, ℕ, List}
 use Rattle.std.specs.List.{Contains}
 use Rattle.mv_ecb.specs.declared.operation.EcbOp.TheVariants.{Post}
@@ -16,7 +16,7 @@ pub record Finds (es : List Entry) (block code : ℕ) : Type 0 where
   pub object : entry.object ≡ Ecb block
   pub found : entry.reply ≡ reply_of.Ecb (Complete code)
 
--- a post that was told so completed its block
+-- whether the reply to a post says that it completed its block
 abbrev pub IsAccepted : EcbReply → Type 0
 IsAccepted Posted = Unit {0}
 IsAccepted (Woke exit) = Unit {0}

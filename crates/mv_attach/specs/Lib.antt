@@ -1,6 +1,6 @@
--- what a list of entries has of a block
+-- what a list of entries says of a block
 pub mod Entries
 -- a configuration of blocks
 pub mod Blocks
--- rooms that a task fills
+-- the rooms that tasks fill
 pub mod Rooms

@@ -1,5 +1,5 @@
-//! A configuration of tasks that wait for event control blocks and post them. Clauses cite `specs/Blocks.antt`, and mv_machine's
-//! `Limits.antt`.
+//! A configuration of tasks that wait for event control blocks and post them. Clauses cite `specs/Blocks.antt`, and `Limits.antt`
+//! of mv_machine.
 
 ghost use Rattle.std.specs.Prelude.{◌≡◌, ◌<◌, ◌≤◌, length, sum, IfOk};
 ghost use Rattle.std.specs.List.{AllByRecursion};
@@ -10,13 +10,14 @@ use mv_io::NoMemory;
 use mv_machine::{Config, ValidConfig};
 use std::alloc::Global;
 
-/// A configuration with a caller for each of these budgets, and a block for each of these owners. Of all else it has the least that
-/// there may be: one element a caller, one volume, one latch, one latch request of a caller at a time, which is not of the Posted
-/// form; and no exits. Its limits are those of `Config`.
+/// Makes a configuration with a caller for each of these budgets and a block for each of these owners.
+///
+/// Of all else it has the least that is allowed: one element a caller, one volume, one latch, one latch request a caller at a
+/// time, none of the Posted form, and no exits. Its limits are those of `Config`.
 ///
 /// # Errors
 ///
-/// `NoMemory` where there is not enough.
+/// `NoMemory` if memory runs out.
 ///
 /// # Example
 ///

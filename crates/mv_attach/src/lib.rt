@@ -1,5 +1,5 @@
-//! The tasks of a station, each on a thread of its own with the room that its work needs, and all of them back in order, ready
-//! for `close`.
+//! Threads for the tasks of a station: each task works on a thread, in the room that its work needs, and all of them come back in
+//! order, ready for `close`.
 #![tactic(auto)]
 
 mod blocks;

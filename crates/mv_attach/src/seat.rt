@@ -18,7 +18,11 @@ pub(crate) struct Seat<S> {
     pub room: S,
 }
 
-/// Each task with its room.
+/// Pairs each task with its room, in order.
+///
+/// # Errors
+///
+/// `NoMemory` if memory runs out. The tasks and the rooms are dropped then.
 pub(crate) fn seated<S: Drop>(
     alloc: Global,
     tasks: Vec<Task>,
@@ -31,7 +35,7 @@ pub(crate) fn seated<S: Drop>(
     let mut seats = Vec::with_capacity(alloc, tasks.len())?;
     let mut rooms = rooms.into_iter();
     for task in tasks {
-        // There are as many rooms as tasks.
+        // There is a room for each task.
         let Some(room) = rooms.next() else {
             unreachable!()
         };
@@ -40,7 +44,7 @@ pub(crate) fn seated<S: Drop>(
     Ok(seats)
 }
 
-/// The tasks, and the rooms.
+/// Takes the tasks and the rooms out of these seats, in order, into two empty lists with room for them. It takes no memory.
 pub(crate) fn parted<S: Drop>(
     seats: Vec<Seat<S>>,
     mut tasks: Vec<Task>,
@@ -59,7 +63,7 @@ pub(crate) fn parted<S: Drop>(
     (tasks, rooms)
 }
 
-/// Has each task do its work, on a thread of its own.
+/// Has each task do its work, each on a thread, and returns when all have done it.
 pub(crate) fn work_all<R: Threads + Wait + Clock + Sync, W: Work + Sync>(
     rt: &R,
     station: &Station,

@@ -1,4 +1,4 @@
-//! What the tasks of a station do, and the threads that they do it on. Clauses cite the board's `Faces.antt`.
+//! What the tasks of a station do, and the threads on which they do it. Clauses cite `Faces.antt` of mv_board.
 
 ghost use Rattle.std.specs.Prelude.{◌≡◌, ◌<◌, ℕ, length, slice_index_or, IfOk};
 ghost use Rattle.mv_board.specs.Faces.{BoardFace, CallerFace, IsFresh, AreFresh, AreInOrder, IsOf};
@@ -11,18 +11,19 @@ use std::sync::Wait;
 use std::thread::Threads;
 use std::time::Clock;
 
-/// What the tasks of a station do, each by its number.
+/// The work of the tasks of a station, each by its number.
 pub trait Work {
-    /// What a task has of its own beside its seat: the memory that its work fills, and what it gives back.
+    /// What each task has besides its seat: the memory that its work fills, and what it returns.
     type Room: Send + Drop;
 
-    // what the task of a number needs of its room, and of the station
+    // what the task of this number requires of its room and of the station before it starts
     ghost can_start: { Self → BoardFace → ℕ → Self.Room → Type 0 };
 
-    // what it has done when it is back, with this room before and that one behind
+    // what the task of this number has done when it is back; the first room is the one before its work, the second the one after
+    // it
     ghost has_done: { Self → BoardFace → ℕ → Self.Room → CallerFace → Self.Room → Type 0 };
 
-    /// Does what the task of this number is to do. The task is new.
+    /// Does the work of the task with this number. The task has made no event yet.
     fn work<R: Wait + Clock>(
         &self,
         rt: &R,
@@ -38,12 +39,13 @@ pub trait Work {
         ensures done { has_done self.now station.now task.old.number room.old task.new room.new };
 }
 
-/// Has all tasks of a station do their work, each on a thread of its own, and gives them back in order, with their rooms. All
-/// memory is taken before the first of them starts.
+/// Has all tasks of a station do their work, each on a thread, and returns them in order, with their rooms.
+///
+/// All memory is taken before the first of them starts. The call returns once all tasks have done their work.
 ///
 /// # Errors
 ///
-/// `NoMemory` where there is not enough, before the tasks start.
+/// `NoMemory` if memory runs out, before any task starts.
 pub fn run_tasks<R: Threads + Wait + Clock + Sync, W: Work + Sync>(
     rt: &R,
     alloc: Global,
