@@ -1,4 +1,4 @@
--- what a reply says, by the history behind it
+-- what a reply says, by the history before it
 pub mod Answering
 -- events on elements as runs of the calls' programs
 pub mod Served

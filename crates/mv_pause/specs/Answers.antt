@@ -1,4 +1,4 @@
--- The answers of the calls, and what they are in the programs.
+-- How the values that the calls return correspond to the answers of their programs.
 use Rattle.std.specs.Prelude.{◌≤◌, Option, Some, None, Result, Ok, Err}
 use Rattle.mv_element.specs.declared.element.Token.{Token}
 use Rattle.mv_machine.specs.Limits.{highest_generation}
@@ -20,77 +20,77 @@ use Rattle.mv_pause.specs.declared.releasing.TryReleaseRefusal.TheVariants as tr
 use Rattle.mv_pause.specs.declared.transferring.TransferRefusal.{TransferRefusal}
 use Rattle.mv_pause.specs.declared.transferring.TransferRefusal.TheVariants as transfer_refusal
 
--- an allocate's answer: a token, or no element is free
+-- the answer of an allocate: a token, or that no element is free
 abbrev pub allocate_answer : Result Token NoElement → Result Token Refusal
 allocate_answer (Ok t) = Ok t
 allocate_answer (Err why) = Err refusal.NoElement
 
--- what a pause is given: the release code, and the next token
+-- what a pause is given: the release code, and the token of the next pause
 abbrev pub gift_as : Given → Gift
 gift_as g = record { code = g.code; next = g.next }
 
--- why a pause is refused
+-- the reason for which a pause is refused
 abbrev pub pause_refused : PauseRefusal → Refusal
 pause_refused pause_refusal.NotOwner = refusal.NotOwner
 pause_refused (pause_refusal.Spent now) = refusal.Spent now
 
--- a pause's answer: what it is given, or why it did not pause
+-- the answer of a pause: what it was given, or the reason for which it did not pause
 abbrev pub pause_answer : Result Given PauseRefusal → Result Gift Refusal
 pause_answer (Ok g) = Ok (gift_as g)
 pause_answer (Err why) = Err (pause_refused why)
 
--- a release says whether it came before its pause or woke it
+-- whether a release came before its pause or woke the pausing task
 abbrev pub reached : ReleaseAnswer → Reached
 reached answer.Early = CameEarly
 reached answer.Woke = WokeIt
 
--- why a release is refused
+-- the reason for which a release is refused
 abbrev pub release_refused : ReleaseRefusal → Refusal
 release_refused (release_refusal.Spent now) = refusal.Spent now
 release_refused release_refusal.Already = refusal.Already
 
--- a release's answer
+-- the answer of a release
 abbrev pub release_answer : Result ReleaseAnswer ReleaseRefusal → Result Reached Refusal
 release_answer (Ok a) = Ok (reached a)
 release_answer (Err why) = Err (release_refused why)
 
--- a word that moved is no answer of the program: nothing was done
+-- the answer of a release by an exchange; none if the exchange found another word, since then nothing was done
 abbrev pub try_release_answer : Result ReleaseAnswer TryReleaseRefusal → Option (Result Reached Refusal)
 try_release_answer (Ok a) = Some (Ok (reached a))
 try_release_answer (Err (try_refusal.Moved word)) = None
 try_release_answer (Err (try_refusal.Spent now)) = Some (Err (refusal.Spent now))
 try_release_answer (Err try_refusal.Already) = Some (Err refusal.Already)
 
--- why a transfer is refused
+-- the reason for which a transfer is refused
 abbrev pub transfer_refused : TransferRefusal → Refusal
 transfer_refused transfer_refusal.NotOwner = refusal.NotOwner
 transfer_refused (transfer_refusal.Spent now) = refusal.Spent now
 transfer_refused (transfer_refusal.TargetSpent now) = refusal.TargetSpent now
 transfer_refused transfer_refusal.TargetAlready = refusal.TargetAlready
 
--- a transfer's answer: with a current token what its pause is given, without one nothing
+-- the answer of a transfer: what its pause was given if it has a current token, otherwise nothing
 abbrev pub transfer_answer : Result (Option Given) TransferRefusal → Result (Option Gift) Refusal
 transfer_answer (Ok None) = Ok None
 transfer_answer (Ok (Some g)) = Ok (Some (gift_as g))
 transfer_answer (Err why) = Err (transfer_refused why)
 
--- why a deallocate is refused
+-- the reason for which a deallocate is refused
 abbrev pub deallocate_refused : DeallocateRefusal → Refusal
 deallocate_refused deallocate_refusal.NotOwner = refusal.NotOwner
 deallocate_refused (deallocate_refusal.Spent now) = refusal.Spent now
 
--- a deallocate's answer: nothing more to tell where it is done
+-- the answer of a deallocate, which has no value if it succeeds
 abbrev pub deallocate_answer : Result (Unit {0}) DeallocateRefusal → Result (Unit {0}) Refusal
 deallocate_answer (Ok done) = Ok tt
 deallocate_answer (Err why) = Err (deallocate_refused why)
 
--- the generation that a refusal names, if it names one, has 18 bits
+-- the generation in a refusal, if it has one, has 18 bits
 abbrev pub IsLowRefusal : Refusal → Type 0
 IsLowRefusal (refusal.Spent now) = now ≤ highest_generation
 IsLowRefusal (refusal.TargetSpent now) = now ≤ highest_generation
 IsLowRefusal why = Unit {0}
 
--- and so in an answer that is a refusal
+-- the generation in an answer, if it is a refusal that has one, has 18 bits
 abbrev pub IsLow : {A : Type 0} → Result A Refusal → Type 0
 IsLow (Ok a) = Unit {0}
 IsLow (Err why) = IsLowRefusal why

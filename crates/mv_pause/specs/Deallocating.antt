@@ -1,4 +1,4 @@
--- Why an element was not given back.
+-- The reasons for which an element is not given back.
 use Rattle.std.specs.Prelude.{◌≡◌, true, false}
 use Rattle.mv_element.specs.declared.element.Token.{Token}
 use Rattle.mv_element.specs.declared.operation.ElementOp.TheVariants.{Close}
@@ -11,7 +11,8 @@ use Rattle.mv_pause.specs.Replies.{HappenedOn}
 use Rattle.mv_pause.specs.declared.deallocating.DeallocateRefusal.{DeallocateRefusal}
 use Rattle.mv_pause.specs.declared.deallocating.DeallocateRefusal.TheVariants as refused
 
--- It is another caller's, and nothing was done, or the token is over, which is the reply to the close.
+-- The reason for which a deallocate failed: the element is another caller's, and no event was made, or the token is spent, as the
+-- reply to the close says.
 abbrev pub IsDeallocateCause : Setup → Token → CallerFace → DeallocateRefusal → CallerFace → Type 0
 IsDeallocateCause c token t refused.NotOwner u = (is_others_token c (kept_of t.number t.log) token ≡ true) × (u ≡ t)
 IsDeallocateCause c token t (refused.Spent now) u =

@@ -22,21 +22,22 @@ use Rattle.mv_pause.specs.declared.pausing.Given.{Given}
 use Rattle.mv_pause.specs.declared.pausing.PauseRefusal.{PauseRefusal}
 use Rattle.mv_pause.specs.declared.pausing.PauseRefusal.TheVariants as refused
 
--- a pause with a token of an own element
+-- the program of a pause with a token of an own element
 abbrev pub pause_own : Token → Program (Result Gift Refusal)
 pause_own t = Do (Element t.element) (op_on.Element (element_op.Pause t.generation))
     (λ h. on_element h.entry.reply (paused t.element t.generation))
 
--- and its end, where it parked
+-- the rest of that program after the pause has parked
 abbrev pub resume_own : Token → Program (Result Gift Refusal)
 resume_own t = Do (Element t.element) (op_on.Element (element_op.Resume t.generation)) (λ h. on_element h.entry.reply (resumed t.element))
 
--- the element is in use, with the token's generation
+-- the token is current: its element is in use, and has the token's generation
 pub record IsCurrent (kept : Kept) (t : Token) : Type 0 where
   pub used : kept.in_use t.element ≡ true
   pub generation : kept.generation t.element ≡ t.generation
 
--- the last entry of a log is on the token's element, and gives the pause of the token's generation this code, which ends it
+-- the last entry of a log is on the token's element, and gives the pause of the token's generation this code, which ends the
+-- pause
 pub record WasGiven (token : Token) (code : ℕ) (log : List Entry) : Type 0 where
   pub before : List Entry
   pub entry : Entry
@@ -44,27 +45,27 @@ pub record WasGiven (token : Token) (code : ℕ) (log : List Entry) : Type 0 whe
   pub object : entry.object ≡ Element token.element
   pub reply : entry.reply ≡ reply_of.Element (element_reply.Given code (token.generation + 1))
 
--- a pause gives the code that its token was given, and the token of the next generation
+-- by this log, a pause with this token was given this code; the next token is that of the next generation
 pub record IsGiven (token : Token) (given : Given) (log : List Entry) : Type 0 where
   pub was : WasGiven token given.code log
   pub element : given.next.element ≡ token.element
   pub generation : given.next.generation ≡ token.generation + 1
 
--- a refusal that is the reply to a pause, which is its one event: the token is over
+-- the pause was refused by the reply to its one event: the token is spent
 abbrev pub IsSpent : Token → CallerFace → PauseRefusal → CallerFace → Type 0
 IsSpent token t refused.NotOwner u = ⊥
 IsSpent token t (refused.Spent now) u = HappenedOn token t (element_op.Pause token.generation) (element_reply.Spent now) u
 
--- Why a pause was refused: the element is another caller's, and nothing was done, or the token is over.
+-- The reason for which a pause was refused: the element is another caller's, and no event was made, or the token is spent.
 abbrev pub IsPauseCause : Setup → Token → CallerFace → PauseRefusal → CallerFace → Type 0
 IsPauseCause c token t refused.NotOwner u = (is_others_token c (kept_of t.number t.log) token ≡ true) × (u ≡ t)
 IsPauseCause c token t (refused.Spent now) u =
     (is_others_token c (kept_of t.number t.log) token ≡ false)
     × HappenedOn token t (element_op.Pause token.generation) (element_reply.Spent now) u
 
--- ---- a pause by its parts
+-- ---- a pause in its parts
 
--- a pause with a token of an own element was made: its program was run to its end with this answer, and the task is at rest
+-- a pause with a token of an own element was made: its program ran to its end with this answer, and the task is at rest
 pub record IsPausedOwn (token : Token) (t : CallerFace) (r : Result Given PauseRefusal) (u : CallerFace) : Type 0 where
   pub runs : Runs 2 (pause_own token) (Done (pause_answer r)) t u
   pub rest : IsAtRest u.log
@@ -72,7 +73,7 @@ pub record IsPausedOwn (token : Token) (t : CallerFace) (r : Result Given PauseR
   pub answer : MatchResult r (λ given. IsGiven token given u.log) (λ why. IsSpent token t why u)
   pub low : IsLow (pause_answer r) × IfOk r (λ given. given.next.generation ≤ highest_generation)
 
--- a pause was made: all that is said of its answer
+-- a pause was made with this answer; this is all that the contract of the call says
 pub record IsPauseMade (c : Setup) (token : Token) (t : CallerFace) (r : Result Given PauseRefusal) (u : CallerFace) : Type 0 where
   pub served : IsServed 2 (pause c token) (λ a. a ≡ pause_answer r) t u
   pub causes : MatchResult r
@@ -83,13 +84,13 @@ pub record IsPauseMade (c : Setup) (token : Token) (t : CallerFace) (r : Result 
       → (given : Given) × (r ≡ Ok given)
   pub low : IsLow (pause_answer r) × IfOk r (λ given. given.next.generation ≤ highest_generation)
 
--- what a pause asks of its task
+-- what a pause requires of its task
 pub record MayPause (c : Setup) (token : Token) (t : CallerFace) : Type 0 where
   pub rest : IsAtRest t.log
   pub element : token.element < element_count c
   pub left : 2 ≤ t.left
 
--- A pause with a token of an own element goes on: its one event since it began is the pause, which was answered Parked.
+-- A pause with a token of an own element is under way: since it began the task made one event, the pause, which parked.
 pub record IsPausing (c : Setup) (token : Token) (t0 t : CallerFace) : Type 0 where
   pub may : MayPause c token t0
   pub own : is_others_token c (kept_of t0.number t0.log) token ≡ false

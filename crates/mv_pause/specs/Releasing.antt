@@ -17,20 +17,20 @@ use Rattle.mv_pause.specs.declared.releasing.ReleaseRefusal.TheVariants as refus
 use Rattle.mv_pause.specs.declared.releasing.TryReleaseRefusal.{TryReleaseRefusal}
 use Rattle.mv_pause.specs.declared.releasing.TryReleaseRefusal.TheVariants as try_refused
 
--- a word of an element with which no task pauses
+-- in this word of an element no task pauses
 pub record HasNoPause (n w : ℕ) : Type 0 where
   pub place : ℕ
   pub state : ElementState
   pub unpacks : unpack (Element n) w ≡ Some (place, word_state.Element state)
   pub phase : state.phase ≡ Paused → ⊥
 
--- the exchange was made, and answered so
+-- the exchange of a release succeeded, with this reply
 abbrev pub ExchangedOn : Token → ℕ → ℕ → CallerFace → ElementReply → CallerFace → Type 0
 ExchangedOn token expected code t reply u =
     Exchanged t (Element token.element) (op_on.Element (Release token.generation code)) expected (reply_of.Element reply) u
 
--- Where a release by an exchange was made, its answer is the event's reply. It moved exactly where the exchange found that word, and
--- not the expected one.
+-- The answer of a release by an exchange is the reply to its event if the exchange succeeded, and Moved if the exchange found
+-- another word than the expected one.
 abbrev pub IsTried : Token → ℕ → ℕ → CallerFace → Result ReleaseAnswer TryReleaseRefusal → CallerFace → Type 0
 IsTried token expected code t (Ok answer) u = ExchangedOn token expected code t (reply_to_release (Ok answer)) u
 IsTried token expected code t (Err (try_refused.Spent now)) u =

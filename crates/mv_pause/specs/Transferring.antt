@@ -1,4 +1,4 @@
--- The parts of a transfer, and why it is refused.
+-- The parts of a transfer, and the reasons for which it is refused.
 use Rattle.std.specs.Prelude.{◌≡◌, ℕ, List, Option, Some, None, Result, Ok, Err}
 use Rattle.mv_element.specs.declared.element.Token.{Token}
 use Rattle.mv_element.specs.declared.operation.ElementOp.TheVariants.{Release}
@@ -27,29 +27,29 @@ abbrev pub pause_cost : Option Token → ℕ
 pause_cost None = 0
 pause_cost (Some t) = 2
 
--- the current token was paused with, if there is one, whatever the call was begun with
+-- the second part of a transfer was made: the pause with the current token, if there is one
 abbrev pub IsPausedBy : Setup → Option Token → Option Given → CallerFace → CallerFace → Type 0
 IsPausedBy c current result t u =
     Runs (pause_cost current) (pause_current c current (kept_of t.number t.log)) (Done (transfer_answer (Ok result))) t u
 
--- a transfer gives what its pause was given, exactly where there is a current token
+-- the answer of a transfer has what its pause was given, exactly if there is a current token
 abbrev pub IsGivenTo : Option Token → Option Given → List Entry → Type 0
 IsGivenTo None given log = given ≡ None
 IsGivenTo (Some token) None log = ⊥
 IsGivenTo (Some token) (Some given) log = IsGiven token given log
 
--- why a transfer to the one that was released so is refused, if it is
+-- the reason for which a transfer is refused after its release of the target had this answer, if there is one
 abbrev pub target_refused : Result ReleaseAnswer ReleaseRefusal → Option Refusal
 target_refused (Ok answer) = None
 target_refused (Err (release_refusal.Spent now)) = Some (refusal.TargetSpent now)
 target_refused (Err release_refusal.Already) = Some refusal.TargetAlready
 
--- the current token is not the caller's to pause with, and nothing was done
+-- the transfer is refused because of its current token, and the task made no event
 abbrev pub IsTransferRefused : Setup → Option Token → CallerFace → TransferRefusal → CallerFace → Type 0
 IsTransferRefused c current t why u = (transfer_refusal c current (kept_of t.number t.log) ≡ Some (transfer_refused why)) × (u ≡ t)
 
--- Why a transfer was refused: no event was made, or the one that was made is a release of the target that was not accepted. So nobody
--- was released, and the caller did not pause.
+-- The reason for which a transfer failed: it is refused without an event, or its one event is a release of the target that was
+-- refused. Either way no task was released, and the caller did not pause.
 abbrev pub IsTransferCause : Setup → Option Token → Token → ℕ → CallerFace → TransferRefusal → CallerFace → Type 0
 IsTransferCause c current target code t refused.NotOwner u = IsTransferRefused c current t refused.NotOwner u
 IsTransferCause c current target code t (refused.Spent now) u = IsTransferRefused c current t (refused.Spent now) u

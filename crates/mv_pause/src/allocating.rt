@@ -1,4 +1,4 @@
-//! The beginning of an element's use. Clauses cite the programs' `Pauses.antt`, and `specs/Answers.antt`.
+//! The beginning of an element's use. Clauses cite `Pauses.antt` of mv_calls, and `specs/Answers.antt`.
 
 ghost use Rattle.std.specs.Prelude.{◌≡◌, ◌<◌, ◌≤◌, ◌-◌, ◌∷◌, [], ℕ, not, find, Some, None, IfOk, IfSome, MatchResult};
 ghost use Rattle.std.specs.List.{range_with_len};
@@ -18,18 +18,19 @@ use mv_wait::{Station, Task};
 use std::sync::Wait;
 use thiserror::Error;
 
-/// All elements of the task are in use.
+/// The error of an allocate when all elements of the task are in use.
 #[derive(Clone, Copy, Debug, PartialEq, Eq, Error)]
 #[error("all elements of the task are in use")]
 pub struct NoElement;
 
-/// Takes the task's lowest element that is not in use, and answers the token of its next pause (IEAVAPE): give it to whoever is to
-/// release that pause. The generation is the one that the element has by then, of 18 bits. One event, which must be left. It does
-/// not park.
+/// Takes the task's lowest element that is not in use, and returns the token of its next pause (IEAVAPE).
+///
+/// Give the token to the task that is to release that pause. It has the element's present generation, of 18 bits. The call makes
+/// one event, which must be left. It does not park.
 ///
 /// # Errors
 ///
-/// `NoElement` where all of the task's own elements are in use; then no event is made.
+/// `NoElement` if all of the task's own elements are in use; then no event is made.
 pub fn allocate<R: Wait>(station: &Station, rt: &R, task: &mut Task) -> Result<Token, NoElement>
     requires task { IsOf station.now task.old }
     requires rest { IsAtRest task.old.log }
@@ -67,7 +68,7 @@ fn lowest(station: &Station, task: &Task) -> Option<u32>
     lowest_between(task, own.start, own.end)
 }
 
-// The lowest of these elements that is not in use, all of the task's own.
+// The lowest of these elements that is not in use. All of them are the task's own.
 fn lowest_between(task: &Task, first: u32, end: u32) -> Option<u32>
     requires own { (n : ℕ) → first ≤ n → n < end → (s : Setup) × (task.now.about ≡ s ∷ []) × (element_owner s n ≡ task.now.number) }
     ensures lowest { result ≡ find (λ n. not ((kept_of task.now.number task.now.log).in_use n)) (range_with_len first (end - first)) }

@@ -1,4 +1,4 @@
-//! The end of an element's use. Clauses cite the programs' `Pauses.antt`, and `specs/Answers.antt` and `specs/Deallocating.antt`.
+//! The end of an element's use. Clauses cite `Pauses.antt` of mv_calls, and `specs/Answers.antt` and `specs/Deallocating.antt`.
 
 ghost use Rattle.std.specs.Prelude.{◌≡◌, ◌<◌, false, Ok, MatchResult};
 ghost use Rattle.mv_element.specs.declared.operation.ElementOp.TheVariants as element_op;
@@ -22,23 +22,25 @@ use mv_wait::{Station, Task};
 use std::sync::Wait;
 use thiserror::Error;
 
-/// Why an element was not given back.
+/// The reason for which an element was not given back.
 #[derive(Clone, Copy, Debug, PartialEq, Eq, Error)]
 pub enum DeallocateRefusal {
     /// The element is another caller's.
     #[error("the element is another caller's")]
     NotOwner,
-    /// The token is over; this is the element's generation.
+    /// The token is spent; this is the element's generation.
     #[error("the token is spent; the element's generation is {0}")]
     Spent(u32),
 }
 
-/// Gives an element of the task's own back (IEAVDPE), by the token of its next pause, which is over then. A code that was kept for
-/// that pause is lost. One event, which must be left. It does not park.
+/// Gives an element of the task's own back (IEAVDPE), by the token of its next pause, which is spent then.
+///
+/// A code that was kept for that pause is lost. The call makes at most one event, which must be left. It does not park.
 ///
 /// # Errors
 ///
-/// `NotOwner` where the element is another caller's; then no event is made. `Spent` where the token is over.
+/// `NotOwner` if the element is another caller's; then no event is made. `Spent` if the token is spent, which is the reply to the
+/// one event.
 pub fn deallocate<R: Wait>(
     station: &Station,
     rt: &R,
@@ -54,7 +56,7 @@ pub fn deallocate<R: Wait>(
         (λ _. (is_others_token station.now.config (kept_of task.old.number task.old.log) token ≡ false)
         × HappenedOn token task.old (element_op.Close token.generation) element_reply.Closed task.new)
         (λ why. IsDeallocateCause station.now.config token task.old why task.new) }
-    // A token of an own element that is in use with its generation is never refused.
+    // A token of an own element that is in use with the token's generation is never refused.
     ensures current { is_others_token station.now.config (kept_of task.old.number task.old.log) token ≡ false
         → IsCurrent (kept_of task.old.number task.old.log) token → result ≡ Ok tt }
     ensures low { IsLow (deallocate_answer result) }

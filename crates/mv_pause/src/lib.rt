@@ -1,4 +1,4 @@
-//! Pauses of tasks: a task pauses with a token until another releases it with a code, and each token serves one pause.
+//! Pauses of tasks: a task pauses with a token until another task releases the token with a code. Each token serves one pause.
 #![tactic(auto)]
 
 mod allocating;

@@ -1,4 +1,4 @@
-//! Whose an element is. Clauses cite the programs' `Pauses.antt`.
+//! The owner of an element. Clauses cite `Pauses.antt` of mv_calls.
 
 ghost use Rattle.std.specs.Prelude.{◌≡◌, ◌<◌};
 ghost use Rattle.mv_machine.specs.Setup.{element_count};
@@ -9,14 +9,14 @@ use crate::releasing::{ReleaseAnswer, ReleaseRefusal};
 use mv_element::Token;
 use mv_wait::{Station, Task};
 
-/// Whether a token is of another caller's element.
+/// Returns whether a token is of another caller's element.
 pub(crate) fn is_others(station: &Station, task: &Task, token: Token) -> bool
     ensures { result ≡ is_others_token station.now.config (kept_of task.now.number task.now.log) token }
 {
     !station.config().owns_element(task.number(), token.element)
 }
 
-/// Wakes an element's owner, where a release found it paused.
+/// Wakes the owner of an element if a release with this answer found it paused.
 pub(crate) fn wake_owner(
     station: &Station,
     answer: Result<ReleaseAnswer, ReleaseRefusal>,

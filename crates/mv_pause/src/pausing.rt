@@ -1,4 +1,4 @@
-//! Pauses. Clauses cite the programs' `Pauses.antt`, and `specs/Answers.antt` and `specs/Pausing.antt`.
+//! Pauses. Clauses cite `Pauses.antt` of mv_calls, and `specs/Answers.antt` and `specs/Pausing.antt`.
 
 ghost use Rattle.std.specs.Prelude.{◌≡◌, ◌<◌, ◌≤◌, false, Ok, IfOk, MatchOption, MatchResult};
 ghost use Rattle.std.specs.List.{Contains};
@@ -26,33 +26,35 @@ use std::sync::Wait;
 use std::time::Clock;
 use thiserror::Error;
 
-/// What a pause gives: the code that it was released with, and the token of the next pause.
+/// What a pause returns: the code with which it was released, and the token of the next pause.
 #[derive(Clone, Copy, Debug, PartialEq, Eq)]
 pub struct Given {
-    /// Three bytes.
+    /// The release code, of three bytes.
     pub code: u32,
     pub next: Token,
 }
 
-/// Why a pause was refused.
+/// The reason for which a pause was refused.
 #[derive(Clone, Copy, Debug, PartialEq, Eq, Error)]
 pub enum PauseRefusal {
     /// The element is another caller's.
     #[error("the element is another caller's")]
     NotOwner,
-    /// The token is over; this is the element's generation.
+    /// The token is spent; this is the element's generation.
     #[error("the token is spent; the element's generation is {0}")]
     Spent(u32),
 }
 
-/// Pauses until the token is released, and answers the code of three bytes that it was released with, and the token of the next
-/// pause (IEAVPSE). The token must be of an own element. A code that came early is given at once, by one event; otherwise the task
-/// parks, for ever where nobody releases the token, and a second event ends the pause. Two events must be left.
+/// Pauses until the token is released, and returns the release code of three bytes and the token of the next pause (IEAVPSE).
+///
+/// The token must be of an element of the task's own. If the token was released before, the pause returns at once, with one
+/// event. Otherwise the task parks, for ever if no task releases the token, and a second event ends the pause. Two events must be
+/// left.
 ///
 /// # Errors
 ///
-/// `NotOwner` where the element is another caller's; then no event is made. `Spent` where the token is over, by one event. The last
-/// token that the task was given for an element in use is refused by neither.
+/// `NotOwner` if the element is another caller's; then no event is made. `Spent` if the token is spent, which is the reply to the
+/// one event. The last token that the task was given for an element in use is never refused.
 ///
 /// # Example
 ///
@@ -76,7 +78,7 @@ pub fn pause<R: Wait + Clock>(
         × IsGiven token given task.new.log)
         (λ why. IsPauseCause station.now.config token task.old why task.new) }
     ensures next { IfOk result (λ given. given.next.element ≡ token.element) }
-    // A token of an own element that is in use with its generation is never refused.
+    // A token of an own element that is in use with the token's generation is never refused.
     ensures current { is_others_token station.now.config (kept_of task.old.number task.old.log) token ≡ false
         → IsCurrent (kept_of task.old.number task.old.log) token → (given : Given) × (result ≡ Ok given) }
     ensures low { IsLow (pause_answer result) × IfOk result (λ given. given.next.generation ≤ highest_generation) }
@@ -87,8 +89,10 @@ pub fn pause<R: Wait + Clock>(
     pause_own(station, rt, task, token)
 }
 
-/// The beginning of a pause, for a call that does not park: its first event. The answer of the pause, where it has one by then; none
-/// where the task is to wait. Then one event is still to be left, and only `end_pause` ends the pause.
+/// Begins a pause, for a call that does not park: makes its first event.
+///
+/// Returns the answer of the pause, or `None` if the task has to wait. Then one more event must be left, and only `end_pause`
+/// ends the pause.
 pub fn begin_pause<R: Wait>(
     station: &Station,
     rt: &R,
@@ -107,7 +111,7 @@ pub fn begin_pause<R: Wait>(
     begin_own(station, rt, task, token)
 }
 
-/// The end of a pause that `begin_pause` began, once its element was seen to be released. One event.
+/// Ends a pause that `begin_pause` began, once its element was seen to be released. It makes one event.
 pub fn end_pause<R: Wait>(station: &Station, rt: &R, task: &mut Task, token: Token) -> Given
     requires task { IsOf station.now task.old }
     requires pausing { (t0 : CallerFace) × IsPausing station.now.config token t0 task.old }
@@ -123,7 +127,7 @@ pub fn end_pause<R: Wait>(station: &Station, rt: &R, task: &mut Task, token: Tok
     with_token(token.element, gift_in(reply))
 }
 
-/// The same with a token of an own element. It is refused only where the token is over.
+/// Pauses with a token of an own element. It is refused only if the token is spent.
 pub(crate) fn pause_own<R: Wait + Clock>(
     station: &Station,
     rt: &R,
@@ -144,7 +148,8 @@ pub(crate) fn pause_own<R: Wait + Clock>(
     Ok(end_pause(station, rt, task, token))
 }
 
-// Its first event: the answer of the pause, or none where the task is to wait.
+// Makes the first event of a pause with a token of an own element. Returns the answer of the pause, or `None` if the task has to
+// wait.
 fn begin_own<R: Wait>(
     station: &Station,
     rt: &R,
@@ -173,7 +178,7 @@ fn begin_own<R: Wait>(
     }
 }
 
-// What a pause with this element answers.
+// What a pause with this element returns.
 fn with_token(element: u32, gift: Gift) -> Given
     ensures { gift_as result ≡ gift_of element gift.code gift.next }
 {

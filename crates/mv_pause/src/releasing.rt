@@ -1,4 +1,4 @@
-//! Releases. Clauses cite the programs' `Pauses.antt`, and `specs/Answers.antt` and `specs/Releasing.antt`.
+//! Releases. Clauses cite `Pauses.antt` of mv_calls, and `specs/Answers.antt` and `specs/Releasing.antt`.
 
 ghost use Rattle.std.specs.Prelude.{◌≡◌, ◌<◌, IfOk, IfSome, Some};
 ghost use Rattle.mv_element.specs.declared.operation.ElementOp.TheVariants as element_op;
@@ -21,19 +21,19 @@ use mv_wait::{Station, Task};
 use std::sync::Wait;
 use thiserror::Error;
 
-/// What a release came to.
+/// The outcome of a release.
 #[derive(Clone, Copy, Debug, PartialEq, Eq)]
 pub enum ReleaseAnswer {
-    /// It came before its pause, which will be given the code at once.
+    /// The release came before its pause, which will be given the code at once.
     Early,
-    /// A task paused, and was woken.
+    /// A task paused with the token, and was woken.
     Woke,
 }
 
-/// Why a release was refused.
+/// The reason for which a release was refused.
 #[derive(Clone, Copy, Debug, PartialEq, Eq, Error)]
 pub enum ReleaseRefusal {
-    /// The token is over; this is the element's generation.
+    /// The token is spent; this is the element's generation.
     #[error("the token is spent; the element's generation is {0}")]
     Spent(u32),
     /// The token was released before.
@@ -41,13 +41,13 @@ pub enum ReleaseRefusal {
     Already,
 }
 
-/// Why a release by an exchange was refused.
+/// The reason for which a release by an exchange failed.
 #[derive(Clone, Copy, Debug, PartialEq, Eq, Error)]
 pub enum TryReleaseRefusal {
-    /// The word found was this one, and not the one expected. No event was made.
+    /// The exchange found this word, and not the expected one. No event was made.
     #[error("the element's word is {0}, and not the one expected")]
     Moved(u64),
-    /// The token is over; this is the element's generation.
+    /// The token is spent; this is the element's generation.
     #[error("the token is spent; the element's generation is {0}")]
     Spent(u32),
     /// The token was released before.
@@ -55,13 +55,15 @@ pub enum TryReleaseRefusal {
     Already,
 }
 
-/// Releases the pause of a token with a code of three bytes, whether it is on or still to come (IEAVRLS). Any task may that has the
-/// token. One event, which must be left. It does not park, and wakes the task that pauses.
+/// Releases the pause of a token with a code of three bytes, whether the pause has begun or is still to come (IEAVRLS).
+///
+/// Any task that has the token may do so. The call makes one event, which must be left. It does not park, and wakes the task that
+/// pauses.
 ///
 /// # Errors
 ///
-/// `Spent` where the token is over or its element not allocated, `Already` where it was released before. Either is the reply to the
-/// one event, and the code is not kept.
+/// `Spent` if the token is spent or its element is not allocated, `Already` if the token was released before. Each is the reply
+/// to the one event, and the code is not kept.
 pub fn release<R: Wait>(
     station: &Station,
     rt: &R,
@@ -89,12 +91,14 @@ pub fn release<R: Wait>(
     answer
 }
 
-/// The same by one exchange of the element's word, which waits for nothing and wakes nobody: in the word that is expected no task
-/// pauses. At most one event.
+/// Tries to release the pause of a token, by one exchange of the element's word.
+///
+/// In the expected word no task may pause; so the call wakes no task, and its answer is `Early` if it succeeds. It makes at most
+/// one event, which must be left, and never waits.
 ///
 /// # Errors
 ///
-/// `Moved(w)` where the word found was w and not `expected`; then no event is made. Otherwise as a release.
+/// `Moved(w)` if the word was `w` and not `expected`; then no event is made. Otherwise those of `release`.
 pub fn try_release(
     station: &Station,
     task: &mut Task,
@@ -123,7 +127,7 @@ pub fn try_release(
     }
 }
 
-// What a release by an exchange answers, where it was made.
+// The answer of a release by an exchange that succeeded.
 fn tried_as(
     answer: Result<ReleaseAnswer, ReleaseRefusal>,
 ) -> Result<ReleaseAnswer, TryReleaseRefusal>

@@ -1,4 +1,4 @@
-//! What replies say, where their kind is known. Clauses cite `specs/Replies.antt`.
+//! What a reply says, if its kind is known. Clauses cite `specs/Replies.antt`.
 
 ghost use Rattle.std.specs.Prelude.{◌≡◌};
 ghost use Rattle.mv_element.specs.declared.operation.ElementReply.TheVariants as element_reply;
@@ -10,7 +10,7 @@ use crate::releasing::{ReleaseAnswer, ReleaseRefusal};
 use mv_element::{ElementReply, ElementState};
 use mv_machine::Reply;
 
-/// The generation that an opened element has.
+/// Returns the generation of an element that was opened.
 pub(crate) fn opened(reply: Reply) -> u32
     requires { SaysOpened reply }
     ensures { reply ≡ reply_of.Element (element_reply.Opened result) }
@@ -28,7 +28,7 @@ pub(crate) struct Gift {
     pub next: u32,
 }
 
-/// What a pause was given.
+/// Returns what a pause was given.
 pub(crate) fn gift_in(reply: Reply) -> Gift
     requires { SaysGiven reply }
     ensures { reply ≡ reply_of.Element (element_reply.Given result.code result.next) }
@@ -39,18 +39,18 @@ pub(crate) fn gift_in(reply: Reply) -> Gift
     }
 }
 
-/// How a pause begins.
+/// How a pause begins, by the reply to its first event.
 #[derive(Clone, Copy, Debug, PartialEq, Eq)]
 pub(crate) enum Begun {
-    /// The task is to wait for a code.
+    /// The task has to wait for a code.
     Parked,
-    /// A code was there.
+    /// A code was kept for the pause.
     Given(Gift),
-    /// The token is over; this is the element's generation.
+    /// The token is spent; this is the element's generation.
     Spent(u32),
 }
 
-/// How a pause began.
+/// Returns how a pause begins.
 pub(crate) fn beginning(reply: Reply) -> Begun
     requires { SaysBegun reply }
     ensures { reply ≡ reply_of.Element (reply_to_pause result) }
@@ -63,7 +63,7 @@ pub(crate) fn beginning(reply: Reply) -> Begun
     }
 }
 
-/// What a release came to.
+/// Returns the outcome of a release.
 pub(crate) fn released(reply: Reply) -> Result<ReleaseAnswer, ReleaseRefusal>
     requires { SaysReleased reply }
     ensures { reply ≡ reply_of.Element (reply_to_release result) }
@@ -77,7 +77,7 @@ pub(crate) fn released(reply: Reply) -> Result<ReleaseAnswer, ReleaseRefusal>
     }
 }
 
-/// The element's generation, where the token that it was to be closed with is over.
+/// Returns the element's generation if the token with which it was to be closed is spent, otherwise `None`.
 pub(crate) fn over(reply: Reply) -> Option<u32>
     requires { SaysClosed reply }
     ensures { reply ≡ reply_of.Element (reply_to_close result) }
@@ -89,7 +89,7 @@ pub(crate) fn over(reply: Reply) -> Option<u32>
     }
 }
 
-/// The state of an element.
+/// Returns the state of an element.
 pub(crate) fn state(reply: Reply) -> ElementState
     requires { SaysState reply }
     ensures { reply ≡ reply_of.Element (element_reply.State result) }

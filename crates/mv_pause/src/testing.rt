@@ -1,4 +1,4 @@
-//! A look at an element's state. Clauses cite the programs' `Pauses.antt`.
+//! A read of an element's state. Clauses cite `Pauses.antt` of mv_calls.
 
 ghost use Rattle.std.specs.Prelude.{◌≡◌, ◌<◌, ◌≤◌};
 ghost use Rattle.mv_machine.specs.Setup.{element_count};
@@ -13,8 +13,10 @@ use mv_element::ElementState;
 use mv_machine::Object;
 use mv_wait::{Station, Task};
 
-/// The state of any caller's element: its phase, its generation of 18 bits, and the code of three bytes that is kept for its pause,
-/// or 0. One event, which must be left. It never waits.
+/// Returns the state of an element of any caller: its phase, its generation of 18 bits, and the code of three bytes that is kept
+/// for its pause, or 0.
+///
+/// The call makes one event, which must be left. It never waits.
 pub fn test_element(station: &Station, task: &mut Task, element: u32) -> ElementState
     requires task { IsOf station.now task.old }
     requires rest { IsAtRest task.old.log }

@@ -1,4 +1,4 @@
-//! A release and a pause in one call. Clauses cite the programs' `Pauses.antt`, and `specs/Answers.antt` and
+//! A release and a pause in one call. Clauses cite `Pauses.antt` of mv_calls, and `specs/Answers.antt` and
 //! `specs/Transferring.antt`.
 
 ghost use Rattle.std.specs.Prelude.{◌≡◌, ◌<◌, ◌≤◌, ◌+◌, None, IfOk, IfSome, MatchResult, option_map};
@@ -23,16 +23,16 @@ use std::sync::Wait;
 use std::time::Clock;
 use thiserror::Error;
 
-/// Why a transfer was refused. Then nobody was released, and the task did not pause.
+/// The reason for which a transfer was refused. Then no task was released, and the caller did not pause.
 #[derive(Clone, Copy, Debug, PartialEq, Eq, Error)]
 pub enum TransferRefusal {
     /// The current token is of another caller's element.
     #[error("the current token is of another caller's element")]
     NotOwner,
-    /// The current token is over, or its element is not in use; this is the element's generation.
+    /// The current token is spent, or its element is not in use; this is the element's generation.
     #[error("the current token is spent; its element's generation is {0}")]
     Spent(u32),
-    /// The target is over; this is the element's generation.
+    /// The target is spent; this is the element's generation.
     #[error("the target is spent; its element's generation is {0}")]
     TargetSpent(u32),
     /// The target was released before.
@@ -40,15 +40,17 @@ pub enum TransferRefusal {
     TargetAlready,
 }
 
-/// Releases the target with a code of three bytes, and then pauses with the current token, if there is one (IEAVXFR). They may be
-/// the same: then the pause is given the code at once. Any task may release the target; the current token must be of an own
-/// element in use. At most one event without a current token, and three with one, which must be left. With a current token it
-/// parks as a pause.
+/// Releases the target with a code of three bytes, and then pauses with the current token, if there is one (IEAVXFR).
+///
+/// The two tokens may be the same: then the pause is given the code at once. Any task may release the target; the current token
+/// must be of an element of the task's own that is in use. The call makes at most one event without a current token and three
+/// with one, which must be left. It wakes the task that pauses with the target. With a current token it parks as `pause` does,
+/// otherwise it does not park.
 ///
 /// # Errors
 ///
-/// `NotOwner` and `Spent` where the current token is not one of an own element in use; then no event is made. `TargetSpent` and
-/// `TargetAlready` as a release.
+/// `NotOwner` or `Spent` if the current token is not one of an own element in use; then no event is made. `TargetSpent` or
+/// `TargetAlready` if the release of the target is refused; that is the reply to the one event.
 pub fn transfer<R: Wait + Clock>(
     station: &Station,
     rt: &R,
@@ -81,7 +83,7 @@ pub fn transfer<R: Wait + Clock>(
     Ok(pause_current(station, rt, task, current))
 }
 
-// Why a transfer is refused without an event, if it is.
+// The reason for which a transfer is refused without an event, if there is one.
 fn refuses_transfer(
     station: &Station,
     task: &Task,
@@ -106,7 +108,7 @@ fn refuses_transfer(
     None
 }
 
-// Why a transfer to the target that was released so is refused, if it is.
+// The reason for which a transfer is refused after its release of the target had this answer, if there is one.
 fn refuses_target(answer: Result<ReleaseAnswer, ReleaseRefusal>) -> Option<TransferRefusal>
     ensures { option_map transfer_refused result ≡ target_refused answer }
 {
@@ -117,7 +119,7 @@ fn refuses_target(answer: Result<ReleaseAnswer, ReleaseRefusal>) -> Option<Trans
     }
 }
 
-// Pauses with the current token, if there is one. It is not refused.
+// Pauses with the current token, if there is one. The pause is never refused.
 fn pause_current<R: Wait + Clock>(
     station: &Station,
     rt: &R,
