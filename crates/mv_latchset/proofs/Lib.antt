@@ -1,4 +1,4 @@
--- one event on the latch set: what it is answered, and what is kept and open after it
+-- one event on the latch set: its reply, and what the task keeps and has open after it
 pub mod Answering
 pub mod Admits
 pub mod Stands

@@ -1,4 +1,4 @@
--- The answers of the calls, and what they are in the programs.
+-- How the values that the calls return correspond to the answers of their programs.
 use Rattle.std.specs.Prelude.{ℕ, Result, Ok, Err}
 use Rattle.mv_calls.specs.LatchCalls.{Requested, GrantedAs, PendingAs, RequestState, Holds, Waits, IsOut, Counts}
 use Rattle.mv_calls.specs.Refusal.{Refusal}
@@ -13,12 +13,12 @@ use Rattle.mv_latchset.specs.declared.releasing.ReleaseLatchRefusal.TheVariants 
 use Rattle.mv_latchset.specs.declared.token.Standing.{Standing}
 use Rattle.mv_latchset.specs.declared.token.Standing.TheVariants as standing
 
--- a program's answer has the request's number, and no more of the token
+-- the answer of a program that obtained a request: of the token it has only the request's number
 abbrev pub obtained_as : Obtained → Requested
 obtained_as (obtained.Granted token) = GrantedAs token.id
 obtained_as (obtained.Pending token) = PendingAs token.id
 
--- why an obtain is refused
+-- the reason for which an obtain is refused
 abbrev pub obtain_refused : ObtainRefusal → Refusal
 obtain_refused obtain_refusal.BadLatch = refusal.BadLatch
 obtain_refused obtain_refusal.NotOwner = refusal.NotOwner
@@ -26,27 +26,27 @@ obtain_refused obtain_refusal.Quota = refusal.Quota
 obtain_refused (obtain_refusal.NotNow id) = refusal.NotNow id
 obtain_refused obtain_refusal.Purged = refusal.Purged
 
--- an obtain's answer: the request, or why there is none
+-- the answer of an obtain: the request, or the reason for which there is none
 abbrev pub obtain_answer : Result Obtained ObtainRefusal → Result Requested Refusal
 obtain_answer (Ok got) = Ok (obtained_as got)
 obtain_answer (Err why) = Err (obtain_refused why)
 
--- how a request stands, as a check answers it
+-- the state of a request, as a check answers it
 abbrev pub standing_as : Standing → RequestState
 standing_as standing.Granted = Holds
 standing_as standing.Waiting = Waits
 standing_as standing.Gone = IsOut
 
--- why a release frees nothing
+-- the reason for which a release takes nothing out
 abbrev pub release_refused : ReleaseLatchRefusal → Refusal
 release_refused release_refusal.Gone = refusal.Gone
 release_refused release_refusal.StillWaiting = refusal.StillWaiting
 
--- a release's answer: how many requests it granted, or why it freed nothing
+-- the answer of a release: how many requests it granted, or the reason for which it took nothing out
 abbrev pub freed_answer : Result ℕ ReleaseLatchRefusal → Result ℕ Refusal
 freed_answer (Ok granted) = Ok granted
 freed_answer (Err why) = Err (release_refused why)
 
--- what a purge counts
+-- the two counts of a purge
 abbrev pub counts_of : Purged → Counts
 counts_of p = record { removed = p.removed; granted = p.granted }

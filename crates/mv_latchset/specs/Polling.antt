@@ -1,4 +1,4 @@
--- An obtain by its halves, before its wait and after it.
+-- An obtain in its two halves, before its wait and after it.
 use Rattle.std.specs.Prelude.{◌≡◌, ℕ, ◌≤◌, [], Result, None, IfOk, MatchResult}
 use Rattle.mv_latch.specs.declared.operation.LatchOp.TheVariants.{Obtain}
 use Rattle.mv_latch.specs.declared.operation.LatchReply.TheVariants.{Queued}
@@ -19,7 +19,7 @@ use Rattle.mv_latchset.specs.declared.obtaining.Obtained.{Obtained}
 use Rattle.mv_latchset.specs.Answers.{obtain_answer}
 use Rattle.mv_latchset.specs.Obtaining.{IsAnswered, IsObtainedBy, IsRefusedBy, IsOfLatch}
 
--- an obtain was made: all that is said of its answer
+-- an obtain was made with this answer; this is all that the contract of the call says
 pub record IsObtainMade (c : Setup) (latch requestor : ℕ) (mode : Mode) (form : LatchForm) (t : CallerFace)
     (r : Result Obtained ObtainRefusal) (u : CallerFace) : Type 0 where
   pub served : IsServed (obtain_events form) (obtain c latch requestor mode form) (λ a. a ≡ obtain_answer r) t u
@@ -29,12 +29,12 @@ pub record IsObtainMade (c : Setup) (latch requestor : ℕ) (mode : Mode) (form 
       (λ why. IsRefusedBy c latch requestor mode form t why u)
   pub there : IfOk r (IsOfLatch latch)
 
--- what an obtain of the Waiting form asks of its task
+-- what an obtain of the Waiting form requires of its task
 pub record MayObtain (t : CallerFace) : Type 0 where
   pub rest : IsAtRest t.log
   pub left : 2 ≤ t.left
 
--- An obtain of the Waiting form goes on: its one event since it began is the obtain, which was answered Queued.
+-- An obtain of the Waiting form is under way: since it began the task made one event, the Obtain, which was queued.
 pub record IsObtaining (c : Setup) (latch requestor : ℕ) (mode : Mode) (id : ℕ) (t0 t : CallerFace) : Type 0 where
   pub may : MayObtain t0
   pub accepted : obtain_refusal c latch requestor mode Waiting (kept_of t0.number t0.log) ≡ None
@@ -42,7 +42,7 @@ pub record IsObtaining (c : Setup) (latch requestor : ℕ) (mode : Mode) (id : �
   pub event : IsAnswered (Obtain latch requestor mode Waiting) (Queued id) t0 queued
   pub since : Went [] queued t
 
--- what an obtain has come to by its first event: it was made, or goes on
+-- the state of an obtain after its first event: it is over, or under way
 abbrev pub IsBegun : Setup → ℕ → ℕ → Mode → LatchForm → CallerFace → Asking → CallerFace → Type 0
 IsBegun c latch requestor mode form t (asking.Over r) u = IsObtainMade c latch requestor mode form t r u
 IsBegun c latch requestor mode form t (asking.Queued id) u = (form ≡ Waiting) × IsObtaining c latch requestor mode id t u

@@ -1,4 +1,4 @@
--- What a release came to.
+-- The outcome of a release.
 use Rattle.std.specs.Prelude.{◌≡◌, ℕ, Bool, true, Result, Ok, Err}
 use Rattle.mv_latch.specs.declared.operation.LatchOp.TheVariants.{Release}
 use Rattle.mv_latch.specs.declared.operation.LatchReply.TheVariants as latch_reply
@@ -9,7 +9,7 @@ use Rattle.mv_latchset.specs.declared.releasing.ReleaseLatchRefusal.TheVariants 
 use Rattle.mv_latchset.specs.Obtaining.{IsAnswered}
 use Rattle.mv_latchset.specs.Waking.{PostsWakes}
 
--- released, and then those were told who are granted by that; or the refusal is the reply
+-- the request was released and the wakes of that event were posted, or the refusal is the reply to the one event
 abbrev pub IsReleasedBy : Setup → ℕ → ℕ → Bool → CallerFace → Result ℕ ReleaseLatchRefusal → CallerFace → Type 0
 IsReleasedBy c latch id conditional t (Ok granted) u =
     (v : CallerFace) × IsAnswered (Release latch id conditional) (latch_reply.Released granted) t v × PostsWakes c v.wakes v u

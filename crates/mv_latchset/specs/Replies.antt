@@ -1,4 +1,4 @@
--- What is read in replies.
+-- The reply that corresponds to each answer of a call.
 use Rattle.std.specs.Prelude.{◌≡◌, ℕ, Bool, true, false, Result, Ok, Err}
 use Rattle.mv_latch.specs.declared.operation.LatchReply.{LatchReply}
 use Rattle.mv_latch.specs.declared.operation.LatchReply.TheVariants as latch_reply
@@ -14,41 +14,41 @@ use Rattle.mv_latchset.specs.declared.replies.Asked.TheVariants as asked
 use Rattle.mv_latchset.specs.declared.token.Standing.{Standing}
 use Rattle.mv_latchset.specs.declared.token.Standing.TheVariants as standing
 
--- what became of a request, as its event's reply: of one that is queued it is the same, whether the request posts or waits
+-- the reply to the Obtain with this outcome; Queued is the reply in the Posted form and in the Waiting form
 abbrev pub asked_reply : Asked → LatchReply
 asked_reply (asked.Granted id) = latch_reply.Granted id
 asked_reply (asked.NotNow id) = latch_reply.NotNow id
 asked_reply (asked.Pending id) = latch_reply.Queued id
 asked_reply (asked.Queued id) = latch_reply.Queued id
 
--- the form posts a block
+-- the form has a block to post
 abbrev pub IsPosted : LatchForm → Type 0
 IsPosted form = (ecb : ℕ) × (form ≡ form_of.Posted ecb)
 
--- what was asked in this form may come to this
+-- an obtain in this form may have this outcome
 abbrev pub IsOfForm : LatchForm → Asked → Type 0
 IsOfForm form (asked.Granted id) = Unit {0}
 IsOfForm form (asked.NotNow id) = form ≡ form_of.Conditional
 IsOfForm form (asked.Pending id) = IsPosted form
 IsOfForm form (asked.Queued id) = form ≡ form_of.Waiting
 
--- the reply says that a request stands so
+-- the reply says that the request is in this state
 abbrev pub HasStanding : Reply → Standing → Type 0
 HasStanding reply standing.Granted = (id : ℕ) × (reply ≡ reply_of.Latch (latch_reply.Granted id))
 HasStanding reply standing.Waiting = reply ≡ reply_of.Latch latch_reply.Waiting
 HasStanding reply standing.Gone = reply ≡ reply_of.Latch latch_reply.Gone
 
--- it says that a request is granted, or that it is gone
+-- the reply says that the request is granted, or that it is gone
 abbrev pub HasGrant : Reply → Bool → Type 0
 HasGrant reply true = (id : ℕ) × (reply ≡ reply_of.Latch (latch_reply.Granted id))
 HasGrant reply false = reply ≡ reply_of.Latch latch_reply.Gone
 
--- a release's answer, as its event's reply
+-- the reply to the event of a release with this answer
 abbrev pub release_reply : Result ℕ ReleaseLatchRefusal → LatchReply
 release_reply (Ok granted) = latch_reply.Released granted
 release_reply (Err release_refusal.Gone) = latch_reply.Gone
 release_reply (Err release_refusal.StillWaiting) = latch_reply.Waiting
 
--- what a purge counts, as its event's reply
+-- the reply to the event of a purge with these counts
 abbrev pub purge_reply : Purged → LatchReply
 purge_reply p = latch_reply.Purged p.removed p.granted

@@ -10,10 +10,10 @@ use Rattle.mv_calls.specs.Posts.{wakes_posted}
 use Rattle.mv_calls.specs.Program.{Program, Done}
 use Rattle.mv_wait.specs.Run.{Runs}
 
--- a program that is done, and answers nothing
+-- the program that makes no event and has no answer
 abbrev pub all_posted : Program (Unit {0})
 all_posted = Done tt
 
--- the posts of these wakes were made in order, and nothing else
+-- the task posted the blocks of these wakes, in order, and made no other events
 abbrev pub PostsWakes : Setup → List Wake → CallerFace → CallerFace → Type 0
 PostsWakes c ws t u = (kept : Kept) → Runs (total (reach c) (blocks_of ws)) (wakes_posted c ws kept all_posted) all_posted t u

@@ -1,4 +1,4 @@
-//! How a request stands. Clauses cite the calls' `LatchCalls.antt`, the tasks' `Run.antt`, and `specs/Answers.antt`.
+//! The state of a request. Clauses cite `LatchCalls.antt` of mv_calls, `Run.antt` of mv_wait, and `specs/Answers.antt`.
 
 ghost use Rattle.std.specs.Prelude.{◌≡◌, ◌<◌};
 ghost use Rattle.mv_board.specs.Faces.{IsOf};
@@ -14,9 +14,10 @@ use mv_machine::{Object, Op};
 use mv_wait::{Station, Task};
 use std::sync::Wait;
 
-/// How a request of the task stands now: what one confirm answers. Its latch must be one of the configuration's. One event, which
-/// must be left. It does not park, and waits for its turn at the lists. After `Gone` the task no longer counts the request among
-/// those that stand.
+/// Returns the present state of a request of the task.
+///
+/// The call makes one event, a Confirm, which must be left. It does not park; it spins until it gets its turn at the lists. The
+/// token's latch must be one of the configuration's. After the answer `Gone`, `Task::standing` no longer counts the request.
 pub fn check_latch<R: Wait>(
     station: &Station,
     rt: &R,

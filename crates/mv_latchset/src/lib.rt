@@ -1,5 +1,5 @@
-//! The latch services on running tasks: requests that are granted at once, waited for or told by a post, their release, and the
-//! purge of a requestor.
+//! The latch services on running tasks: requests that are granted at once, waited for, or announced by a post; their release; and
+//! the purge of a requestor.
 #![tactic(auto)]
 
 mod checking;

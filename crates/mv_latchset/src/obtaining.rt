@@ -1,4 +1,4 @@
-//! Requests for latches. Clauses cite the calls' `LatchCalls.antt` and `Services.antt`, the tasks' `Run.antt`, and
+//! Requests for latches. Clauses cite `LatchCalls.antt` and `Services.antt` of mv_calls, `Run.antt` of mv_wait, and
 //! `specs/Answers.antt` and `specs/Obtaining.antt`.
 
 ghost use Rattle.std.specs.Prelude.{◌≡◌, ◌<◌, ◌≤◌, ℕ, not, length, option_map, None, IfSome, IfOk, MatchResult};
@@ -30,16 +30,16 @@ use std::sync::Wait;
 use std::time::Clock;
 use thiserror::Error;
 
-/// What an obtain came to.
+/// The outcome of an obtain that was not refused.
 #[derive(Clone, Copy, Debug, PartialEq, Eq)]
 pub enum Obtained {
     /// The request holds its latch.
     Granted(LatchToken),
-    /// The request is queued, and its block is posted with 0 at its grant, or with 1 where it is purged before.
+    /// The request is queued. Its block is posted with 0 when it is granted, or with 1 if it is purged while it waits.
     Pending(LatchToken),
 }
 
-/// Why an obtain was refused.
+/// The reason for which an obtain was refused.
 #[derive(Clone, Copy, Debug, PartialEq, Eq, Error)]
 pub enum ObtainRefusal {
     /// There is no such latch.
@@ -48,27 +48,31 @@ pub enum ObtainRefusal {
     /// The block that is to be posted is another caller's.
     #[error("the block to be posted is another caller's")]
     NotOwner,
-    /// As many requests of the task stand as may.
+    /// The task has as many standing requests as its quotas allow, of all forms together or of the Posted form.
     #[error("as many requests of the task stand as may")]
     Quota,
-    /// The request of this number stands in the way, and nothing was queued.
+    /// The request of this number blocks the new one, and nothing was queued.
     #[error("request {0} stands in the way")]
     NotNow(u32),
-    /// The request was queued, and another task's purge took it out.
+    /// The request was queued, and a purge took it out before it was granted.
     #[error("the request was purged")]
     Purged,
 }
 
-/// A request for a latch, after ISGLOBT, of a requestor of eight bytes, shared or alone. It is granted at once where nothing stands
-/// in the way. Otherwise the Conditional form is refused; the Waiting form parks until the request is granted or taken out by a
-/// purge, for ever where neither comes; and the Posted form goes on, and the block, which must be the task's own, is posted with 0
-/// at the grant and with 1 at a purge. One event, in the Waiting form up to two, which must be left. The lists of all latches are
-/// lent to one caller at a time, so every form waits for its turn.
+/// Requests a latch for a requestor of eight bytes, shared or exclusive, as ISGLOBT does.
+///
+/// The request is granted at once if no request blocks it. Otherwise it depends on the form. The Conditional form is refused. The
+/// Waiting form parks until the request is granted, or a purge takes it out; for ever if neither happens. The Posted form returns
+/// at once, and the block, which must be the task's own, is posted with 0 when the request is granted, or with 1 if it is purged
+/// while it waits.
+///
+/// The call makes at most one event, in the Waiting form at most two, which must be left. One caller at a time has the lists of
+/// all latches, so each form spins until it gets its turn.
 ///
 /// # Errors
 ///
-/// The first refusal that holds, in the order of `ObtainRefusal`. `BadLatch`, `NotOwner` and `Quota` make no event; `NotNow` and
-/// `Purged` are replies.
+/// The first refusal that applies, in the order of `ObtainRefusal`. `BadLatch`, `NotOwner` and `Quota` make no event; `NotNow`
+/// and `Purged` are replies to events.
 ///
 /// # Example
 ///
@@ -105,17 +109,18 @@ pub fn obtain<R: Wait + Clock>(
     }
 }
 
-/// What an obtain has come to by its first event.
+/// The state of an obtain after its first event.
 #[derive(Clone, Copy, Debug, PartialEq, Eq)]
 pub enum Asking {
-    /// It is over, with this answer.
+    /// The obtain is over, with this answer.
     Over(Result<Obtained, ObtainRefusal>),
-    /// The request of this number is queued, and its task is to wait.
+    /// The request of this number is queued, and its task has to wait.
     Queued(u32),
 }
 
-/// The beginning of an obtain, for a call that does not park: its first event. Where the request is queued for a task that is to
-/// wait, one event is still to be left, and only `end_obtain` ends the obtain.
+/// Begins an obtain, for a call that does not park: makes its first event, unless it is refused without one.
+///
+/// If the result is `Queued`, one more event must be left, and only `end_obtain` ends the obtain.
 pub fn begin_obtain<R: Wait>(
     station: &Station,
     rt: &R,
@@ -154,11 +159,11 @@ pub fn begin_obtain<R: Wait>(
     }
 }
 
-/// The end of an obtain whose request `begin_obtain` queued, once the request was seen to be granted or gone. One event.
+/// Ends an obtain whose request `begin_obtain` queued, once the request was seen to be granted or gone. It makes one event.
 ///
 /// # Errors
 ///
-/// `Purged` where it is gone.
+/// `Purged` if the request is gone.
 pub fn end_obtain<R: Wait>(
     station: &Station,
     rt: &R,
@@ -180,7 +185,7 @@ pub fn end_obtain<R: Wait>(
     }
 }
 
-// Whether a request that no longer waits is granted.
+// Makes the Confirm of a request that no longer waits, and returns whether the request is granted.
 fn confirm<R: Wait>(station: &Station, rt: &R, task: &mut Task, latch: u32, id: u32) -> bool
     requires task { IsOf station.now task.old }
     requires latch { latch < station.now.config.latches }
@@ -197,7 +202,7 @@ fn confirm<R: Wait>(station: &Station, rt: &R, task: &mut Task, latch: u32, id: 
     granted_in(reply)
 }
 
-// Why a request is refused before it is made, if it is.
+// The reason for which a request is refused before it is made, if there is one.
 fn refuses(station: &Station, task: &Task, latch: u32, form: LatchForm) -> Option<ObtainRefusal>
     requires task { IsOf station.now task.now }
     requires block { IfSome (posted_ecb form) (λ e. e < length station.now.config.owners) }
@@ -217,7 +222,7 @@ fn refuses(station: &Station, task: &Task, latch: u32, form: LatchForm) -> Optio
     None
 }
 
-// Whether the block that is to be posted, if there is one, is another caller's.
+// Whether the form has a block to post that is another caller's.
 fn posts_others_block(station: &Station, task: &Task, form: LatchForm) -> bool
     requires { IfSome (posted_ecb form) (λ e. e < length station.now.config.owners) }
     ensures { (latch requestor : ℕ) (mode : Mode) → result
@@ -229,7 +234,7 @@ fn posts_others_block(station: &Station, task: &Task, form: LatchForm) -> bool
     }
 }
 
-// Whether as many requests stand as may, of all forms or of the Posted one.
+// Whether the quotas allow no more standing requests, of all forms together or of the Posted form.
 fn is_over_quota(station: &Station, task: &Task, form: LatchForm) -> bool
     ensures quotas { result ≡ not (keeps_quotas station.now.config (kept_of task.now.number task.now.log).requests form) }
     ensures kept { (kept_of task.now.number task.now.log).requests ≡ standing task.now.log }

@@ -1,4 +1,4 @@
-//! Purges of a requestor. Clauses cite the calls' `LatchCalls.antt`, the tasks' `Run.antt`, and `specs/Answers.antt`.
+//! Purges of a requestor. Clauses cite `LatchCalls.antt` of mv_calls, `Run.antt` of mv_wait, and `specs/Answers.antt`.
 
 ghost use Rattle.std.specs.Prelude.{◌≡◌, ◌≤◌};
 ghost use Rattle.mv_machine.specs.Reach.{release_cost};
@@ -18,16 +18,18 @@ use std::sync::Wait;
 /// What a purge did.
 #[derive(Clone, Copy, Debug, PartialEq, Eq)]
 pub struct Purged {
-    /// How many requests it took out.
+    /// The number of requests that it took out.
     pub removed: u32,
-    /// How many others were granted by that.
+    /// The number of other requests that this granted.
     pub granted: u32,
 }
 
-/// Takes all requests of a requestor out of all latches, after ISGLPRG, whichever tasks made them. The blocks of those that
-/// waited are then posted with 1, and those of requests that are granted by it with 0, with their exits; the tasks that wait for
-/// theirs are woken. Any task may, and nothing refuses it. As many events as `ValidConfig::release_cost` at most, which must be left.
-/// It does not park, and waits for its turn at the lists.
+/// Takes all requests of a requestor out of all latches, whichever tasks made them, as ISGLPRG does.
+///
+/// After that it posts the blocks of the requests that waited with 1, and those of the requests that this granted with 0, each
+/// with its exits; and it wakes the tasks that wait for their requests. Any task may purge any requestor, and is never refused.
+/// The call makes at most as many events as `ValidConfig::release_cost` gives; these must be left. It does not park; it spins
+/// until it gets its turn at the lists.
 pub fn purge<R: Wait>(station: &Station, rt: &R, task: &mut Task, requestor: u64) -> Purged
     requires task { IsOf station.now task.old }
     requires rest { IsAtRest task.old.log }

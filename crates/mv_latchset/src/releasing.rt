@@ -1,4 +1,4 @@
-//! Releases of latches. Clauses cite the calls' `LatchCalls.antt`, the tasks' `Run.antt`, and `specs/Answers.antt` and
+//! Releases of latches. Clauses cite `LatchCalls.antt` of mv_calls, `Run.antt` of mv_wait, and `specs/Answers.antt` and
 //! `specs/Releasing.antt`.
 
 ghost use Rattle.std.specs.Prelude.{◌≡◌, ◌<◌, ◌≤◌};
@@ -19,25 +19,27 @@ use mv_wait::{Station, Task};
 use std::sync::Wait;
 use thiserror::Error;
 
-/// Why a release was refused.
+/// The reason for which a release was refused.
 #[derive(Clone, Copy, Debug, PartialEq, Eq, Error)]
 pub enum ReleaseLatchRefusal {
     /// The latch has no such request of the task.
     #[error("the latch has no such request of the task")]
     Gone,
-    /// The request waits, and the release was conditional: it was left.
+    /// The request waits, and the release was conditional: the request stays in the list.
     #[error("the request waits, and was left")]
     StillWaiting,
 }
 
-/// Takes a request of the task out, after ISGLREL, granted or, where the release is not conditional, waiting, and says how many
-/// others were granted by that. Their blocks are then posted with 0, with their exits, and the tasks that wait for theirs are woken.
-/// As many events as `ValidConfig::release_cost` at most, which must be left. It does not park, and waits for its turn at the lists.
+/// Takes a request of the task out of its latch, as ISGLREL does, and returns how many other requests this granted.
+///
+/// A waiting request is taken out only if the release is not conditional. After that the call posts the blocks of the granted
+/// requests with 0, each with its exits, and wakes the tasks that wait for their requests. It makes at most as many events as
+/// `ValidConfig::release_cost` gives; these must be left. It does not park; it spins until it gets its turn at the lists.
 ///
 /// # Errors
 ///
-/// `Gone` where the latch has no such request of the task, as after a purge; `StillWaiting` where it waits and the release is
-/// conditional. Either is the reply to one event, and posts nothing.
+/// `Gone` if the latch has no such request of the task, as after a purge; `StillWaiting` if the request waits and the release is
+/// conditional. Each is the reply to one event, and posts nothing.
 pub fn release_latch<R: Wait>(
     station: &Station,
     rt: &R,

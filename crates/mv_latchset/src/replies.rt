@@ -1,4 +1,4 @@
-//! What replies of the latch set say, where their operation is known. Clauses cite `specs/Says.antt` and `specs/Replies.antt`.
+//! What a reply of the latch set says, if its operation is known. Clauses cite `specs/Says.antt` and `specs/Replies.antt`.
 
 ghost use Rattle.std.specs.Prelude.{◌≡◌, true};
 ghost use Rattle.mv_latch.specs.declared.operation.LatchReply.TheVariants as latch_reply;
@@ -13,18 +13,18 @@ use crate::token::Standing;
 use mv_latch::{LatchForm, LatchReply};
 use mv_machine::Reply;
 
-/// What became of a new request.
+/// The outcome of an Obtain.
 #[derive(Clone, Copy, Debug, PartialEq, Eq)]
 pub(crate) enum Asked {
     Granted(u32),
     NotNow(u32),
-    /// It is queued, and a block is posted at its grant.
+    /// The request is queued, and a block is posted when it is granted.
     Pending(u32),
-    /// It is queued, and its task waits.
+    /// The request is queued, and its task has to wait.
     Queued(u32),
 }
 
-/// What became of a request of this form.
+/// Returns the outcome of an Obtain in this form.
 pub(crate) fn asked_in(form: LatchForm, reply: Reply) -> Asked
     requires { SaysAsked form reply }
     ensures reply { reply ≡ reply_of.Latch (asked_reply result) }
@@ -38,7 +38,7 @@ pub(crate) fn asked_in(form: LatchForm, reply: Reply) -> Asked
     }
 }
 
-// A request that was queued.
+// The outcome of an Obtain in this form whose request was queued.
 fn queued(form: LatchForm, id: u32) -> Asked
     requires { SaysAsked form (reply_of.Latch (latch_reply.Queued id)) }
     ensures reply { asked_reply result ≡ latch_reply.Queued id }
@@ -51,7 +51,7 @@ fn queued(form: LatchForm, id: u32) -> Asked
     }
 }
 
-/// How a request was found.
+/// Returns the state of a request.
 pub(crate) fn standing_in(reply: Reply) -> Standing
     requires { SaysStanding reply }
     ensures { HasStanding reply result }
@@ -64,7 +64,7 @@ pub(crate) fn standing_in(reply: Reply) -> Standing
     }
 }
 
-/// Whether a request that no longer waits is granted. Otherwise it is gone.
+/// Returns whether a request that no longer waits is granted; otherwise it is gone.
 pub(crate) fn granted_in(reply: Reply) -> bool
     requires { is_settled_reply reply ≡ true }
     ensures { HasGrant reply result }
@@ -76,7 +76,7 @@ pub(crate) fn granted_in(reply: Reply) -> bool
     }
 }
 
-/// What a release came to.
+/// Returns the outcome of a release: how many requests it granted, or why it was refused.
 pub(crate) fn released_in(reply: Reply) -> Result<u32, ReleaseLatchRefusal>
     requires { SaysReleased reply }
     ensures { reply ≡ reply_of.Latch (release_reply result) }
@@ -89,7 +89,7 @@ pub(crate) fn released_in(reply: Reply) -> Result<u32, ReleaseLatchRefusal>
     }
 }
 
-/// What a purge did.
+/// Returns what a purge did.
 pub(crate) fn purged_in(reply: Reply) -> Purged
     requires { SaysPurged reply }
     ensures { reply ≡ reply_of.Latch (purge_reply result) }

@@ -1,32 +1,33 @@
-//! What a task holds of its requests. Clauses cite `specs/Token.antt`.
+//! The token of a latch request, and the states of a request. Clauses cite `specs/Token.antt`.
 
 ghost use Rattle.std.specs.Prelude.{◌≡◌, true};
 ghost use Rattle.mv_latchset.specs.Token.{stands};
 
 use mv_wait::Task;
 
-/// A request that a task made: its latch, and the number by which it is released and checked. No other task's call takes it.
+/// A latch request of a task: its latch, and the number by which it is checked and released. Other tasks cannot use it: in their
+/// calls it is the token of no request.
 #[derive(Clone, Copy, Debug, PartialEq, Eq)]
 pub struct LatchToken {
     pub latch: u32,
-    /// The request's number, which no other has.
+    /// The request's number, which no other request has.
     pub id: u32,
-    /// Where the task keeps it.
+    /// The slab key under which the task keeps the request.
     pub key: usize,
 }
 
-/// How a request stands.
+/// The state of a request.
 #[derive(Clone, Copy, Debug, PartialEq, Eq)]
 pub enum Standing {
-    /// It holds its latch.
+    /// The request holds its latch.
     Granted,
-    /// It is queued.
+    /// The request is queued.
     Waiting,
     /// The latch has no such request of this task: it was released or purged, or was never made.
     Gone,
 }
 
-/// The token of a request that stands.
+/// Returns the token of a standing request.
 pub(crate) fn token_of(task: &Task, latch: u32, id: u32) -> LatchToken
     requires { stands task.now id ≡ true }
     ensures latch { result.latch ≡ latch }

@@ -1,5 +1,5 @@
-//! Who is told after a release or a purge: a block of each is posted, or its task is woken. Clauses cite `specs/Waking.antt` and
-//! the machine's `Waking.antt`.
+//! What follows a release or a purge: for each wake a block is posted, or a task is woken. Clauses cite `specs/Waking.antt`, and
+//! `Waking.antt` of mv_machine.
 
 ghost use Rattle.std.specs.Prelude.{◌≡◌, ◌<◌, ◌≤◌, ◌∷◌, [], length, slice_get, Some};
 ghost use Rattle.std.specs.List.{All};
@@ -13,7 +13,7 @@ use mv_latch::Wake;
 use mv_wait::{Station, Task};
 use std::sync::Wait;
 
-/// Goes through the wakes of the task's last event on the latch set, in order.
+/// Posts the block or wakes the task of each wake of the task's last event on the latch set, in order.
 pub(crate) fn post_wakes<R: Wait>(station: &Station, rt: &R, task: &mut Task)
     requires task { IsOf station.now task.old }
     requires rest { IsAtRest task.old.log }
@@ -37,7 +37,7 @@ fn wake_at(task: &Task, i: usize) -> Wake
     task.wakes()[i]
 }
 
-// Posts the block of a wake, or wakes its task where it has none.
+// Posts the block of a wake, or wakes its task if it has no block.
 fn post_wake<R: Wait>(station: &Station, rt: &R, task: &mut Task, wake: Wake)
     requires task { IsOf station.now task.old }
     requires rest { IsAtRest task.old.log }
