@@ -7,21 +7,22 @@ use Rattle.mv_calls.specs.LatchCalls.{Counts}
 use Rattle.mv_calls.specs.Program.{Program}
 use Rattle.mv_wait.specs.Run.{Runs, keeps}
 
--- the elements of a list that are in use were closed in order, whatever program follows. The kept generations are those of then
+-- the task closed those elements of a list that were in use at the beginning, in order, with the generations that it kept then,
+-- whatever program follows
 abbrev pub Closes : List ℕ → CallerFace → CallerFace → Type 0
 Closes ns t u = (p : Program Counts)
     → Runs (length (filter (keeps t).in_use ns)) (close_all (keeps t) (filter (keeps t).in_use ns) p) p t u
 
--- one element
+-- the task closed one element, if that was in use
 abbrev pub ClosesOne : ℕ → CallerFace → CallerFace → Type 0
 ClosesOne n t u = Closes (n ∷ []) t u
 
--- all of the task's own that are in use
+-- the task closed all of its own elements that were in use
 abbrev pub ClosesAll : Setup → CallerFace → CallerFace → Type 0
 ClosesAll c t u = (p : Program Counts)
     → Runs (length (used_elements c (keeps t))) (close_all (keeps t) (used_elements c (keeps t)) p) p t u
 
--- what is kept of every other element stays
+-- what the task keeps of every element other than n is unchanged
 pub record KeepsOthers (n : ℕ) (t u : CallerFace) : Type 0 where
   pub used : (m : ℕ) → (m == n) ≡ false → (keeps u).in_use m ≡ (keeps t).in_use m
   pub generation : (m : ℕ) → (m == n) ≡ false → (keeps u).generation m ≡ (keeps t).generation m

@@ -1,5 +1,5 @@
-//! The ends of jobs and of tasks. Clauses cite the calls' `Endings.antt` and `Services.antt`, the tasks' `Run.antt`, the latch
-//! services' `Answers.antt`, and `specs/Ending.antt`.
+//! The ends of jobs and of tasks. Clauses cite `Endings.antt` and `Services.antt` of mv_calls, `Run.antt` of mv_wait,
+//! `Answers.antt` of mv_latchset, and `specs/Ending.antt`.
 
 ghost use Rattle.std.specs.Prelude.{◌≡◌, ◌+◌, ◌<◌, ◌≤◌, true, length, IfSome};
 ghost use Rattle.mv_ecb.specs.Table.{code_limit};
@@ -20,9 +20,12 @@ use mv_pause::deallocate;
 use mv_wait::{Station, Task};
 use std::sync::Wait;
 
-/// Ends a job: purges its requestor of eight bytes, and then posts a block with the code of its end, of 30 bits. Whoever waits for
-/// the block finds the job's latches free. As many events as a purge (`ValidConfig::release_cost`) and a post of the block
-/// (`ValidConfig::reach`) at most, which must be left. It does not park, and nothing refuses it: what the purge did is the answer.
+/// Ends a job: purges its requestor of eight bytes, and then posts a block with the code of its end, of 30 bits. Returns what the
+/// purge did.
+///
+/// A task that waits for the block finds the job's latches free. The call makes at most as many events as a purge
+/// (`ValidConfig::release_cost`) and a post of the block (`ValidConfig::reach`) together; these must be left. It does not park,
+/// wakes the tasks that its purge and its post wake, and is never refused.
 pub fn end_of_job<R: Wait>(
     station: &Station,
     rt: &R,
@@ -45,8 +48,11 @@ pub fn end_of_job<R: Wait>(
 }
 
 /// Ends a task: gives back its elements that are in use, from the lowest on, purges its requestor, and then posts its mother's
-/// block with the code of its end, of 30 bits, if there is one. The tokens of its elements are over then. As many events as it has
-/// elements in use, a purge and a post of the block at most, which must be left. It does not park, and nothing refuses it.
+/// block with the code of its end, of 30 bits, if there is such a block. Returns what the purge did.
+///
+/// The tokens of its elements are spent then. The call makes at most one event for each element in use, and those of a purge and
+/// of a post of the block; these must be left. It does not park, wakes the tasks that its purge and its post wake, and is never
+/// refused.
 pub fn end_of_task<R: Wait>(
     station: &Station,
     rt: &R,

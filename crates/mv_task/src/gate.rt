@@ -1,8 +1,8 @@
-//! Where a run can be held.
+//! The points at which a run can be held.
 
 use std::sync::Wait;
 
-/// A moment in the life of a job, by the job's number.
+/// A moment in the life of a job, with the job's number.
 #[derive(Clone, Copy, Debug, PartialEq, Eq)]
 pub enum Point {
     /// The reader is about to post the job.
@@ -17,13 +17,13 @@ pub enum Point {
     Written(u32),
 }
 
-/// What each task of a run passes at each point. A test holds tasks by it; it promises nothing.
+/// A hook that each task of a run calls at each point. A test holds tasks by it; it promises nothing.
 pub trait Gate {
-    /// The caller of this number is at this point. It makes no event; it may wait, and may never return.
+    /// Is called when the task of number `who` is at this point. It makes no event. It may wait, and may never return.
     fn pass<R: Wait>(&self, rt: &R, who: u32, point: Point);
 }
 
-/// A gate that holds nobody.
+/// A gate that holds no task.
 #[derive(Clone, Copy, Debug, PartialEq, Eq)]
 pub struct OpenGate;
 

@@ -1,4 +1,4 @@
-//! The ends of jobs and of tasks, at which what they held is given back, and the gate at which a test holds the tasks of a run.
+//! The ends of jobs and of tasks, which give back what these held, and the gate at which a test holds the tasks of a run.
 #![tactic(auto)]
 
 mod ending;

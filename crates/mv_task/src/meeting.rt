@@ -5,8 +5,8 @@ use std::sync::Wait;
 use std::sync::atomic::{AtomicBool, Ordering};
 use std::thread;
 
-/// A gate that holds whoever comes to one of two points until the other is reached, or for so many rounds, each of which yields.
-/// A test of tasks on threads sees by it that two things happen at once.
+/// A gate that holds a task at one of two points until another task has reached the other point, or for `rounds` rounds, in each
+/// of which it yields. A test of tasks on threads shows by it that two things happen at once.
 #[derive(Drop)]
 pub struct MeetGate {
     first: Point,
@@ -18,7 +18,7 @@ pub struct MeetGate {
 }
 
 impl MeetGate {
-    /// A gate for two different points. It takes no memory. Whoever is held at one is let go after so many rounds.
+    /// Makes a gate for two different points, at which a task is held for at most `rounds` rounds. It takes no memory.
     pub fn new(first: Point, second: Point, rounds: u64) -> MeetGate {
         MeetGate {
             first,
@@ -30,7 +30,7 @@ impl MeetGate {
         }
     }
 
-    /// Whether both points were reached, and nobody was held for all rounds.
+    /// Returns whether both points were reached, and no task was held there for all rounds.
     pub fn met(&self) -> bool {
         self.first_reached.load(Ordering::SeqCst)
             && self.second_reached.load(Ordering::SeqCst)

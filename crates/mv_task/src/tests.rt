@@ -1,6 +1,6 @@
-//! Tests of the crates below, here since a crate with tests is proved twice over: of boards, of waits and posts, of pauses, of
-//! latches, and of objects as one thread has them. Out of memory stops a test: an early return that drops its tasks would be most of its
-//! proof.
+//! Tests of boards, of waits and posts, of pauses, of latches, and of objects as one thread has them. They test the crates below,
+//! and are here because a crate with tests is proved twice. A test stops if memory runs out: an early return that drops its tasks
+//! would be most of its proof.
 
 ghost use Rattle.std.specs.Prelude.{◌≡◌, ◌<◌, ◌≤◌, false, length};
 ghost use Rattle.mv_machine.specs.Setup.{owner_of};
@@ -23,10 +23,10 @@ mod objects;
 mod pauses;
 mod waits;
 
-// How often two threads hand over to each other and back. `bench/run` times both beside their twins.
+// How often two threads hand over to each other and back. `bench/run` times them beside their twins.
 const ROUNDS: u32 = 10_000;
 
-// The wait bit and the completion bit of a block's word, by their numbers.
+// The numbers of the wait bit and of the completion bit in a block's word.
 const WAIT_BIT: u32 = 31;
 
 const COMPLETION_BIT: u32 = 30;
@@ -43,7 +43,8 @@ fn linger() {
     }
 }
 
-// Tasks with this posted quota and these budgets, two elements each, eight latches, blocks of these owners, and these exits.
+// A configuration of tasks with this posted quota and these budgets, two elements each, eight latches, blocks of these owners,
+// and these exits.
 fn setup(
     rt: &impl Abort,
     alloc: Global,
@@ -69,7 +70,7 @@ fn setup(
     config.check(alloc).expect(rt, "a configuration")
 }
 
-// A new station of such a configuration, and its tasks.
+// A new station of such a configuration for two tasks, and these tasks.
 fn open(
     rt: &impl Abort,
     alloc: Global,
@@ -91,10 +92,10 @@ fn open(
     (station, first, second)
 }
 
-// Lets a station and its tasks go. A test that did so itself would be proved in many times the time.
+// Drops a station and its tasks. A test that dropped them itself would take many times as long to prove.
 fn end(_station: Station, _first: Task, _second: Task) {}
 
-// A task at rest, with its station: what each call asks for.
+// A task at rest, with its station: what each call requires.
 #[derive(Drop)]
 struct Worker<'a> {
     station: &'a Station,
@@ -113,14 +114,14 @@ impl<'a> Model for Worker<'a> {
     ghost invariant = { λ w. IsOf w.station.now w.task × IsAtRest w.task.log };
 }
 
-// Stops the test where there is no such block.
+// Stops the test if there is no such block.
 fn assert_is_block(rt: &impl Abort, station: &Station, ecb: u32)
     ensures { ecb < length station.now.config.owners }
 {
     assert!(rt; station.config().has_ecb(ecb));
 }
 
-// Stops the test where the task can not wait for this block and clear it.
+// Stops the test if the task cannot wait for this block and clear it.
 fn assert_may_wait(rt: &impl Abort, station: &Station, task: &Task, ecb: u32)
     requires { IsOf station.now task.now }
     ensures exists { ecb < length station.now.config.owners }
@@ -143,12 +144,12 @@ impl<'a> Worker<'a> {
         Worker { station, task }
     }
 
-    // How many entries its task has.
+    // How many entries the worker's task has.
     fn entries(&self) -> usize {
         self.task.log().len()
     }
 
-    // Its task.
+    // Gives the worker's task back.
     fn back(self) -> Task
         ensures { IsOf self.entry.0 result × (result.number ≡ self.entry.1) }
     {

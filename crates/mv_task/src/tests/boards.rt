@@ -1,4 +1,4 @@
-//! Calls of two callers on one board, on threads of their own too, and the history that a board leaves.
+//! Calls of two callers on one board, by one thread and by two, and the history that a board leaves.
 
 ghost use Rattle.std.specs.Prelude.{◌≡◌, ◌+◌, ◌<◌, [], ◌∷◌, true, length};
 ghost use Rattle.mv_machine.specs.System.{ecb_admitted};
@@ -15,7 +15,7 @@ use std::thread::join;
 
 // ---- a board of two callers
 
-// Two callers with these budgets, and one event control block, of caller 0.
+// A configuration of two callers with these budgets, and one event control block, of caller 0.
 fn setup(rt: &impl Abort, alloc: Global, budgets: [u32; 2]) -> ValidConfig
     ensures callers { result.callers ≡ 2 }
     ensures block { result.owners ≡ 0 ∷ [] }
@@ -34,7 +34,7 @@ fn setup(rt: &impl Abort, alloc: Global, budgets: [u32; 2]) -> ValidConfig
     config.check(alloc).expect(rt, "a configuration")
 }
 
-// The last of some new callers, which has this number.
+// The last of these new callers, which has this number.
 fn last(board: &Board, callers: &mut Vec<Caller>, number: u32) -> Caller
     requires count { length callers.old.items ≡ number + 1 }
     requires fresh { AreFresh board.now 0 callers.old.items }
@@ -62,7 +62,7 @@ fn open(rt: &impl Abort, alloc: Global, budgets: [u32; 2]) -> (Board, Caller, Ca
     (board, first, second)
 }
 
-// The journal of a board that ends with its callers.
+// The journal of a board at its end, when its callers are back.
 fn close(rt: &impl Abort, alloc: Global, board: Board, first: Caller, second: Caller) -> Vec<Entry>
     requires two { board.config.callers ≡ 2 }
     requires first { IsOf board first × (first.number ≡ 0) }
@@ -76,7 +76,7 @@ fn close(rt: &impl Abort, alloc: Global, board: Board, first: Caller, second: Ca
     listed.journal
 }
 
-// Lets a board and its callers go. A test that did so itself would be proved in many times the time.
+// Drops a board and its callers. A test that dropped them itself would take many times as long to prove.
 fn end(_board: Board, _first: Caller, _second: Caller) {}
 
 // ---- a caller with its board
@@ -112,7 +112,7 @@ impl<'a> Seat<'a> {
         Seat { board, caller }
     }
 
-    // Its caller.
+    // Gives the seat's caller back.
     fn back(self) -> Caller
         ensures { IsOf self.entry.0 result × (result.number ≡ self.entry.1) }
     {
@@ -120,7 +120,7 @@ impl<'a> Seat<'a> {
         caller
     }
 
-    // An event on the block, and its reply.
+    // Makes an event on the block, and returns its reply.
     fn make<R: Abort + Wait>(&mut self, rt: &R, op: EcbOp) -> Reply
         requires admitted { ecb_admitted self.old.0.config self.old.1 0 op ≡ true }
         ensures { self.new ≡ self.old }
@@ -130,7 +130,7 @@ impl<'a> Seat<'a> {
         board.event(rt, &mut self.caller, BLOCK, Op::Ecb(op))
     }
 
-    // The same by one exchange of the word that is expected.
+    // Tries an event on the block by one exchange of the expected word.
     fn exchange(&mut self, rt: &impl Abort, op: EcbOp, expected: u64) -> Result<Reply, Moved>
         requires admitted { ecb_admitted self.old.0.config self.old.1 0 op ≡ true }
         ensures { self.new ≡ self.old }
@@ -148,7 +148,7 @@ impl<'a> Seat<'a> {
         board.look(&mut self.caller, BLOCK)
     }
 
-    // Whether the own block is complete.
+    // Whether the block, which is the caller's own, is complete.
     fn peek<R: Wait>(&mut self, rt: &R) -> bool
         requires own { self.old.1 ≡ 0 }
         ensures { self.new ≡ self.old }
@@ -160,12 +160,13 @@ impl<'a> Seat<'a> {
 
 // ---- each call once
 
-// The words of the block: zero at place 1, and complete with code 5 at place 2.
+// Two words of the block: zero at place 1, and complete with code 5 at place 2.
 const ZERO_LATER: u64 = 35_184_372_088_832;
 
 const COMPLETE_LATER: u64 = 70_369_817_919_493;
 
-// A post and the owner's arm behind it, which finds it; then an exchange of a word that the block never had, a look and a peek.
+// Makes a post and then the owner's arm, which finds the block complete; then an exchange that expects a word which the block
+// never had, a look and a peek.
 fn post_and_arm<R: Abort + Wait>(rt: &R, owner: &mut Seat<'_>, poster: &mut Seat<'_>)
     requires owner { owner.old.1 ≡ 0 }
     requires arm { ecb_admitted owner.old.0.config owner.old.1 0 EcbOp.Arm ≡ true }
@@ -192,7 +193,7 @@ fn entry(caller: u32, place: u32, op: EcbOp, reply: EcbReply) -> Entry {
     }
 }
 
-// The two entries of the post and of the arm.
+// The journal has two entries, of the post and of the arm.
 fn assert_posted_and_armed(rt: &impl Abort, journal: &[Entry]) {
     let expected = [
         entry(1, 0, EcbOp::Post(5), EcbReply::Posted),
@@ -214,7 +215,7 @@ fn a_post_its_looks_and_its_journal(rt: HostRuntime) {
 
 // ---- threads on one word
 
-// This many tests of the block, which no task has posted.
+// Makes this many tests of the block, which no task has posted.
 fn repeat<R: Abort + Wait>(rt: &R, board: &Board, caller: Caller, events: u32) -> Caller
     requires board { IsOf board.now caller × (caller.number < board.now.config.callers) }
     requires block { board.now.config.owners ≡ 0 ∷ [] }
@@ -228,7 +229,7 @@ fn repeat<R: Abort + Wait>(rt: &R, board: &Board, caller: Caller, events: u32) -
     seat.back()
 }
 
-// The entries are at the places from 0 on, in their order, and `each` of them are of each of two callers.
+// The entries are at the places from 0 on, in their order, and each of two callers has `each` of them.
 fn assert_in_order(rt: &impl Abort, journal: &[Entry], each: usize) {
     for (place, entry) in journal.iter().enumerate() {
         assert!(rt; entry.object == BLOCK && entry.place as usize == place);
@@ -253,7 +254,7 @@ fn the_events_of_two_threads_have_each_place_once(rt: HostRuntime) {
 
 // ---- what bench/run times
 
-// This many tests, each of which is in the caller's log.
+// Makes this many tests, each of which is in the caller's log.
 fn log_tests<R: Abort + Wait>(rt: &R, board: &Board, caller: Caller, events: u32) -> Caller
     requires board { IsOf board.now caller × (caller.number < board.now.config.callers) }
     requires block { board.now.config.owners ≡ 0 ∷ [] }

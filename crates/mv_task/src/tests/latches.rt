@@ -1,5 +1,5 @@
-//! What no clause says: the key of a token, and two threads of which one waits for what the other holds; and the rounds that `bench/run`
-//! times. Tables of calls with their answers are scripts, in mv_program.
+//! What no clause says: the key of a token, and two threads of which one waits for what the other holds; and the rounds that
+//! `bench/run` times. Tables of calls with their answers are scripts, in mv_program.
 
 ghost use Rattle.std.specs.Prelude.{◌≡◌, ◌≤◌, IfSome};
 ghost use Rattle.mv_latch.specs.Request.{posted_ecb};
@@ -17,7 +17,7 @@ use std::sync::Wait;
 use std::thread::{self, Threads, join};
 use std::time::{Clock, Duration};
 
-// A new station of two tasks with this posted quota and these budgets, and one block, of the second.
+// A new station of two tasks with this posted quota and these budgets, and one block, of the second task.
 fn open_two(
     rt: &impl Abort,
     alloc: Global,
@@ -43,7 +43,7 @@ fn open_two(
 
 // ---- the calls
 
-// Asks for a latch alone, for this requestor.
+// Makes an exclusive request for a latch, for this requestor.
 #[tactic(auto, using(mv_wait::proofs::Compose::served, mv_latchset::proofs::Obtains::few_events))]
 fn ask<R: Abort + Wait + Clock>(
     rt: &R,
@@ -62,7 +62,7 @@ fn ask<R: Abort + Wait + Clock>(
     obtain(station, rt, &mut worker.task, latch, requestor, mode, form)
 }
 
-// Takes a latch alone, for this requestor. Where the request is to be posted, its post is waited for.
+// Takes a latch exclusively, for this requestor. If the request's grant is to be posted, the task waits for that post.
 fn take<R: Abort + Wait + Clock>(
     rt: &R,
     worker: &mut Worker<'_>,
@@ -102,7 +102,7 @@ fn take_three<R: Abort + Wait + Clock>(rt: &R, worker: &mut Worker<'_>) {
     let second = take(rt, worker, 1, 1, LatchForm::Conditional);
     assert!(rt; (first.key, second.key) == (0, 1));
     give_back(rt, worker, first);
-    // The record that was given back is used again, under the number of another request.
+    // The record that was given back is used again, for a request of another number.
     let third = take(rt, worker, 2, 1, LatchForm::Conditional);
     assert!(rt; (third.id, third.key) == (3, 0));
     let task = &worker.task;
@@ -121,7 +121,7 @@ fn a_token_has_the_key_of_its_record(rt: HostRuntime) {
 
 // ---- two threads
 
-// Purges requestor 9: whether one of its requests was taken out.
+// Purges requestor 9, and returns whether one of its requests was taken out.
 #[tactic(auto, using(mv_wait::proofs::Compose::served))]
 fn purge_once<R: Abort + Wait>(rt: &R, worker: &mut Worker<'_>) -> bool {
     let station = worker.station;
@@ -129,7 +129,7 @@ fn purge_once<R: Abort + Wait>(rt: &R, worker: &mut Worker<'_>) -> bool {
     purge(station, rt, &mut worker.task, 9).removed == 1
 }
 
-// The same until one was taken out, at most 200,000 times: whether one was.
+// Purges requestor 9 until one of its requests was taken out, at most 200,000 times, and returns whether one was.
 fn purge_often<R: Abort + Wait>(rt: &R, worker: &mut Worker<'_>) -> bool {
     for _ in 0..200_000u32 {
         if purge_once(rt, worker) {
@@ -140,14 +140,14 @@ fn purge_often<R: Abort + Wait>(rt: &R, worker: &mut Worker<'_>) -> bool {
     false
 }
 
-// Once the block is seen to be complete, purges requestor 9, and then gives back the latch that it holds.
+// Waits until the block was seen complete, purges requestor 9, and then gives back the latch that it holds.
 fn hold_until_a_purge<R: Abort + Wait>(rt: &R, worker: &mut Worker<'_>, held: LatchToken) {
     worker.await_bit(rt, 0, COMPLETION_BIT);
     assert!(rt; purge_often(rt, worker));
     give_back(rt, worker, held);
 }
 
-// Posts the block, and then waits for the latch.
+// Posts the block, and then waits for the latch, for which its request is purged.
 fn obtain_behind_a_post<R: Abort + Wait + Clock>(rt: &R, worker: &mut Worker<'_>) {
     worker.post(rt, 0);
     let obtained = ask(rt, worker, 0, 9, LatchForm::Waiting);
@@ -202,7 +202,7 @@ fn a_task_that_parked_for_a_latch_is_woken_at_its_grant(rt: HostRuntime) {
     end(station, waiter, holder);
 }
 
-// Takes latch 0 and gives it back, so many times.
+// Takes latch 0 and gives it back, `times` times.
 fn take_often<R: Abort + Wait + Clock>(
     rt: &R,
     station: &Station,
@@ -224,7 +224,7 @@ fn take_often<R: Abort + Wait + Clock>(
     worker.back()
 }
 
-// Tries for latch 0, and gives it back where it was granted.
+// Tries to take latch 0, and gives it back if it was granted.
 fn try_once<R: Abort + Wait + Clock>(rt: &R, worker: &mut Worker<'_>, requestor: u64)
     ensures { worker.new ≡ worker.old }
 {
@@ -235,7 +235,7 @@ fn try_once<R: Abort + Wait + Clock>(rt: &R, worker: &mut Worker<'_>, requestor:
     }
 }
 
-// Tries so many times.
+// Tries to take latch 0 `times` times.
 fn try_often<R: Abort + Wait + Clock>(
     rt: &R,
     station: &Station,
@@ -254,7 +254,7 @@ fn try_often<R: Abort + Wait + Clock>(
     worker.back()
 }
 
-// The end of a station whose two tasks are back: how many events its history has, which is judged legal.
+// Ends a station whose two tasks are back, judges that its history is legal, and returns how many events it has.
 fn judge(rt: &impl Abort, alloc: Global, station: Station, first: Task, second: Task) -> usize
     requires callers { station.config.callers ≡ 2 }
     requires first { IsOf station first × (first.number ≡ 0) }
@@ -269,7 +269,7 @@ fn judge(rt: &impl Abort, alloc: Global, station: Station, first: Task, second: 
     listed.journal.len()
 }
 
-// Two threads try for one latch.
+// Two threads try to take one latch.
 #[test]
 fn two_threads_contend_for_one_latch(rt: HostRuntime) {
     let (station, first, second) = open_two(&rt, rt.alloc(), 0, 2100, 2100);
@@ -283,7 +283,7 @@ fn two_threads_contend_for_one_latch(rt: HostRuntime) {
     assert!(rt; judge(&rt, rt.alloc(), station, first, second) == entries);
 }
 
-// Two threads take one latch so many times, the second by requests of this form.
+// Two threads take one latch `times` times each, the second one by requests of this form.
 fn contend<R: Abort + Wait + Clock + Threads + Sync>(
     rt: &R,
     alloc: Global,

@@ -11,7 +11,7 @@ use std::process::Abort;
 
 // ---- a block
 
-// An operation on the block of this word leaves that word and has this reply.
+// An operation on a block with this word leaves the word `later` and has this reply.
 fn assert_applied(rt: &impl Abort, op: EcbOp, word: u32, later: u32, reply: EcbReply)
     requires { IsEcbOp op }
 {
@@ -22,7 +22,7 @@ fn assert_applied(rt: &impl Abort, op: EcbOp, word: u32, later: u32, reply: EcbR
     assert!(rt; left.word() == later && replied == reply);
 }
 
-// A wait on a fresh block, and two posts, of which the second finds the code of the first.
+// A wait on a new block, and two posts, of which the second finds the code of the first.
 #[test]
 fn an_armed_block_is_posted_twice(rt: HostRuntime) {
     let (armed, posted) = (2_147_483_648, 2_147_483_647);
@@ -80,7 +80,7 @@ impl Desk {
     }
 }
 
-// A request that waits for its grant.
+// An obtain of the Waiting form.
 fn ask(requestor: u64, mode: Mode) -> LatchOp {
     LatchOp::Obtain {
         latch: 0,
@@ -102,7 +102,7 @@ fn release(id: u32) -> LatchOp {
     }
 }
 
-// Who is woken with this code.
+// The wake of a caller that has no block to post.
 fn woken(caller: u32, id: u32, code: u32) -> Wake {
     Wake {
         caller,

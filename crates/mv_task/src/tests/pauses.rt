@@ -1,5 +1,6 @@
-//! What no clause says: two threads of which one wakes the other; and the hand-offs that `bench/run` times. Beside these, worked rows of an
-//! exchange that is refused by the state, which no script shows. Tables of calls with their answers are scripts, in mv_program.
+//! What no clause says: two threads of which one wakes the other; and the hand-offs that `bench/run` times. There are also worked
+//! rows of an exchange that is refused because of the state, which no script shows. Tables of calls with their answers are
+//! scripts, in mv_program.
 
 ghost use Rattle.std.specs.Prelude.{◌≡◌, ◌<◌};
 ghost use Rattle.mv_element.specs.Table.{release_limit};
@@ -23,7 +24,7 @@ use std::sync::Wait;
 use std::thread::{self, join};
 use std::time::Clock;
 
-// A new station of two tasks with this budget. Elements 0 and 1 are the first one's, 2 and 3 the second one's.
+// A new station of two tasks with this budget. Elements 0 and 1 are the first task's, 2 and 3 the second one's.
 fn open_two(rt: &impl Abort, alloc: Global, budget: u32) -> (Station, Task, Task)
     ensures first { IsOf result.0 result.1 × IsAtRest result.1.log }
     ensures second { IsOf result.0 result.2 × IsAtRest result.2.log }
@@ -39,7 +40,7 @@ fn open_two(rt: &impl Abort, alloc: Global, budget: u32) -> (Station, Task, Task
     )
 }
 
-// A task that has taken its first element in use, which is this one.
+// A worker whose task has allocated its first element, which is this one.
 #[tactic(auto, using(mv_wait::proofs::Compose::served))]
 fn begin<'a, R: Abort + Wait>(
     rt: &R,
@@ -74,7 +75,7 @@ fn given(element: u32, generation: u32) -> Given
     }
 }
 
-// Stops the test where there is no such element.
+// Stops the test if there is no such element.
 fn assert_is_element(rt: &impl Abort, station: &Station, element: u32)
     ensures { element < element_count station.now.config }
 {
@@ -84,7 +85,7 @@ fn assert_is_element(rt: &impl Abort, station: &Station, element: u32)
 
 // ---- a pause and a release
 
-// A pause with this token, which is given the code.
+// Pauses with this token, and is given the code.
 #[tactic(auto, using(mv_wait::proofs::Compose::served))]
 fn take<R: Abort + Wait + Clock>(rt: &R, worker: &mut Worker<'_>, own: u32, generation: u32)
     requires { generation < highest_generation }
@@ -96,7 +97,7 @@ fn take<R: Abort + Wait + Clock>(rt: &R, worker: &mut Worker<'_>, own: u32, gene
     assert!(rt; paused == Ok(given(own, generation)));
 }
 
-// A release.
+// Releases this token, and returns the answer.
 #[tactic(auto, using(mv_wait::proofs::Compose::served))]
 fn hand<R: Abort + Wait>(
     rt: &R,
@@ -118,7 +119,7 @@ fn hand<R: Abort + Wait>(
 
 // ---- exchanges
 
-// Stops the test where this is no word of the element, or a task pauses in it.
+// Stops the test if this is not a word of the element, or a task pauses in it.
 fn assert_has_no_pause(rt: &impl Abort, element: u32, word: u64)
     ensures { HasNoPause element word }
 {
@@ -130,7 +131,7 @@ fn assert_has_no_pause(rt: &impl Abort, element: u32, word: u64)
     }
 }
 
-// A release by one exchange.
+// Releases a token by one exchange.
 fn exchange(
     rt: &impl Abort,
     station: &Station,
@@ -151,7 +152,7 @@ fn exchange(
     try_release(station, task, token, expected, code)
 }
 
-// One of this generation of element 0, which is answered so.
+// A release of element 0 by one exchange, with a token of this generation, has this answer.
 fn assert_exchange(
     rt: &impl Abort,
     worker: &mut Worker<'_>,
@@ -168,15 +169,15 @@ fn assert_exchange(
     assert!(rt; found == answer);
 }
 
-// What one more place adds to a word.
+// What one place more adds to a word.
 const PLACE: u64 = 35_184_372_088_832;
 
-// The words of an element of generation 0 at place 0: reset; and prereleased with code 5.
+// Two states of an element of generation 0 in a word: reset, and prereleased with code 5.
 const RESET: u64 = 16_777_216;
 
 const PRERELEASED: u64 = 33_554_437;
 
-// A release of element 0, and two that are refused by the state that they expect.
+// A release of element 0, and two that are refused because of the state in the expected word.
 #[test]
 fn an_exchange_is_refused_by_the_state_that_is_expected(rt: HostRuntime) {
     let (station, task, other) = open_two(&rt, rt.alloc(), 20);
@@ -203,7 +204,7 @@ fn is_paused<R: Abort>(rt: &R, worker: &mut Worker<'_>, element: u32) -> bool {
     }
 }
 
-// Looks at an element until a task pauses in it, and then waits until that has parked.
+// Looks at an element until a task pauses in it, and then gives that task the time to park.
 fn await_pause<R: Abort + Wait>(rt: &R, worker: &mut Worker<'_>, element: u32) {
     for _ in rt.forever() {
         if is_paused(rt, worker, element) {
@@ -214,7 +215,7 @@ fn await_pause<R: Abort + Wait>(rt: &R, worker: &mut Worker<'_>, element: u32) {
     }
 }
 
-// Releases the pause of element 0, as soon as its task has parked.
+// Releases the pause of element 0, once its task has parked.
 fn release_the_paused<R: Abort + Wait>(rt: &R, worker: &mut Worker<'_>) {
     await_pause(rt, worker, 0);
     assert!(rt; hand(rt, worker, 0, 0) == Ok(ReleaseAnswer::Woke));
@@ -234,7 +235,7 @@ fn a_pause_that_parked_is_woken(rt: HostRuntime) {
     end(station, first, second);
 }
 
-// A call of its own, made of a look and an exchange: releases a pause that is on. Whether there was one.
+// A call that is made of a look and an exchange: releases a pause that is under way, and returns whether there was one.
 fn release_paused(station: &Station, task: &mut Task, element: u32) -> bool
     requires task { IsOf station.now task.old }
     requires element { element < element_count station.now.config }
@@ -251,7 +252,7 @@ fn release_paused(station: &Station, task: &mut Task, element: u32) -> bool
     let op = Op::Element(ElementOp::Release(state.generation, CODE));
     match station.try_event(task, object, op, word) {
         Ok(_) => {
-            // The exchange has woken nobody: whose pause it ends is for this call to wake.
+            // The exchange has woken no task: this call must wake the task whose pause it ends.
             station.wake(station.config().element_owner(element));
             true
         }
@@ -259,7 +260,7 @@ fn release_paused(station: &Station, task: &mut Task, element: u32) -> bool
     }
 }
 
-// Releases the pause of element 0 by that call, as soon as its task has parked.
+// Releases the pause of element 0 by that call, once its task has parked.
 fn release_by_exchange<R: Abort + Wait>(rt: &R, mut worker: Worker<'_>) -> Task {
     await_pause(rt, &mut worker, 0);
     let station = worker.station;
@@ -284,7 +285,7 @@ fn a_call_made_of_events_wakes_whom_it_releases(rt: HostRuntime) {
     end(station, first, second);
 }
 
-// Releases the other's pause and pauses, once with each generation.
+// Releases the other task's pause, and pauses, once with each generation.
 fn hand_over<R: Abort + Wait + Clock>(rt: &R, worker: &mut Worker<'_>) {
     for generation in 0..ROUNDS {
         assert!(rt; hand(rt, worker, 2, generation).is_ok());
@@ -316,7 +317,7 @@ fn two_threads_release_in_turn(rt: HostRuntime) {
 
 // ---- two threads that transfer
 
-// A transfer to the other's pause, as soon as its task has parked, and back.
+// Transfers to the other task's pause, once that task has parked, and is given the code by a transfer back.
 #[tactic(auto, using(mv_wait::proofs::Compose::served))]
 fn hand_and_take<R: Abort + Wait + Clock>(rt: &R, worker: &mut Worker<'_>, own: Token, other: Token)
     requires { own.generation < highest_generation }

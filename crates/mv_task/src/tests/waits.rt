@@ -1,5 +1,5 @@
-//! What no clause says: how long a chain of exits may be, two threads that hand over to each other, and whom a post wakes; and what
-//! `bench/run` times. Tables of calls with their answers are scripts, in mv_program.
+//! What no clause says: how long a chain of exits may be, two threads that hand over to each other, and which tasks a post wakes;
+//! and what `bench/run` times. Tables of calls with their answers are scripts, in mv_program.
 
 ghost use Rattle.std.specs.Prelude.{◌≡◌, ◌<◌, ◌≤◌, ◌^◌, length};
 ghost use Rattle.std.specs.List.{AllByRecursion};
@@ -31,7 +31,7 @@ fn chain(alloc: Global, exits: u32) -> Result<Vec<Exit>, AllocError>
     Ok(list)
 }
 
-// A new station of such a chain, which is the first task's.
+// A new station of such a chain, whose blocks are the first task's.
 fn open_chain(rt: &impl Abort, alloc: Global, exits: u32) -> (Station, Task, Task)
     requires { exits ≤ 1000 }
     ensures { IsOf result.0 result.1 × IsAtRest result.1.log }
@@ -41,7 +41,7 @@ fn open_chain(rt: &impl Abort, alloc: Global, exits: u32) -> (Station, Task, Tas
     open(rt, alloc, 0, 4000, 0, owners, exits)
 }
 
-// Extends an own block with an exit.
+// Extends a block of the task's own with an exit.
 #[tactic(auto, using(mv_wait::proofs::Compose::served))]
 fn extend<R: Abort + Wait>(rt: &R, worker: &mut Worker<'_>, ecb: u32, exit: u32) {
     let station = worker.station;
@@ -56,7 +56,7 @@ fn post_chain<R: Abort + Wait>(rt: &R, worker: &mut Worker<'_>) {
         extend(rt, worker, i, i + 1);
     }
     assert!(rt; worker.post(rt, 0) == PostAnswer::Woke);
-    // An extend of each, and the posts of all of them and of the last block.
+    // An extend of each block but the last, and the posts of all blocks.
     assert!(rt; worker.entries() == 2001);
 }
 
@@ -71,7 +71,7 @@ fn a_chain_of_a_thousand_exits_is_posted(rt: HostRuntime) {
 
 // ---- two threads
 
-// Posts the other's block and waits for the own one, so many times.
+// Posts the other task's block and waits for its own, `times` times.
 fn hand_over<R: Abort + Wait + Clock>(
     rt: &R,
     worker: &mut Worker<'_>,
@@ -99,7 +99,7 @@ fn hand_back<R: Abort + Wait + Clock>(
     }
 }
 
-// A new station of two tasks with these budgets, and a block each.
+// A new station of two tasks with these budgets, and one block for each task.
 fn open_two(rt: &impl Abort, alloc: Global, first: u32, second: u32) -> (Station, Task, Task)
     ensures first { IsOf result.0 result.1 × IsAtRest result.1.log }
     ensures second { IsOf result.0 result.2 × IsAtRest result.2.log }
@@ -126,7 +126,7 @@ fn two_threads_post_in_turn(rt: HostRuntime) {
 
 // ---- two threads and an exit
 
-// Clears the own block 0: its word until then.
+// Clears block 0, which is the task's own, and returns the word that it had.
 #[tactic(auto, using(mv_wait::proofs::Compose::served))]
 fn clear_own<R: Abort + Wait>(rt: &R, worker: &mut Worker<'_>) -> u32
     ensures { worker.new ≡ worker.old }
@@ -140,7 +140,7 @@ fn clear_own<R: Abort + Wait>(rt: &R, worker: &mut Worker<'_>) -> u32
     word
 }
 
-// Posts the own block 0, whose exit posts block 1, where the other task has parked for that, and waits for block 2.
+// Posts its own block 0, whose exit posts block 1, once the other task has parked for that one; then waits for block 2.
 fn post_by_exit<R: Abort + Wait + Clock>(rt: &R, worker: &mut Worker<'_>, times: u32) {
     for _ in 0..times {
         extend(rt, worker, 0, 1);
@@ -152,7 +152,7 @@ fn post_by_exit<R: Abort + Wait + Clock>(rt: &R, worker: &mut Worker<'_>, times:
     }
 }
 
-// A new station of two tasks and three blocks, of which the first has an exit that posts the second.
+// A new station of two tasks and three blocks; the exit of the first block posts the second.
 fn open_exit(rt: &impl Abort, alloc: Global) -> (Station, Task, Task)
     ensures first { IsOf result.0 result.1 × IsAtRest result.1.log }
     ensures second { IsOf result.0 result.2 × IsAtRest result.2.log }
@@ -182,7 +182,7 @@ fn a_post_wakes_whom_its_exit_posts(rt: HostRuntime) {
 
 // ---- three threads on one block
 
-// A new station of three tasks with this budget, and a block of the first.
+// A new station of three tasks with this budget each, and one block, of the first task.
 fn open_three(rt: &impl Abort, alloc: Global, budget: u32) -> (Station, Task, Task, Task)
     ensures callers { result.0.config.callers ≡ 3 }
     ensures first { IsOf result.0 result.1 × (result.1.number ≡ 0) × IsAtRest result.1.log }
@@ -199,7 +199,7 @@ fn open_three(rt: &impl Abort, alloc: Global, budget: u32) -> (Station, Task, Ta
     (station, first, second, third)
 }
 
-// Whether a block has this word while others clear it, and post it with the code.
+// Whether this is a word that the block may have while other tasks clear it and post it with the code.
 fn is_zero_or_posted(word: u32) -> bool {
     word == 0 || word == COMPLETE | CODE
 }
@@ -212,7 +212,7 @@ enum Deed {
     Test,
 }
 
-// A test of the block: its word.
+// Tests the block, and returns its word.
 #[tactic(auto, using(mv_wait::proofs::Compose::served))]
 fn test_once(rt: &impl Abort, worker: &mut Worker<'_>) -> u32
     ensures { worker.new ≡ worker.old }
@@ -223,7 +223,7 @@ fn test_once(rt: &impl Abort, worker: &mut Worker<'_>) -> u32
     station.test_ecb(&mut worker.task, 0)
 }
 
-// Does it once.
+// Does one deed.
 fn act<R: Abort + Wait>(rt: &R, worker: &mut Worker<'_>, deed: Deed)
     ensures { worker.new ≡ worker.old }
 {
@@ -234,7 +234,7 @@ fn act<R: Abort + Wait>(rt: &R, worker: &mut Worker<'_>, deed: Deed)
     }
 }
 
-// Does it this many times.
+// Does a deed `times` times.
 fn act_often<R: Abort + Wait>(rt: &R, station: &Station, task: Task, deed: Deed, times: u32) -> Task
     requires task { IsOf station.now task }
     requires rest { IsAtRest task.log }
@@ -247,7 +247,7 @@ fn act_often<R: Abort + Wait>(rt: &R, station: &Station, task: Task, deed: Deed,
     worker.back()
 }
 
-// Posts of the block, beside tests of it by another thread.
+// Posts the block, while another thread tests it.
 fn post_beside_tests<R: Abort + Wait + Threads + Sync>(
     rt: &R,
     station: &Station,
@@ -266,7 +266,7 @@ fn post_beside_tests<R: Abort + Wait + Threads + Sync>(
     )
 }
 
-// How many events a station leaves whose three tasks are back. They are judged legal.
+// Ends a station whose three tasks are back, judges that its history is legal, and returns how many events it has.
 fn judge(
     rt: &impl Abort,
     alloc: Global,
@@ -302,7 +302,7 @@ fn one_clears_one_posts_and_one_tests(rt: HostRuntime) {
 
 // ---- a wait for many blocks
 
-// The blocks before this one.
+// The first blocks, `blocks` of them.
 fn first_blocks(rt: &impl Abort, alloc: Global, station: &Station, blocks: u32) -> Vec<u32>
     ensures { AllByRecursion (λ e. e < length station.now.config.owners) result.items }
 {
@@ -338,7 +338,7 @@ fn wait_for<R: Abort + Wait + Clock>(
     assert!(rt; waited.is_ok());
 }
 
-// Waits until all of the first blocks are complete.
+// Waits until all of the first `blocks` blocks are complete.
 fn wait_for_all<R: Abort + Wait + Clock>(
     rt: &R,
     alloc: Global,
@@ -351,14 +351,14 @@ fn wait_for_all<R: Abort + Wait + Clock>(
     wait_for(rt, station, &mut worker.task, &ecbs, &mut out);
 }
 
-// Posts each of the first blocks.
+// Posts each of the first `blocks` blocks.
 fn post_each<R: Abort + Wait>(rt: &R, worker: &mut Worker<'_>, blocks: u32) {
     for ecb in 0..blocks {
         worker.post(rt, ecb);
     }
 }
 
-// One task waits for all of so many blocks, and another posts them one by one.
+// One task waits for all of this many blocks, and another posts them one by one.
 fn wait_for_many<R: Abort + Wait + Clock + Threads + Sync>(rt: &R, alloc: Global, blocks: u32)
     requires { blocks < 2 ^ 16 }
 {
@@ -375,7 +375,7 @@ fn wait_for_many<R: Abort + Wait + Clock + Threads + Sync>(rt: &R, alloc: Global
     end(station, first, second);
 }
 
-// `bench/run` times these two: the second is to take twice as long as the first.
+// `bench/run` times these two tests: the second is expected to take twice as long as the first.
 #[test]
 fn a_wait_for_five_thousand_blocks(rt: HostRuntime) {
     wait_for_many(&rt, rt.alloc(), 5_000);
@@ -388,7 +388,7 @@ fn a_wait_for_ten_thousand_blocks(rt: HostRuntime) {
 
 // ---- many events
 
-// `bench/run` times it: 500,000 events that nobody disputes.
+// `bench/run` times this test: 500,000 events of one task, without contention.
 #[test]
 fn posts_and_waits_of_one_thread(rt: HostRuntime) {
     let (station, task, other) = open_two(&rt, rt.alloc(), 500_000, 0);
