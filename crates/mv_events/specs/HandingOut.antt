@@ -1,4 +1,4 @@
--- Why the next event is handed out, or is not.
+-- The reasons for which the next event is handed out, or is not.
 use Rattle.std.specs.Prelude.{◌≡◌, ℕ, ◌<◌, ◌≤◌, [], ◌∷◌, Some, None, Result, Ok, Err}
 use Rattle.mv_machine.specs.Setup.{Setup}
 use Rattle.mv_board.specs.Faces.{CallerFace}
@@ -13,15 +13,16 @@ use Rattle.mv_events.specs.declared.handing_out.Event.{Event}
 use Rattle.mv_events.specs.declared.handing_out.NextRefusal.{NextRefusal}
 use Rattle.mv_events.specs.declared.handing_out.NextRefusal.TheVariants as refused
 
--- the slot of this position was waited for, and has this code
+-- the task waited for the slot of this position, and found it complete with this code
 abbrev pub HasCode : Setup → Table → ℕ → ℕ → CallerFace → CallerFace → Type 0
 HasCode c t position index f g = IsServed 2 (wait c 1 (slot_block t position ∷ [])) (λ a. a ≡ Ok (Some index ∷ [])) f g
 
--- refused before any event: nothing was done
+-- the call is refused for this reason, and the task made no event
 abbrev pub IsNextRefused : Table → ℕ → CallerFace → Refusal → CallerFace → Type 0
 IsNextRefused t position f why g = (next_event_refusal t position (keeps f) ≡ Some why) × (g ≡ f)
 
--- The slot's code is the index of an event, whose block was then read; or it is none of the table's; or the call was refused before.
+-- The code of the slot is the index of an event, whose block was then read; or it is not the index of an event of the table; or
+-- the call was refused without an event.
 abbrev pub IsHandedOut : Setup → Table → ℕ → CallerFace → Result Event NextRefusal → CallerFace → Type 0
 IsHandedOut c t position f (Ok event) g =
     (next_event_refusal t position (keeps f) ≡ None) × (event.index < t.size)
