@@ -1,6 +1,6 @@
 -- lists
 pub mod Lists
--- services that a task was served with, and what they answer a call
+-- the services that a task has made, and the answers of the calls that use them
 pub mod Answers
 pub mod Served
 -- one call, by what its service did
@@ -9,7 +9,7 @@ pub mod Obtains
 -- all calls of a task
 pub mod Paths
 pub mod Steps
--- what the task's events are in the history of all
+-- the events of a task in the history of all tasks
 pub mod Histories
 -- write_answers
 pub mod Texts

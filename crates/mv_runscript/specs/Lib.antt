@@ -1,7 +1,7 @@
--- what each service's answer is as the answer of a call, and a service that a task was served with
+-- the answer of a service as that of a call, and the services that a task has made
 pub mod Answered
 pub mod Served
 -- one call, and all calls of a task
 pub mod Making
--- what each task has of its own
+-- what each task has besides its seat
 pub mod Rooms

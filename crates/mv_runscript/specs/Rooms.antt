@@ -1,4 +1,4 @@
--- What each task has of its own, and what it comes to.
+-- What each task has besides its seat, and what that is after its calls.
 use Rattle.std.specs.Prelude.{◌≡◌, ℕ, ◌≤◌, List, [], length, count_by, vec_capacity, Option}
 use Rattle.mv_board.specs.Faces.{BoardFace, CallerFace, IsFresh}
 use Rattle.mv_machine.specs.Setup.{Setup}
@@ -8,7 +8,7 @@ use Rattle.mv_script.specs.Script.{ScriptData}
 use Rattle.mv_runscript.specs.declared.room.Room.{Room}
 use Rattle.mv_runscript.specs.Making.{MakesCalls, HaveSlots, is_wait}
 
--- nothing was answered, and there is the room that these calls need
+-- the room has no answer and no request yet, and it is large enough for these calls
 pub record HasRoom (calls : List Call) (r : Room) : Type 0 where
   pub none_answered : r.answers.items ≡ []
   pub none_asked : r.requests.items ≡ []
@@ -21,7 +21,7 @@ pub record HasRoom (calls : List Call) (r : Room) : Type 0 where
 abbrev pub script_with : Setup → Option Table → List (List Call) → ScriptData
 script_with c table tasks = record { setup = c; tasks = tasks; table = table }
 
--- the task was new once, of number k, and has made these calls, and the room's answers are theirs
+-- task k, which began without an event, has made these calls, and the room has their answers and requests
 pub record HasMade (b : BoardFace) (table : Option Table) (calls : List Call) (k : ℕ) (r : Room) (t : CallerFace) : Type 0 where
   pub before : CallerFace
   pub fresh : IsFresh b k before

@@ -1,4 +1,4 @@
--- Services that a task was served with, as the answers of a script's calls show it.
+-- The services that a task has made, with the answers that the calls of a script show.
 use Rattle.std.specs.Prelude.{◌≡◌}
 use Rattle.mv_board.specs.Faces.{CallerFace}
 use Rattle.mv_calls.specs.Keeping.{kept_of}
@@ -9,6 +9,6 @@ use Rattle.mv_wait.specs.Run.{IsServed}
 use Rattle.mv_script.specs.declared.answer.Answer.{Answer}
 use Rattle.mv_script.specs.Answered.{answer_to}
 
--- the task was served with this, and a call that asks for it answers so
+-- the task has made this service, and a call that uses it has this answer
 abbrev pub Serves : Setup → Service → Answer → CallerFace → CallerFace → Type 0
 Serves c s answer t u = IsServed (most_events c (kept_of t.number t.log) s) (service.program c s) (λ a. answer_to s a ≡ answer) t u

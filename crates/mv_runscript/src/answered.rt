@@ -1,4 +1,4 @@
-//! What the services answer, as the answers of calls (`specs/Answered.antt`, and the script's `Answered.antt`).
+//! The answers of calls, made of those of the services (`specs/Answered.antt`, and `Answered.antt` of mv_script).
 
 ghost use Rattle.std.specs.Prelude.{◌≡◌, map};
 ghost use Rattle.mv_latchset.specs.Answers.{obtain_answer, standing_as, freed_answer, counts_of};
@@ -20,7 +20,7 @@ use mv_pause::{
 use mv_script::{Answer, Slots};
 use mv_wait::{ExtendRefusal, NotOwner, PostAnswer, WaitRefusal};
 
-/// A WAIT, with what its slots say.
+/// Returns the answer of a WAIT, with what its slots say.
 pub(crate) fn waited(outcome: Result<(), WaitRefusal>, slots: Slots) -> Answer
     ensures { result ≡ done_or (λ found. answer.Waited (map slot_with found)) (wait_answer outcome slots) }
 {
@@ -33,7 +33,7 @@ pub(crate) fn waited(outcome: Result<(), WaitRefusal>, slots: Slots) -> Answer
     }
 }
 
-/// A POST or a TRYPOST.
+/// Returns the answer of a POST or a TRYPOST.
 pub(crate) fn posted(outcome: PostAnswer) -> Answer
     ensures { result ≡ posted_as outcome }
 {
@@ -44,7 +44,7 @@ pub(crate) fn posted(outcome: PostAnswer) -> Answer
     }
 }
 
-/// A CLEAR.
+/// Returns the answer of a CLEAR.
 pub(crate) fn cleared(outcome: Result<u32, NotOwner>) -> Answer
     ensures { result ≡ done_or (λ word. answer.Word word) (clear_answer outcome) }
 {
@@ -54,7 +54,7 @@ pub(crate) fn cleared(outcome: Result<u32, NotOwner>) -> Answer
     }
 }
 
-/// An EXTEND.
+/// Returns the answer of an EXTEND.
 pub(crate) fn extended(outcome: Result<(), ExtendRefusal>) -> Answer
     ensures { result ≡ done_or (λ nothing. answer.Done) (extend_answer outcome) }
 {
@@ -67,7 +67,7 @@ pub(crate) fn extended(outcome: Result<(), ExtendRefusal>) -> Answer
     }
 }
 
-/// An ALLOC.
+/// Returns the answer of an ALLOC.
 pub(crate) fn allocated(outcome: Result<Token, NoElement>) -> Answer
     ensures { result ≡ done_or (λ token. answer.Token token) (allocate_answer outcome) }
 {
@@ -77,7 +77,7 @@ pub(crate) fn allocated(outcome: Result<Token, NoElement>) -> Answer
     }
 }
 
-/// A PAUSE.
+/// Returns the answer of a PAUSE.
 pub(crate) fn paused(outcome: Result<Given, PauseRefusal>) -> Answer
     ensures { result ≡ done_or given_as (pause_answer outcome) }
 {
@@ -88,7 +88,7 @@ pub(crate) fn paused(outcome: Result<Given, PauseRefusal>) -> Answer
     }
 }
 
-// What a pause was given.
+// The answer of a call that has paused.
 fn given(gift: Given) -> Answer
     ensures { result ≡ answer.Given gift.code gift.next }
 {
@@ -98,7 +98,7 @@ fn given(gift: Given) -> Answer
     }
 }
 
-/// A RELEASE.
+/// Returns the answer of a RELEASE.
 pub(crate) fn released(outcome: Result<ReleaseAnswer, ReleaseRefusal>) -> Answer
     ensures { result ≡ done_or reached (release_answer outcome) }
 {
@@ -110,7 +110,7 @@ pub(crate) fn released(outcome: Result<ReleaseAnswer, ReleaseRefusal>) -> Answer
     }
 }
 
-/// A TRANSFER.
+/// Returns the answer of a TRANSFER.
 pub(crate) fn transferred(outcome: Result<Option<Given>, TransferRefusal>) -> Answer
     ensures { result ≡ done_or given_if_paused (transfer_answer outcome) }
 {
@@ -124,7 +124,7 @@ pub(crate) fn transferred(outcome: Result<Option<Given>, TransferRefusal>) -> An
     }
 }
 
-/// A DEALLOC.
+/// Returns the answer of a DEALLOC.
 pub(crate) fn deallocated(outcome: Result<(), DeallocateRefusal>) -> Answer
     ensures { result ≡ done_or (λ nothing. answer.Done) (deallocate_answer outcome) }
 {
@@ -135,7 +135,7 @@ pub(crate) fn deallocated(outcome: Result<(), DeallocateRefusal>) -> Answer
     }
 }
 
-/// An OBTAIN. Its number is not told.
+/// Returns the answer of an OBTAIN, which does not show the request's number.
 pub(crate) fn obtained(outcome: Result<Obtained, ObtainRefusal>) -> Answer
     ensures { result ≡ done_or obtained_told (obtain_answer outcome) }
 {
@@ -150,7 +150,7 @@ pub(crate) fn obtained(outcome: Result<Obtained, ObtainRefusal>) -> Answer
     }
 }
 
-/// A CHECK.
+/// Returns the answer of a CHECK.
 pub(crate) fn standing(outcome: Standing) -> Answer
     ensures { result ≡ standing_of (standing_as outcome) }
 {
@@ -161,7 +161,7 @@ pub(crate) fn standing(outcome: Standing) -> Answer
     }
 }
 
-/// A FREE.
+/// Returns the answer of a FREE.
 pub(crate) fn freed(outcome: Result<u32, ReleaseLatchRefusal>) -> Answer
     ensures { result ≡ done_or (λ granted. answer.Released granted) (freed_answer outcome) }
 {
@@ -172,7 +172,8 @@ pub(crate) fn freed(outcome: Result<u32, ReleaseLatchRefusal>) -> Answer
     }
 }
 
-/// An EVPOST. A script's table is its calls' alone, so none is purged or finds its volume broken.
+/// Returns the answer of an EVPOST. Only EVPOST and EVNEXT change a script's table, so no EVPOST is purged or finds the volume
+/// broken.
 pub(crate) fn entered(outcome: Result<EventAnswer, PostEventRefusal>) -> Answer
     ensures { result ≡ done_or entered_as (entering_answer outcome) }
 {
@@ -184,7 +185,7 @@ pub(crate) fn entered(outcome: Result<EventAnswer, PostEventRefusal>) -> Answer
     }
 }
 
-/// An EVNEXT. No slot of a script's table has a code that is no index, so the last arm never comes.
+/// Returns the answer of an EVNEXT. Each code in a slot of a script's table is an index, so the last case does not occur.
 pub(crate) fn handed_out(outcome: Result<Event, NextRefusal>) -> Answer
     ensures { result ≡ done_or found (next_answer outcome) }
 {
@@ -196,7 +197,7 @@ pub(crate) fn handed_out(outcome: Result<Event, NextRefusal>) -> Answer
     }
 }
 
-/// A PURGE, or the end of a task.
+/// Returns the answer of a PURGE, or of the end of a task.
 pub(crate) fn purged(outcome: Purged) -> Answer
     ensures { result ≡ purged_as (counts_of outcome) }
 {

@@ -1,4 +1,4 @@
-//! One call of a script, whichever it is (`specs/Making.antt`).
+//! One call of a script, of any kind (`specs/Making.antt`).
 
 ghost use Rattle.std.specs.Prelude.{◌≡◌, ◌<◌, ◌≤◌, ◌+◌, true, length, count_by, vec_capacity, [], ◌∷◌};
 ghost use Rattle.mv_board.specs.Faces.{IsOf};
@@ -19,7 +19,7 @@ use mv_wait::{Station, Task};
 use std::sync::Wait;
 use std::time::Clock;
 
-// The request that an obtain got, if it got one.
+// The token of the request that an OBTAIN got, if it got one.
 fn request_in(outcome: Result<Obtained, ObtainRefusal>) -> Option<LatchToken>
     ensures { result ≡ token_in outcome }
 {
@@ -30,8 +30,10 @@ fn request_in(outcome: Result<Obtained, ObtainRefusal>) -> Option<LatchToken>
     }
 }
 
-/// Makes a call of a task whose OBTAINs got these requests. A WAIT takes one of the rooms; an OBTAIN appends the request that it got,
-/// or `None`, to the requests.
+/// Makes a call of a task whose OBTAINs got these requests, and returns its answer.
+///
+/// A WAIT takes one of the rooms. An OBTAIN appends the request that it got, or `None`, to `requests`. The call parks and wakes
+/// as its service does, and takes no memory.
 pub(crate) fn make<R: Wait + Clock>(
     rt: &R,
     station: &Station,

@@ -1,4 +1,4 @@
-//! Scripts that are run: each task makes its calls in order on a thread of its own, and what each call answered is kept.
+//! Runs of scripts: each task makes its calls in order on a thread, and the answer of each call is kept.
 #![tactic(auto)]
 
 mod answered;

@@ -18,7 +18,7 @@ use mv_wait::{Station, Task};
 use std::sync::Wait;
 use std::time::Clock;
 
-/// What the tasks of a script do: each makes its own calls.
+/// The work of the tasks of a script: each makes the calls of its list.
 #[derive(Drop)]
 pub(crate) struct Making<'a> {
     pub table: &'a Option<ValidTable>,
@@ -39,7 +39,7 @@ impl Work for Making<'_> {
     }
 }
 
-// Makes these calls in order, and puts down what each answers.
+// Makes these calls in order, and keeps the answer of each.
 fn make_all<R: Wait + Clock>(
     rt: &R,
     station: &Station,

@@ -1,4 +1,4 @@
-//! What each task has of its own: the room that its calls need, and what they answered. Clauses cite `specs/Rooms.antt`.
+//! What each task has besides its seat: the room that its calls need, and their answers. Clauses cite `specs/Rooms.antt`.
 
 ghost use Rattle.std.specs.Prelude.{◌≡◌, ◌<◌, ℕ, [], length, count_by, slice_index_or, IfOk};
 ghost use Rattle.mv_runscript.specs.Making.{HaveSlots, is_wait as is_wait_call};
@@ -10,17 +10,21 @@ use mv_script::{Answer, Call, CallList, MOST_WAITED, Slots};
 use mv_wait::WaitSlot;
 use std::alloc::Global;
 
-/// What a task's calls answered so far, and the room for the rest.
+/// The answers of a task's calls so far, and the room for the others.
 #[derive(Drop)]
 pub(crate) struct Room {
     pub answers: Vec<Answer>,
-    /// For each OBTAIN, the request that it got, if it got one.
+    /// For each OBTAIN the request that it got, or `None`.
     pub requests: Vec<Option<LatchToken>>,
-    /// For each WAIT to come, its slots.
+    /// The slots for each WAIT that is still to come.
     pub slots: Vec<Slots>,
 }
 
-/// The room of each task.
+/// Makes the room of each task.
+///
+/// # Errors
+///
+/// `NoMemory` if memory runs out.
 pub(crate) fn rooms_for(alloc: Global, tasks: &[CallList]) -> Result<Vec<Room>, NoMemory>
     ensures count { IfOk result (λ rooms. length rooms.items ≡ length tasks.now) }
     ensures room { IfOk result (λ rooms. (k : ℕ) (d : _) → k < length rooms.items
@@ -33,7 +37,7 @@ pub(crate) fn rooms_for(alloc: Global, tasks: &[CallList]) -> Result<Vec<Room>, 
     Ok(rooms)
 }
 
-// The room that these calls need.
+// Makes the room that these calls need.
 fn room_for(alloc: Global, calls: &[Call]) -> Result<Room, NoMemory>
     ensures { IfOk result (λ room. HasRoom calls.now room) }
 {
@@ -44,7 +48,7 @@ fn room_for(alloc: Global, calls: &[Call]) -> Result<Room, NoMemory>
     })
 }
 
-// Slots for each of so many WAITs.
+// Makes the slots for this many WAITs.
 fn slots_for(alloc: Global, waits: usize) -> Result<Vec<Slots>, NoMemory>
     ensures count { IfOk result (λ rooms. length rooms.items ≡ waits) }
     ensures slots { IfOk result (λ rooms. HaveSlots rooms.items) }

@@ -1,4 +1,4 @@
-//! The run of a script. Clauses cite the script's `Run.antt`, the machine's `Orderly.antt`, and `specs/Rooms.antt`.
+//! The run of a script. Clauses cite `Run.antt` of mv_script, `Orderly.antt` of mv_machine, and `specs/Rooms.antt`.
 
 ghost use Rattle.std.specs.Prelude.{◌≡◌, ◌≤◌, [], All, length, map, vec_capacity, IfOk, OnOk};
 ghost use Rattle.mv_machine.specs.Check.{IsValid};
@@ -23,21 +23,23 @@ use std::sync::Wait;
 use std::thread::Threads;
 use std::time::Clock;
 
-/// What a script came to: the history of its tasks' events, and what each of their calls answered.
+/// What a run of a script leaves: the history of its tasks' events, and the answer of each of their calls.
 #[derive(Drop)]
 pub struct ScriptRun {
     /// All events, in an order in which they may have happened, with the configuration of the script.
     pub history: History,
-    /// One list for each task, with one answer for each of its calls.
+    /// For each task a list with the answer of each of its calls.
     pub answers: Vec<AnswerList>,
 }
 
-/// Runs a script, each of its tasks on a thread of its own, and answers what it came to. All memory that the tasks use is taken
-/// before the first of them starts. It may never return: nothing promises that another task ends a wait.
+/// Runs a script, each of its tasks on a thread, and returns the history and the answers.
+///
+/// All memory that the tasks use is taken before the first of them starts. The call may never return: nothing promises that
+/// another task ends a wait.
 ///
 /// # Errors
 ///
-/// `NoMemory` where there is not enough, before the tasks start.
+/// `NoMemory` if memory runs out, before any task starts.
 pub fn run_script<R: Threads + Wait + Clock + Sync>(
     rt: &R,
     alloc: Global,
@@ -51,7 +53,7 @@ pub fn run_script<R: Threads + Wait + Clock + Sync>(
     ensures orderly { IfOk result (λ run. IsOrderly script.now.config run.history.coming) }
     ensures answers { IfOk result (λ run. run.answers.items
         ≡ script_answers (script_data script.now) (moves_in run.answers.items) run.history.coming) }
-    // Where the script has a table, its events are handed out once each, in the order of their completion.
+    // If the script has a table, its events are handed out once each, in the order of their completion.
     ensures events { IfOk result (λ run. EventsAreHandedOut (script_data script.now) run.answers.items run.history.coming) }
     ensures few { IfOk result (λ run. length run.history.coming ≤ events_limit) }
     ensures places { IfOk result (λ run. All (λ e. e.place ≤ highest_place) run.history.coming) }
@@ -93,7 +95,7 @@ fn run_station<R: Threads + Wait + Clock + Sync>(
     })
 }
 
-// The answers of each task.
+// The answers of each task, put into `room`.
 fn lists_of(rooms: Vec<Room>, room: Vec<AnswerList>) -> Vec<AnswerList>
     requires { (room.items ≡ []) × (length rooms.items ≤ vec_capacity room) }
     ensures { result.items ≡ map (λ room. room.answers.items) rooms.items }

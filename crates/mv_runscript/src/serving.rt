@@ -1,5 +1,5 @@
-//! Calls that leave the requests of the task as they are: each is a service, and answers as it does (`specs/Making.antt`,
-//! `specs/Served.antt`).
+//! The calls that leave the requests of the task unchanged: each makes one service, and has that service's answer
+//! (`specs/Making.antt`, `specs/Served.antt`).
 
 ghost use Rattle.std.specs.Prelude.{◌≡◌, ◌<◌, ◌≤◌, ◌+◌, ◌*◌, false, length, Option};
 ghost use Rattle.std.specs.List.{AllByRecursion};
@@ -35,7 +35,7 @@ use mv_wait::{Station, Task};
 use std::sync::Wait;
 use std::time::Clock;
 
-/// WAIT, with room for what is found.
+/// Makes a WAIT, with room for what it finds, and returns its answer.
 pub(crate) fn wait_in<R: Wait + Clock>(
     rt: &R,
     station: &Station,
@@ -57,7 +57,7 @@ pub(crate) fn wait_in<R: Wait + Clock>(
     waited(outcome, Slots { slots })
 }
 
-/// Makes a call that is neither a WAIT nor an OBTAIN, where the task's OBTAINs got these requests.
+/// Makes a call other than WAIT and OBTAIN, of a task whose OBTAINs got these requests, and returns its answer.
 pub(crate) fn serve<R: Wait + Clock>(
     rt: &R,
     station: &Station,
@@ -118,7 +118,7 @@ pub(crate) fn serve<R: Wait + Clock>(
     }
 }
 
-/// EVPOST of an event of the script's table.
+/// Makes an EVPOST of an event of the script's table.
 fn event_posted<R: Wait + Clock>(
     rt: &R,
     station: &Station,
@@ -141,7 +141,7 @@ fn event_posted<R: Wait + Clock>(
     }
 }
 
-/// EVNEXT of a position of the script's table.
+/// Makes an EVNEXT of a position of the script's table.
 fn event_taken<R: Wait + Clock>(
     rt: &R,
     station: &Station,
@@ -162,7 +162,7 @@ fn event_taken<R: Wait + Clock>(
     }
 }
 
-/// CHECK of the request that this OBTAIN of the task got, if it got one.
+/// Makes a CHECK of the request that this OBTAIN of the task got, if it got one.
 fn check<R: Wait>(
     rt: &R,
     station: &Station,
@@ -185,7 +185,7 @@ fn check<R: Wait>(
     }
 }
 
-/// FREE of the request that this OBTAIN of the task got, if it got one.
+/// Makes a FREE of the request that this OBTAIN of the task got, if it got one.
 fn free<R: Wait>(
     rt: &R,
     station: &Station,

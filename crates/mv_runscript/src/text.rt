@@ -1,4 +1,4 @@
-//! The text of a run's answers. The script's `AnswerText.antt` says which bytes that is, and which answers they tell apart.
+//! The text of a run's answers. `AnswerText.antt` of mv_script defines its bytes, and says for which answers it is unique.
 
 ghost use Rattle.std.specs.Prelude.{◌≡◌, ◌++◌, All, codes, decimal, flat_map, length, OnOk, IfOk};
 ghost use Rattle.mv_script.specs.declared.answer.Answer.TheVariants as answer;
@@ -39,7 +39,7 @@ fn push_token(out: &mut Vec<u8>, words: &[u8], token: Token) -> Result<(), NoMem
     push_number(out, b".", u64::from(token.generation))
 }
 
-// Appends how each block of a wait was found.
+// Appends what a WAIT found of each of its blocks.
 fn push_slots(out: &mut Vec<u8>, slots: &[WaitSlot]) -> Result<(), NoMemory>
     ensures text { OnOk result (out.new.items ≡ out.old.items ++ flat_map slot_text slots.now) }
     ensures in_range { OnOk result (All IsSlotInRange slots.now) }
@@ -145,7 +145,7 @@ fn push_answer(out: &mut Vec<u8>, answer: &Answer) -> Result<(), NoMemory>
     }
 }
 
-// Appends the line of a call's answer: the task's number, the call's, and the answer.
+// Appends the line of a call's answer: the number of the task, that of the call, and the answer.
 fn push_line(out: &mut Vec<u8>, task: u64, call: u64, answer: &Answer) -> Result<(), NoMemory>
     ensures text { OnOk result (out.new.items ≡ out.old.items ++ answer_line task call answer.now) }
     ensures in_range { OnOk result (IsInRange answer.now) }
@@ -168,14 +168,14 @@ fn push_task(out: &mut Vec<u8>, task: u64, answers: &[Answer]) -> Result<(), NoM
     Ok(())
 }
 
-/// The text of a run's answers, a line for each call, of all tasks in order.
+/// Returns the text of a run's answers: a line for each call, of all tasks in order. It takes memory for the text.
 ///
 /// # Errors
 ///
-/// `NoMemory` where there is not enough.
+/// `NoMemory` if memory runs out.
 pub fn write_answers(alloc: Global, run: &ScriptRun) -> Result<Vec<u8>, NoMemory>
     ensures text { IfOk result (λ bytes. bytes.items ≡ answers_text run.now.answers.items) }
-    // So the text determines them.
+    // With these ranges the text determines the answers.
     ensures in_range { OnOk result (AreInRange run.now.answers.items) }
 {
     let mut out = Vec::new(alloc);

@@ -1,4 +1,4 @@
-//! Tries: a post and a release by one exchange, where the object's word is the one that is expected (`specs/Making.antt`).
+//! Tries: a post and a release by one exchange, which succeeds if the object has the expected word (`specs/Making.antt`).
 
 ghost use Rattle.std.specs.Prelude.{◌≡◌, ◌<◌, ◌≤◌, length, List, Option};
 ghost use Rattle.mv_ecb.specs.Table.{code_limit};
@@ -22,7 +22,7 @@ use mv_pause::{ReleaseAnswer, TryReleaseRefusal, try_release};
 use mv_script::Answer;
 use mv_wait::{Station, Task};
 
-/// TRYPOST: the block is to be zero, and to have had so many events.
+/// Makes a TRYPOST: it posts the block if that is zero and has had `place` events.
 pub(crate) fn try_post(
     station: &Station,
     task: &mut Task,
@@ -47,8 +47,8 @@ pub(crate) fn try_post(
     }
 }
 
-/// TRYRELEASE: the element is to be allocated with the token's generation, neither paused nor released, and to have had so many
-/// events.
+/// Makes a TRYRELEASE: it releases the token if its element is allocated with the token's generation, is neither paused nor
+/// released, and has had `place` events.
 pub(crate) fn try_release_token(
     station: &Station,
     task: &mut Task,
@@ -77,7 +77,7 @@ pub(crate) fn try_release_token(
     }
 }
 
-// The word of a block that is zero and has had so many events.
+// The word of a block that is zero and has had `place` events.
 fn zero_at(place: u32) -> u64
     requires { place ≤ highest_place }
     ensures { result ≡ expected.zero_at place }
@@ -85,7 +85,7 @@ fn zero_at(place: u32) -> u64
     pack(place, WordState::Ecb(EcbWord::zero()))
 }
 
-// The word of an element that is allocated with this generation, neither paused nor released, and has had so many events.
+// The word of an element that is allocated with this generation, is neither paused nor released, and has had `place` events.
 fn reset_at(generation: u32, place: u32) -> u64
     requires generation { generation < highest_generation }
     requires place { place ≤ highest_place }
