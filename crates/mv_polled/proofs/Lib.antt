@@ -1,8 +1,8 @@
 -- what holds at a stage of a call
 pub mod Stages
--- looks at the blocks that a wait is for, and what a poll found
+-- looks at the blocks of a wait, and what a poll found
 pub mod Looks
--- waits between two polls, and what was armed
+-- waits between two polls, and their arms
 pub mod Arms
 pub mod Waits
 -- pauses between two polls
@@ -11,11 +11,11 @@ pub mod Pauses
 pub mod Obtains
 -- registering with sources
 pub mod Listening
--- the wakers that are left there, and those that a ring takes
+-- the wakers that are left with sources, and those that a ring takes
 pub mod Wakers
--- the spool that is polled: the call of a need, from its first poll to its answer
+-- the polled spool: the call for a need, from its first poll to its answer
 pub mod Calls
--- a task that is polled, from one state to the next
+-- a polled task, from one state to the next
 pub mod Polling
 -- from tasks that are all finished to the run that they made
 pub mod Running

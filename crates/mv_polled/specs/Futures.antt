@@ -1,4 +1,4 @@
--- Futures of calls that are polled: what they ask, wait for and give.
+-- The futures of polled calls: what a poll requires, for which sources they wait, and which answers they may give.
 use Rattle.std.specs.Prelude.{◌≡◌, ℕ, ◌⊎◌, false, List, ◌∷◌, length, Result}
 use Rattle.futures.specs.declared.task.source.Source.{Source}
 use Rattle.futures.specs.declared.task.Poll.{Poll}
@@ -13,12 +13,12 @@ use Rattle.mv_wait.specs.declared.waiting.WaitRefusal.{WaitRefusal}
 use Rattle.mv_polled.specs.Pausing.{PauseFace, IsPauseAt, IsPaused}
 use Rattle.mv_polled.specs.Waiting.{WaitFace, IsWaitAt, IsWaited}
 
--- what holds of an answer of a future, and what holds where there is none yet
+-- P holds of the answer of a poll of a future, or Q holds if there is no answer yet
 abbrev pub MatchPoll : {A : Type 0} → Poll A → (A → Type 0) → Type 0 → Type 0
 MatchPoll (Ready a) P Q = P a
 MatchPoll Pending P Q = Q
 
--- a wait may be polled by its future, which has a source for each block
+-- a wait may be polled by its future, which has a source for each of its blocks
 pub record MayPollWait (b : BoardFace) (t : CallerFace) (w : WaitFace) (sources : List Source) : Type 0 where
   pub task : IsOf b t
   pub stage : (t0 : CallerFace) × IsWaitAt b.config w t0 t
@@ -29,18 +29,19 @@ abbrev pub NeedsBlock : List Watch → List ℕ → List Source → ℕ → Type
 NeedsBlock ready (e ∷ es) (x ∷ xs) s = ((is_listed ready e ≡ false) × (s ≡ x.id)) ⊎ NeedsBlock ready es xs s
 NeedsBlock ready es xs s = ⊥
 
--- An answer that the wait may have from where it stands: some run of it, which need not be this task's, ends with it. Which entries this
--- task has made, and that the answer is the program's on these, is said by IsWaited of the new call and of the new task.
+-- An answer that the wait may have from its present stage: some continuation of it, which need not be this task's, ends with this
+-- answer. That this task made the events of the wait's program, with this answer, is what IsWaited of the new call and the new
+-- task says.
 abbrev pub GivesWait : Setup → CallerFace → WaitFace → Result (Unit {0}) WaitRefusal → Type 0
 GivesWait c t w r = (t0 : CallerFace) → IsWaitAt c w t0 t
     → (v : WaitFace) × (u : CallerFace) × (v.count ≡ w.count) × (v.ecbs ≡ w.ecbs) × IsWaited c v r t0 u
 
--- the same of a pause
+-- a pause may be polled by its future
 pub record MayPollPause (b : BoardFace) (t : CallerFace) (p : PauseFace) : Type 0 where
   pub task : IsOf b t
   pub stage : (t0 : CallerFace) × IsPauseAt b.config p t0 t
 
--- and an answer that it may have from where it stands
+-- an answer that the pause may have from its present stage, by some continuation of it
 abbrev pub GivesPause : Setup → CallerFace → PauseFace → Result Given PauseRefusal → Type 0
 GivesPause c t p r = (t0 : CallerFace) → IsPauseAt c p t0 t
     → (q : PauseFace) × (u : CallerFace) × (q.token ≡ p.token) × IsPaused c q r t0 u

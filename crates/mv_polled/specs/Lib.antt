@@ -7,7 +7,7 @@ pub mod Pausing
 pub mod Obtaining
 pub mod Futures
 pub mod WaitCall
--- the call of what a task waits for
+-- the polled call of what a task waits for
 pub mod Meeting
--- a task, and all of them
+-- a polled task, and all of them
 pub mod Polled

@@ -1,4 +1,4 @@
--- The call of what a task waits for, polled. The task was u before the first poll, and is v.
+-- The polled call of what a task waits for. Here u is the task before the call's first poll, and v the task now.
 use Rattle.std.specs.Prelude.{◌≡◌, ℕ, ◌≤◌, [], ◌∷◌, length, take}
 use Rattle.mv_board.specs.Faces.{CallerFace}
 use Rattle.mv_element.specs.declared.element.Token.{Token}
@@ -15,18 +15,18 @@ use Rattle.mv_work.specs.declared.need.Need.{Need}
 use Rattle.mv_work.specs.declared.need.Need.TheVariants as need
 use Rattle.mv_work.specs.Needs.{most_blocks}
 
--- there is room for a wait for as many blocks as a task waits for
+-- the meeting has room for a wait for as many blocks as a task may wait for
 abbrev pub HasRoom : Meeting → Type 0
 HasRoom m = m.wait.room ≡ most_blocks
 
--- no more blocks are needed than a task waits for
+-- the need is for no more blocks than a task may wait for
 abbrev pub IsNeed : Need → Type 0
 IsNeed (need.Blocks b) = (b.len ≤ most_blocks) × (length b.of ≡ most_blocks)
 IsNeed (need.Block e) = Unit {0}
 IsNeed (need.Pause token) = Unit {0}
 IsNeed (need.Latch latch requestor mode) = Unit {0}
 
--- the call of the need was taken up, and not polled yet
+-- the call for this need was taken up, and was not polled yet
 abbrev pub IsTaken : Need → Call → WaitFace → Type 0
 IsTaken (need.Blocks b) call.Wait w = w ≡ new_wait most_blocks b.count (take b.len b.of)
 IsTaken (need.Block e) call.Block w = w ≡ new_wait most_blocks 1 (e ∷ [])
@@ -34,29 +34,29 @@ IsTaken (need.Pause token) (call.Pause p) w = p ≡ new_pause token
 IsTaken (need.Latch latch requestor mode) (call.Obtain q) w = q ≡ new_obtain latch requestor mode
 IsTaken n c w = ⊥
 
--- the same of a meeting
+-- the meeting has taken up the call for this need, and has not polled it yet
 abbrev pub IsTakenUp : Need → Meeting → Type 0
 IsTakenUp n m = IsTaken n m.call m.wait
 
--- a wait for these blocks may be polled
+-- the call is a wait for these blocks, and may be polled
 abbrev pub IsWaitFor : Setup → Blocks → WaitFace → CallerFace → CallerFace → Type 0
 IsWaitFor c b w u v =
     (w.count ≡ b.count) × (w.ecbs ≡ take b.len b.of) × (b.len ≤ most_blocks) × (length b.of ≡ most_blocks) × IsWaitAt c w u v
 
--- and one for this block
+-- the call is a wait for this block, and may be polled
 abbrev pub IsBlockFor : Setup → ℕ → WaitFace → CallerFace → CallerFace → Type 0
 IsBlockFor c e w u v = (w.count ≡ 1) × (w.ecbs ≡ e ∷ []) × IsWaitAt c w u v
 
--- a pause with this token
+-- the call is a pause with this token, and may be polled
 abbrev pub IsPauseFor : Setup → Token → PauseFace → CallerFace → CallerFace → Type 0
 IsPauseFor c token p u v = (p.token ≡ token) × IsPauseAt c p u v
 
--- an obtain of this latch
+-- the call is an obtain of this latch, and may be polled
 abbrev pub IsObtainFor : Setup → ℕ → ℕ → Mode → ObtainFace → CallerFace → CallerFace → Type 0
 IsObtainFor c latch requestor mode q u v =
     (q.latch ≡ latch) × (q.requestor ≡ requestor) × (q.mode ≡ mode) × IsObtainAt c q u v
 
--- the call of the need may be polled
+-- the call is the one for this need, and may be polled
 abbrev pub IsCallOf : Setup → Need → Call → WaitFace → CallerFace → CallerFace → Type 0
 IsCallOf c (need.Blocks b) call.Wait w u v = IsWaitFor c b w u v
 IsCallOf c (need.Block e) call.Block w u v = IsBlockFor c e w u v
@@ -64,6 +64,6 @@ IsCallOf c (need.Pause token) (call.Pause p) w u v = IsPauseFor c token p u v
 IsCallOf c (need.Latch latch requestor mode) (call.Obtain q) w u v = IsObtainFor c latch requestor mode q u v
 IsCallOf c n k w u v = ⊥
 
--- the same of a meeting
+-- the meeting has the call for this need, which may be polled
 abbrev pub IsMeeting : Setup → Need → Meeting → CallerFace → CallerFace → Type 0
 IsMeeting c n m u v = IsCallOf c n m.call m.wait u v

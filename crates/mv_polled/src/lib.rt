@@ -1,4 +1,4 @@
-//! Waits, pauses and obtains that are polled and never park, and the spool whose tasks are polled so, on one thread.
+//! Waits, pauses and obtains that are polled and never park, and a spool on one thread whose tasks are polled.
 #![tactic(auto)]
 
 mod keys;

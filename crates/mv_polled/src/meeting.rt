@@ -1,4 +1,4 @@
-//! The call of what a task waits for, polled. Clauses cite `specs/Meeting.antt`.
+//! The polled call of what a task waits for. Clauses cite `specs/Meeting.antt`.
 
 ghost use Rattle.std.specs.Prelude.{◌≡◌, ◌≤◌, ℕ, length, IfOk};
 ghost use Rattle.mv_board.specs.Faces.{CallerFace, IsOf, IsSame};
@@ -23,19 +23,19 @@ use mv_work::{Got, Lost, MOST_BLOCKS, Need, slots_in};
 use std::alloc::Global;
 use std::sync::Wait;
 
-/// Which call is polled.
+/// The call that is polled.
 #[derive(Drop)]
 pub(crate) enum Call {
     Nothing,
-    /// The wait that the meeting has room for.
+    /// A wait for several blocks, in the room of the meeting.
     Wait,
-    /// The same for one block.
+    /// A wait for one block, in the room of the meeting.
     Block,
     Pause(PauseCall),
     Obtain(ObtainCall),
 }
 
-/// The call of what a task waits for, with the room of each wait that it may need.
+/// The call of what a task waits for, with the room of each wait that the task may need.
 #[derive(Drop)]
 pub(crate) struct Meeting {
     pub wait: WaitCall,
@@ -43,7 +43,11 @@ pub(crate) struct Meeting {
 }
 
 impl Meeting {
-    /// A meeting of nothing, with all memory that later ones use.
+    /// Makes a meeting without a call, and takes all memory that its later calls use.
+    ///
+    /// # Errors
+    ///
+    /// `NoMemory` if memory runs out.
     pub(crate) fn new(alloc: Global) -> Result<Meeting, NoMemory>
         ensures { IfOk result HasRoom }
     {
@@ -53,7 +57,7 @@ impl Meeting {
         })
     }
 
-    /// Takes up the call of this need, which is not polled yet.
+    /// Takes up the call for this need, without a poll. It takes no memory.
     pub(crate) fn take_up(&mut self, need: Need)
         requires room { HasRoom self.old }
         requires need { IsNeed need }
@@ -76,7 +80,8 @@ impl Meeting {
         }
     }
 
-    /// Polls the call, and returns its answer once it has one, or that the task is lost.
+    /// Polls the call. Returns its answer once it has one, or `Lost` if the call was refused or has an answer that the task does
+    /// not foresee.
     pub(crate) fn poll<R: Wait>(
         &mut self,
         rt: &R,
@@ -101,7 +106,7 @@ impl Meeting {
     }
 }
 
-// Polls a wait for blocks.
+// Polls a wait for several blocks.
 fn await_blocks<R: Wait>(
     rt: &R,
     station: &Station,

@@ -1,4 +1,4 @@
-//! A task that is polled. Clauses cite `specs/Polled.antt`.
+//! A polled task. Clauses cite `specs/Polled.antt`.
 
 ghost use Rattle.std.specs.Prelude.{◌≡◌, ◌<◌, ◌≤◌, ◌+◌, ℕ, IfSome, IfOk};
 ghost use Rattle.mv_deck.specs.Deck.{deck_data};
@@ -18,18 +18,18 @@ use mv_work::{Lost, Need, Spool, SpoolWork};
 use std::alloc::Global;
 use std::sync::Wait;
 
-/// How far a task has come.
+/// The state of a polled task.
 #[derive(Clone, Copy)]
 pub(crate) enum State {
-    /// It was not polled.
+    /// The task was not polled.
     New,
-    /// It waits in a call.
+    /// The task waits in a call.
     Waits,
-    /// It makes no more events.
+    /// The task makes no more events.
     Finished,
 }
 
-/// A task that is polled, with its work and the call that it waits in.
+/// A polled task, with its work and the call in which it waits.
 #[derive(Drop)]
 pub(crate) struct Polled {
     pub task: Task,
@@ -39,7 +39,11 @@ pub(crate) struct Polled {
 }
 
 impl Polled {
-    /// A task that was not polled, with all memory that its polls use.
+    /// Makes a task that was not polled, and takes all memory that its polls use.
+    ///
+    /// # Errors
+    ///
+    /// `NoMemory` if memory runs out. The task is dropped then.
     pub(crate) fn new(
         alloc: Global,
         task: Task,
@@ -60,14 +64,15 @@ impl Polled {
         })
     }
 
-    /// Whether the task makes no more events.
+    /// Returns whether the task makes no more events.
     pub(crate) fn is_finished(&self) -> bool
         ensures { result ≡ is_finished self.now }
     {
         matches!(self.state, State::Finished)
     }
 
-    /// Goes on with the task as far as it can: until it waits for what is not so, or is finished. It takes no memory.
+    /// Advances the task as far as it can: until it waits for something that has not happened, or is finished. It takes no
+    /// memory.
     pub(crate) fn poll<R: Wait>(&mut self, rt: &R, spool: &Spool<'_, OpenGate>)
         requires spool { IsSpool spool.now }
         requires polled { (k : ℕ) × (k < spool.now.initiators + 3) × IsPolled spool.now k self.old }
@@ -99,7 +104,8 @@ impl Polled {
         self.take_up(next);
     }
 
-    // Polls the call that the task waits in. If it has an answer, resumes the task up to its next wait. Returns whether it had one.
+    // Polls the call in which the task waits. If it has an answer, resumes the task up to its next wait. Returns whether it had
+    // one.
     fn advance<R: Wait>(&mut self, rt: &R, spool: &Spool<'_, OpenGate>) -> bool
         requires spool { IsSpool spool.now }
         requires polled { (k : ℕ) × (k < spool.now.initiators + 3) × IsPolled spool.now k self.old }

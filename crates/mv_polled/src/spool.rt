@@ -1,4 +1,4 @@
-//! The polled run of a deck. Clauses cite the plan's `SpoolRun.antt`, the report's `Outcome.antt` and `specs/Polled.antt`.
+//! The polled run of a deck. Clauses cite `SpoolRun.antt` of mv_plan, `Outcome.antt` of mv_report, and `specs/Polled.antt`.
 
 ghost use Rattle.std.specs.Prelude.{◌≡◌, ◌<◌, ◌≤◌, ◌+◌, false, [], All, length, map, take, slice_index_or, vec_capacity, IfOk};
 ghost use Rattle.std.specs.List.{AllByRecursion};
@@ -29,7 +29,7 @@ use mv_work::{InitiatorRecord, RunResults, Spool, SpoolRun, SpoolWork, results_o
 use std::alloc::Global;
 use std::sync::Wait;
 
-// The tasks, none of which was polled.
+// Makes a polled task of each of these tasks, none of which was polled.
 fn all_polled(
     alloc: Global,
     tasks: Vec<Task>,
@@ -47,7 +47,7 @@ fn all_polled(
     Ok(polled)
 }
 
-// Room for what leaves the tasks, once they are finished, and for what their works noted.
+// Room for the tasks and their works once all are finished, and for what the initiators noted.
 #[derive(Drop)]
 struct Room {
     tasks: Vec<Task>,
@@ -55,7 +55,7 @@ struct Room {
     records: Vec<InitiatorRecord>,
 }
 
-// Room for so many tasks.
+// Makes room for this many tasks.
 fn room_for(alloc: Global, count: usize) -> Result<Room, NoMemory>
     ensures tasks { IfOk result (λ room. (room.tasks.items ≡ []) × (count ≤ vec_capacity room.tasks)) }
     ensures works { IfOk result (λ room. (room.works.items ≡ []) × (count ≤ vec_capacity room.works)) }
@@ -68,7 +68,7 @@ fn room_for(alloc: Global, count: usize) -> Result<Room, NoMemory>
     })
 }
 
-// The tasks and their works, each by itself, and the room for what these noted.
+// Splits the polled tasks into tasks and works, and returns also the room for what the initiators noted.
 fn parted(polled: Vec<Polled>, room: Room) -> (Vec<Task>, Vec<SpoolWork>, Vec<InitiatorRecord>)
     requires tasks { (room.tasks.items ≡ []) × (length polled.items ≤ vec_capacity room.tasks) }
     requires works { (room.works.items ≡ []) × (length polled.items ≤ vec_capacity room.works) }
@@ -103,7 +103,7 @@ fn count_unfinished(polled: &[Polled]) -> u32
     count
 }
 
-// Where the unfinished task of this number stands, from 0.
+// The position of the unfinished task of this number, counted from 0.
 fn place_of(polled: &[Polled], number: u32) -> usize
     requires some { number < length (unfinished polled.now) }
     ensures place { result < length polled.now }
@@ -122,7 +122,7 @@ fn place_of(polled: &[Polled], number: u32) -> usize
     unreachable!()
 }
 
-// Polls the unfinished task of this number, and no other.
+// Polls the unfinished task of this number, counted from 0, and no other.
 fn poll_picked<R: Wait>(rt: &R, spool: &Spool<'_, OpenGate>, number: u32, tasks: &mut [Polled])
     requires spool { IsSpool spool.now }
     requires some { number < length (unfinished tasks.old) }
@@ -161,7 +161,7 @@ fn poll_all<R: Wait, O: Order>(
     tasks
 }
 
-// Polls the tasks of a station until all are finished, and closes it.
+// Polls the tasks of a station until all are finished, and closes the station.
 fn run_all<R: Wait, O: Order>(
     rt: &R,
     station: Station,
@@ -209,16 +209,17 @@ fn run_tasks<R: Wait, O: Order>(
     Ok(run_all(rt, station, deck, initiators, order, polled, room))
 }
 
-/// Runs a deck by a reader, a scheduler, so many initiators and a writer on this one thread, and answers what it came to. Again
-/// and again the one of the unfinished tasks that the order picks is polled: it goes on until it waits for what is not so, or is
-/// finished. All memory that the polls use is taken before the first. The deck is one that `read_deck` gave for as many initiators,
-/// 1 to 8.
+/// Runs a deck by a reader, a scheduler, `initiators` initiators and a writer on this one thread, and returns the results.
 ///
-/// It returns when all tasks have ended. Nothing says that they do: an order that never picks some task may keep it from that.
+/// Repeatedly the order picks one of the unfinished tasks, which is then polled: it advances until it waits for something that
+/// has not happened, or is finished. All memory that the polls use is taken before the first poll. The deck must be one that
+/// `read_deck` returned for as many initiators, 1 to 8.
+///
+/// The call returns when all tasks have ended. Nothing promises that they do: an order that never picks some task may prevent it.
 ///
 /// # Errors
 ///
-/// `NoMemory` where there is not enough, before the first poll or after the last.
+/// `NoMemory` if memory runs out, before the first poll or after the last.
 pub fn run_polled<R: Wait, O: Order>(
     rt: &R,
     alloc: Global,

@@ -1,4 +1,4 @@
-//! Waits that are polled. Clauses cite `specs/Waiting.antt`.
+//! Polled waits. Clauses cite `specs/Waiting.antt`.
 
 ghost use Rattle.std.specs.Prelude.{◌≡◌, ℕ, false, ◌<◌, ◌≤◌, [], ◌∷◌, ◌++◌, if◌then◌else◌, map, length, vec_capacity, vec_len};
 ghost use Rattle.std.specs.Prelude.{IfOk, IsSome, ◌⊎◌, ⊤};
@@ -26,19 +26,19 @@ use std::alloc::Global;
 use std::marker::Model;
 use std::sync::Wait;
 
-/// A wait until at least `count` of some blocks are complete, as `Station::wait` makes it, that is polled.
+/// A polled wait until at least `count` of some blocks are complete, as `Station::wait` makes it.
 #[derive(Drop)]
 pub struct WaitCall {
-    // How many blocks there is room for.
+    // The number of blocks for which there is room.
     room: usize,
     count: u32,
     ecbs: Vec<u32>,
     stage: Stage,
-    // The keys of the blocks that the last poll found not to be complete.
+    // The keys of the blocks that the last poll found not complete.
     keys: Vec<u64>,
-    // A slot for each block, which is shown once the wait is done.
+    // A slot for each block, which contracts see once the wait is over.
     found: Vec<WaitSlot>,
-    // Where a future leaves a waker for each block.
+    // A place for each block, where a future leaves a waker.
     wakers: Vec<Option<Waker>>,
 }
 
@@ -54,11 +54,11 @@ impl Model for WaitCall {
 }
 
 impl WaitCall {
-    /// A wait that was not polled. It takes all memory that its polls use.
+    /// Makes a wait that was not polled, and takes all memory that its polls use.
     ///
     /// # Errors
     ///
-    /// `NoMemory` where there is not enough.
+    /// `NoMemory` if memory runs out.
     pub fn new(alloc: Global, count: u32, ecbs: &[u32]) -> Result<WaitCall, NoMemory>
         ensures { IfOk result (λ call. call ≡ new_wait (length ecbs.now) count ecbs.now) }
     {
@@ -67,11 +67,11 @@ impl WaitCall {
         Ok(call)
     }
 
-    /// A wait for no block, with room for so many.
+    /// Makes a wait for no block, with room for `room` blocks.
     ///
     /// # Errors
     ///
-    /// `NoMemory` where there is not enough.
+    /// `NoMemory` if memory runs out.
     pub fn with_room(alloc: Global, room: usize) -> Result<WaitCall, NoMemory>
         ensures { IfOk result (λ call. call ≡ new_wait room 0 []) }
     {
@@ -86,7 +86,7 @@ impl WaitCall {
         })
     }
 
-    /// A new wait in the room of this one, whatever became of this. It takes no memory.
+    /// Makes a new wait in the room of this one, whatever its stage is. It takes no memory.
     pub fn renew(&mut self, count: u32, ecbs: &[u32])
         requires { length ecbs.now ≤ self.old.room }
         ensures { self.new ≡ new_wait self.old.room count ecbs.now }
@@ -99,11 +99,17 @@ impl WaitCall {
         put_places(&mut self.wakers, ecbs);
     }
 
-    /// Goes on with the wait as far as it can: it arms each block at its first poll, and settles each once enough are complete. It
-    /// makes events and loads, and never parks.
+    /// Advances the wait as far as it can: arms each block at the first poll, and settles each once enough are complete.
     ///
-    /// The first poll needs what `Station::wait` needs of the task: that it is at rest, and two events a block. A later one needs
-    /// the same task, whose log is as the last poll left it. After an answer the task is at rest, and the call is not polled again.
+    /// The call makes events and loads, and never parks.
+    ///
+    /// The first poll requires of the task what `Station::wait` does: that it is at rest, and that two events a block are left. A
+    /// later poll requires the same task, with its log as the last poll left it. After an answer the task is at rest, and the
+    /// call must not be polled again.
+    ///
+    /// # Errors
+    ///
+    /// An answer is an error in the cases in which `Station::wait` returns that error.
     pub fn poll<R: Wait>(
         &mut self,
         station: &Station,
@@ -133,7 +139,7 @@ impl WaitCall {
         }
     }
 
-    // A wait that its first poll refused.
+    // Ends a wait that its first poll refused.
     fn refuse(&mut self)
         ensures { self.new ≡ record self.old { stage = Over; keys = []; slots = [] } }
     {
@@ -170,15 +176,15 @@ impl WaitCall {
         Turn::Ready(Ok(()))
     }
 
-    /// The keys of the blocks that the last poll found not to be complete, in the order of the list. Before the first poll and after
-    /// an answer there are none.
+    /// Returns the keys of the blocks that the last poll found not complete, in the order of the list; none before the first poll
+    /// and after an answer.
     pub fn keys(&self) -> &[u64]
         ensures { result.now ≡ self.now.keys }
     {
         &self.keys
     }
 
-    /// What was found of each block, once the wait is done; before, and after a refusal, nothing.
+    /// Returns what was found of each block, once the wait is over; nothing before that, and after a refusal.
     pub fn slots(&self) -> &[WaitSlot]
         ensures { result.now ≡ self.now.slots }
     {
@@ -189,7 +195,7 @@ impl WaitCall {
     }
 }
 
-// Looks at each block, and puts down the keys of those that are not complete.
+// Looks at each block, and puts the keys of those that are not complete into `keys`.
 fn look_at<R: Wait>(station: &Station, rt: &R, task: &mut Task, ecbs: &[u32], keys: &mut Vec<u64>)
     requires task { IsOf station.now task.old }
     requires own { AreOwn station.now.config task.old.number ecbs.now }
@@ -209,7 +215,7 @@ fn look_at<R: Wait>(station: &Station, rt: &R, task: &mut Task, ecbs: &[u32], ke
     }
 }
 
-// Puts down the key of what is not ready.
+// Appends the key of what is not ready.
 fn put_down(keys: &mut Vec<u64>, watch: Watch, is_ready: bool)
     requires room { length keys.old.items < vec_capacity keys.old }
     ensures keys { keys.new.items ≡ keys.old.items ++ (if is_ready then [] else key_of watch ∷ []) }
@@ -220,7 +226,7 @@ fn put_down(keys: &mut Vec<u64>, watch: Watch, is_ready: bool)
     }
 }
 
-// These blocks, in the room that there is.
+// Puts these blocks into the list in place of the old ones, without memory.
 fn put_blocks(blocks: &mut Vec<u32>, ecbs: &[u32])
     requires { length ecbs.now ≤ vec_capacity blocks.old }
     ensures items { blocks.new.items ≡ ecbs.now }
@@ -232,7 +238,7 @@ fn put_blocks(blocks: &mut Vec<u32>, ecbs: &[u32])
     }
 }
 
-// So many slots, in the room that there is.
+// Puts this many open slots into the list in place of the old ones, without memory.
 fn put_slots(slots: &mut Vec<WaitSlot>, count: usize)
     requires { count ≤ vec_capacity slots.old }
     ensures size { length slots.new.items ≡ count }
@@ -244,7 +250,7 @@ fn put_slots(slots: &mut Vec<WaitSlot>, count: usize)
     }
 }
 
-// A place for the waker of each block, in the room that there is.
+// Puts an empty place for the waker of each block into the list in place of the old ones, without memory.
 fn put_places(wakers: &mut Vec<Option<Waker>>, ecbs: &[u32])
     requires { length ecbs.now ≤ vec_capacity wakers.old }
     ensures size { vec_len wakers.new ≡ length ecbs.now }
@@ -291,7 +297,7 @@ impl WaitCall {
     }
 }
 
-// Drops the waker of each block that has this key.
+// Drops the waker of each block with this key.
 fn drop_wakers(ecbs: &[u32], wakers: &mut [Option<Waker>], rung: u64)
     requires { length wakers.old ≡ length ecbs.now }
     ensures { AreRung rung ecbs.now wakers.old wakers.new }
@@ -301,7 +307,8 @@ fn drop_wakers(ecbs: &[u32], wakers: &mut [Option<Waker>], rung: u64)
     }
 }
 
-// Looks at each block, and registers with the source of each that is not complete. There is a source, and a place for a waker, for each.
+// Looks at each block, and registers with the source of each that is not complete. There are a source and a place for a waker for
+// each.
 fn register_all<R: Wait>(
     station: &Station,
     rt: &R,
@@ -326,7 +333,7 @@ fn register_all<R: Wait>(
 {
     for i in 0..ecbs.len() {
         let is_ready = station.peek(rt, task, Watch::Ecb(ecbs[i]));
-        // A source has no size, so it is not indexed.
+        // A source has no size, so the slice is not indexed.
         let Some(source) = sources.get(i) else {
             unreachable!()
         };
@@ -334,8 +341,8 @@ fn register_all<R: Wait>(
     }
 }
 
-// Registers with a source and leaves the waker in the slot, unless what the source stands for is ready. Where there is no memory for a
-// waker, asks for another poll.
+// Registers with a source and leaves the waker in the slot, unless what the source stands for is ready. If there is no memory for
+// a waker, asks for another poll.
 fn listen(source: &Source, slot: &mut Option<Waker>, is_ready: bool, cx: &mut Context<'_>)
     ensures left { is_ready ≡ false → IsSome slot.new ⊎ HearsAll cx.new }
     ensures heard { is_ready ≡ false → Hears cx.new source.now.id }
