@@ -1,4 +1,4 @@
-//! The spool on threads: a reader, a scheduler, initiators and a writer, each on a thread of its own, run the jobs of a deck.
+//! The spool on threads: a reader, a scheduler, initiators and a writer, each on a thread, run the jobs of a deck.
 #![tactic(auto)]
 
 mod meeting;

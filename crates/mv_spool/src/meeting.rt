@@ -1,4 +1,4 @@
-//! What a task needs, waited for on its thread. Clauses cite the work's `Meeting.antt` and `Needs.antt`.
+//! A task waits on its thread for what it needs. Clauses cite `Meeting.antt` and `Needs.antt` of mv_work.
 
 ghost use Rattle.mv_work.specs.Meeting.{IsMet, MayMeet};
 ghost use Rattle.mv_work.specs.Needs.{need_events};
@@ -11,7 +11,7 @@ use mv_work::{Got, Lost, MOST_BLOCKS, Need, slots_in};
 use std::sync::Wait;
 use std::time::Clock;
 
-/// Blocks until the need is met, and returns the answer.
+/// Makes the call for the need, which parks until the need is met, and returns the answer.
 ///
 /// # Errors
 ///

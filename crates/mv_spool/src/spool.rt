@@ -1,4 +1,4 @@
-//! The run of a deck. Clauses cite the plan's `SpoolRun.antt`, the report's `Outcome.antt` and the work's `Recording.antt`.
+//! The run of a deck. Clauses cite `SpoolRun.antt` of mv_plan, `Outcome.antt` of mv_report, and `Recording.antt` of mv_work.
 
 ghost use Rattle.std.specs.Prelude.{◌≡◌, ◌<◌, ◌≤◌, ◌+◌, ℕ, [], All, length, map, slice_index_or, IfOk};
 ghost use Rattle.mv_calls.specs.Program.{Done};
@@ -28,7 +28,7 @@ use std::sync::Wait;
 use std::thread::Threads;
 use std::time::Clock;
 
-// The work of each task, which was not begun.
+// Makes the work of each task, none of which was begun.
 fn works_of(alloc: Global, deck: &Deck, initiators: u32) -> Result<Vec<SpoolWork>, NoMemory>
     requires { initiators ≤ most_initiators }
     ensures count { IfOk result (λ works. length works.items ≡ initiators + 3) }
@@ -70,16 +70,17 @@ fn run_station<R: Threads + Wait + Clock + Sync, G: Gate + Sync>(
     Ok(results_of(station.close(tasks), works, records))
 }
 
-/// Runs a deck by a reader, a scheduler, so many initiators and a writer, each on a thread of its own, and answers what it came
-/// to. All memory that the tasks use is taken before the first of them starts. The gate is passed at each point of each job;
-/// `OpenGate` lets every task pass. The deck is one that `read_deck` gave for as many initiators, 1 to 8.
+/// Runs a deck by a reader, a scheduler, `initiators` initiators and a writer, each on a thread, and returns the results.
 ///
-/// It returns when all tasks have ended. Nothing says that they do: where the machine can't start a thread for a task, the others
-/// may wait for it for ever.
+/// All memory that the tasks use is taken before the first of them starts. Each task passes the gate at each point of each job;
+/// `OpenGate` lets every task pass. The deck must be one that `read_deck` returned for as many initiators, 1 to 8.
+///
+/// The call returns when all tasks have ended. Nothing promises that they do: if the machine cannot start a thread for a task,
+/// the others may wait for that task for ever.
 ///
 /// # Errors
 ///
-/// `NoMemory` where there is not enough, before the tasks start or after all have ended.
+/// `NoMemory` if memory runs out, before the tasks start or after all have ended.
 ///
 /// # Example
 ///

@@ -1,4 +1,4 @@
-//! What the tasks of a run do, each on its thread: its own work of the deck, wait by wait. Clauses cite the work's `Works.antt`.
+//! The work of the tasks of a run, each on its thread, from wait to wait. Clauses cite `Works.antt` of mv_work.
 
 ghost use Rattle.mv_deck.specs.Deck.{deck_data};
 ghost use Rattle.mv_work.specs.Spool.{IsSpool, spool_of};
@@ -13,7 +13,7 @@ use mv_work::{Spool, SpoolWork};
 use std::sync::Wait;
 use std::time::Clock;
 
-/// What the tasks of a run have in common. What each has of its own is its work.
+/// What the tasks of a run have in common. The room of each task is its work.
 #[derive(Drop)]
 pub(crate) struct SpoolTasks<'a, G> {
     pub deck: &'a Deck,
