@@ -1,2 +1,2 @@
--- Of the tests: tasks in a queue.
+-- for the tests: tasks in a queue
 pub mod Rings

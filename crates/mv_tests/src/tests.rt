@@ -1,4 +1,4 @@
-//! Calls that are polled, runs that are polled, and tables of events.
+//! Tests of polled calls, of polled runs, and of tables of events.
 
 mod event_tables;
 mod orders;

@@ -1,5 +1,5 @@
-//! What scripts can't show, since they keep all other calls from a table: what others did to it. What tables hand out, and posts and next
-//! events of tasks that wait for each other, run as scripts.
+//! What others did to a table, which no script shows, since a script keeps all other calls from its table. Scripts test what
+//! tables hand out, and the posts and next events of tasks that wait for each other.
 
 ghost use Rattle.std.specs.Prelude.{◌≡◌, ◌<◌, length};
 ghost use Rattle.mv_ecb.specs.Table.{code_limit};
@@ -18,7 +18,7 @@ use std::process::Abort;
 use std::sync::Wait;
 use std::time::Clock;
 
-// Three events, and a slot for each, of task 0.
+// A table of three events, with a slot for each, of task 0.
 const TABLE: Table = Table {
     owner: 0,
     latch: 0,
@@ -28,7 +28,7 @@ const TABLE: Table = Table {
     size: 3,
 };
 
-// A new station with one latch and one volume, and six blocks; and its one task.
+// A new station with one latch, one volume and six blocks, and its one task.
 fn open(rt: &impl Abort, alloc: Global) -> (Station, Task)
     ensures task { IsFresh result.0 0 result.1 }
     ensures volumes { result.0.config.volumes ≡ 1 }
@@ -51,10 +51,10 @@ fn open(rt: &impl Abort, alloc: Global) -> (Station, Task)
     (station, task)
 }
 
-// Lets a station and its task go. A test that did so itself would be proved in many times the time.
+// Drops a station and its task. A test that dropped them itself would take many times as long to prove.
 fn end(_station: Station, _task: Task) {}
 
-// The table of a station's configuration.
+// The table, checked against a station's configuration.
 fn checked(rt: &impl Abort, station: &Station) -> ValidTable
     ensures { IsSoundTable station.now.config result }
 {
@@ -108,7 +108,7 @@ fn next<R: Abort + Wait + Clock>(
 
 // ---- one task
 
-// Writes the table's volume, and posts a slot with what is no event.
+// Writes the table's volume, and posts a slot with a code that is not an event's index.
 #[tactic(auto, using(mv_wait::proofs::Compose::served))]
 fn break_a_table<R: Abort + Wait + Clock>(rt: &R, station: &Station, task: &mut Task)
     requires task { IsOf station.now task.old }
@@ -134,7 +134,7 @@ fn what_others_did_to_the_table_is_told(rt: HostRuntime) {
     end(station, task);
 }
 
-// A TABLE statement has no number for a volume that its configuration lacks, so no script is refused so.
+// A TABLE statement can name only volumes that the configuration of its script has, so no script shows this refusal.
 #[test]
 fn a_table_of_no_volume_is_refused(rt: HostRuntime) {
     let (station, task) = open(&rt, rt.alloc());

@@ -1,4 +1,5 @@
-//! What no clause says of runs that are polled: that one ends, and that the order is asked. Expected values are worked out by hand.
+//! What no clause says of polled runs: that a run ends, and that the order is asked before each poll. Expected values are worked
+//! out by hand.
 
 ghost use Rattle.std.specs.Prelude.{◌<◌, ◌≤◌, ◌^◌, ◌-◌, length};
 ghost use Rattle.mv_deck.specs.Deck.{deck_data};
@@ -12,7 +13,7 @@ use std::alloc::Global;
 use std::process::Abort;
 use std::sync::Wait;
 
-// The deck that a text states.
+// The deck of a text.
 pub(super) fn deck_of(rt: &impl Abort, alloc: Global, text: &[u8], initiators: u32) -> Deck
     requires short { length text.now < 2 ^ 32 - 1 }
     requires initiators { (1 ≤ initiators) × (initiators ≤ most_initiators) }
@@ -24,7 +25,7 @@ pub(super) fn deck_of(rt: &impl Abort, alloc: Global, text: &[u8], initiators: u
     }
 }
 
-// The tasks from the last to the first, round by round; the picks are counted.
+// Picks the tasks from the last to the first, round by round, and counts the picks.
 #[derive(Drop)]
 struct Backwards {
     left: u32,
@@ -42,7 +43,7 @@ impl Order for Backwards {
     }
 }
 
-// Writer, initiator, scheduler, reader, initiator.
+// The picks: writer, initiator, scheduler, reader, initiator.
 #[test]
 fn an_order_is_asked_before_each_poll(rt: HostRuntime) {
     let deck = deck_of(&rt, rt.alloc(), b"//\n", 1);
@@ -53,15 +54,16 @@ fn an_order_is_asked_before_each_poll(rt: HostRuntime) {
 
 // One job without steps, and one initiator. The picks, round by round from the last task to the first:
 //
-// 1 to 4: the writer waits for the job's end; the initiator says that it is idle and pauses; the scheduler waits for the job's entry; the
-// reader enters the job and is finished.
-// 5 to 7: the writer and the initiator wait on; the scheduler is polled once with two answers: the job is entered, and the initiator is
-// idle. It hands the job out and waits until the initiator is idle again.
-// 8 to 10: the writer waits on; the initiator ends the job, says that it is idle and pauses; the scheduler dismisses it and is finished.
-// 11, 12: the writer has the job's end and is finished, and so is the initiator, which was dismissed.
+// 1 to 4: the writer waits for the job's end; the initiator says that it is idle, and pauses; the scheduler waits for the job's
+// entry; the reader enters the job and is finished.
+// 5 to 7: the writer and the initiator still wait; the scheduler is polled once and gets two answers, that the job is entered and
+// that the initiator is idle. It hands the job out, and waits until the initiator is idle again.
+// 8 to 10: the writer still waits; the initiator ends the job, says that it is idle, and pauses; the scheduler dismisses it and
+// is finished.
+// 11 and 12: the writer has the job's end and is finished; so is the initiator, which was dismissed.
 //
-// A poll that stopped after its first answer would leave the handing out to pick 10, the job's end and the dismissal to picks 12 and 13,
-// and the two last tasks to picks 14 and 15.
+// If a poll stopped after its first answer, the scheduler would hand the job out only at pick 10, the job's end and the dismissal
+// would come at picks 12 and 13, and the two last tasks would finish at picks 14 and 15.
 #[test]
 fn a_poll_goes_on_after_an_answer(rt: HostRuntime) {
     let deck = deck_of(&rt, rt.alloc(), b"//A JOB\n//\n", 1);
@@ -70,7 +72,7 @@ fn a_poll_goes_on_after_an_answer(rt: HostRuntime) {
     assert!(rt; run.ends.as_slice() == [0].as_slice() && order.picks == 12);
 }
 
-// ADD abends while it holds latch 0, and NEXT counts under it; LAST accepts no end of ADD above 0; CODE returns 7.
+// ADD abends while it holds latch 0, and NEXT counts under that latch; LAST accepts no end of ADD above 0; CODE returns 7.
 const STEPS: &[u8] = b"// DECK 2
 //ADD JOB
 // USE 0 X
@@ -88,10 +90,10 @@ const STEPS: &[u8] = b"// DECK 2
 //
 ";
 
-// How its jobs end.
+// The ends of these jobs.
 const ENDS: [u32; 4] = [16_777_228, 0, 33_554_432, 7];
 
-// Runs them in this order, to what was worked out by hand.
+// Runs these jobs in this order, with the results that were worked out by hand.
 fn assert_steps<R: Abort + Wait, O: Order>(rt: &R, alloc: Global, order: &mut O) {
     let deck = deck_of(rt, alloc, STEPS, 3);
     let run = run_polled(rt, alloc, &deck, 3, order).expect(rt, "memory for a run");
@@ -99,7 +101,7 @@ fn assert_steps<R: Abort + Wait, O: Order>(rt: &R, alloc: Global, order: &mut O)
     assert!(rt; &run.volumes[..] == [12, 0, 0, 0, 0, 0, 0, 0].as_slice());
 }
 
-// What the deck means is computed to be that too.
+// What the deck means is computed to be the same.
 fn assert_meaning(rt: &impl Abort, alloc: Global) {
     let deck = deck_of(rt, alloc, STEPS, 3);
     let outcome = outcome_of(alloc, &deck).expect(rt, "memory for an outcome");

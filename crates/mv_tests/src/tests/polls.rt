@@ -1,5 +1,6 @@
-//! What no clause says: that each call can be polled with ample memory, that a future registers and does not yield, and rows that were
-//! worked out by hand. Want of memory stops a test: an early return that drops its tasks would be most of its proof.
+//! What no clause says: that each call can be polled if there is ample memory, that a future registers and does not yield, and
+//! rows that were worked out by hand. A test stops if memory runs out: an early return that drops its tasks would be most of its
+//! proof.
 
 ghost use Rattle.std.specs.Prelude.{◌≡◌, ◌<◌, ◌≤◌, ◌*◌, true, false, length, MatchOption};
 ghost use Rattle.std.specs.List.{AllByRecursion};
@@ -29,7 +30,7 @@ use std::sync::Wait;
 // The key of the first task's element, which is element 0.
 const ELEMENT: u64 = 4_294_967_296;
 
-// A new station with eight tasks of an element each, blocks of these owners and one latch; and its tasks.
+// A new station with eight tasks of one element each, blocks of these owners and one latch; and its tasks.
 pub(crate) fn open(rt: &impl Abort, alloc: Global, owners: Vec<u32>) -> (Station, Vec<Task>)
     ensures blocks { length result.0.config.owners ≡ length owners.items }
     ensures elements { element_count result.0.config ≡ 8 }
@@ -52,7 +53,7 @@ pub(crate) fn open(rt: &impl Abort, alloc: Global, owners: Vec<u32>) -> (Station
     Station::open(alloc, config).expect(rt, "memory for a station")
 }
 
-// Two tasks of a new station that has blocks of these owners: its last, and the one before it; and the others.
+// A new station that has blocks of these owners, its other tasks, its last task, and the one before that.
 fn open_two(rt: &impl Abort, alloc: Global, owners: Vec<u32>) -> (Station, Vec<Task>, Task, Task)
     ensures blocks { length result.0.config.owners ≡ length owners.items }
     ensures elements { element_count result.0.config ≡ 8 }
@@ -66,7 +67,7 @@ fn open_two(rt: &impl Abort, alloc: Global, owners: Vec<u32>) -> (Station, Vec<T
     (station, tasks, first, second)
 }
 
-// The first and the last task of a new station that has no blocks.
+// A new station without blocks, and its first and its last task.
 fn open_first(rt: &impl Abort, alloc: Global) -> (Station, Task, Task)
     ensures elements { element_count result.0.config ≡ 8 }
     ensures first { IsOf result.0 result.1 × IsAtRest result.1.log }
@@ -81,10 +82,10 @@ fn open_first(rt: &impl Abort, alloc: Global) -> (Station, Task, Task)
     (station, first, last)
 }
 
-// Lets a station and its tasks go. A test that did so itself would be proved in many times the time.
+// Drops a station and its tasks. A test that dropped them itself would take many times as long to prove.
 fn end(_station: Station, _tasks: Vec<Task>, _first: Task, _second: Task) {}
 
-// Each entry of a task is of this operation, and rings this key.
+// Each entry of a task has the operation in its row, and rings the key in it.
 fn assert_made<R: Abort>(rt: &R, task: &Task, made: &[(Op, Option<u64>)]) {
     let log = task.log();
     assert!(rt; log.len() == made.len());
@@ -96,7 +97,7 @@ fn assert_made<R: Abort>(rt: &R, task: &Task, made: &[(Op, Option<u64>)]) {
 
 // ---- waits
 
-// A post of a block by a task at rest, which is asserted to have the event for it.
+// Posts a block, for a task at rest that is asserted to have the event for it.
 #[tactic(auto, using(mv_wait::proofs::Compose::served))]
 pub(crate) fn post<R: Abort + Wait>(rt: &R, station: &Station, task: &mut Task, ecb: u32, code: u32)
     requires task { IsOf station.now task.old }
@@ -133,7 +134,7 @@ pub(crate) fn a_wait(
     }
 }
 
-// Whether a wait is over.
+// Polls a wait, and returns whether it is over.
 pub(crate) fn is_over<R: Wait>(
     rt: &R,
     station: &Station,
@@ -152,7 +153,7 @@ pub(crate) fn is_over<R: Wait>(
     }
 }
 
-// A wait for two of three blocks, of which one is posted before its first poll and one behind it.
+// A wait for two of three blocks, of which one is posted before its first poll and one after it.
 fn wait_for_two<R: Abort + Wait + AllocGlobal>(
     rt: &R,
     station: &Station,
@@ -176,7 +177,7 @@ fn wait_for_two<R: Abort + Wait + AllocGlobal>(
     assert!(rt; call.slots() == found.as_slice() && call.keys().is_empty());
 }
 
-// What the two have made of it.
+// The entries that the two tasks made of this.
 fn assert_waited<R: Abort>(rt: &R, waiter: &Task, poster: &Task) {
     let posts = [
         (Op::Ecb(EcbOp::Post(5)), Some(0)),
@@ -208,7 +209,7 @@ pub(crate) fn token(element: u32, generation: u32) -> Token
     }
 }
 
-// A pause of the first task, at rest, with its element, which it allocates.
+// A pause that the first task, at rest, may poll: it has allocated its element.
 #[tactic(auto, using(mv_wait::proofs::Compose::served))]
 fn a_pause<R: Abort + Wait>(rt: &R, station: &Station, task: &mut Task) -> PauseCall
     requires task { IsOf station.now task.old }
@@ -223,7 +224,7 @@ fn a_pause<R: Abort + Wait>(rt: &R, station: &Station, task: &mut Task) -> Pause
     PauseCall::new(token(0, 0))
 }
 
-// What a pause was given, once it is over.
+// Polls a pause, and returns what it was given once it is over.
 pub(crate) fn given<R: Abort + Wait>(
     rt: &R,
     station: &Station,
@@ -242,7 +243,7 @@ pub(crate) fn given<R: Abort + Wait>(
     }
 }
 
-// A release of this generation of an element, with a code.
+// Releases a token with a code.
 #[tactic(auto, using(mv_wait::proofs::Compose::served))]
 pub(crate) fn release_to<R: Abort + Wait>(
     rt: &R,
@@ -262,7 +263,7 @@ pub(crate) fn release_to<R: Abort + Wait>(
     assert!(rt; release(station, rt, task, token, code).is_ok());
 }
 
-// A pause whose token is released behind its first poll.
+// A pause whose token is released after its first poll.
 fn pause_for_nine<R: Abort + Wait>(rt: &R, station: &Station, first: &mut Task, second: &mut Task)
     requires first { IsOf station.now first.old }
     requires second { IsOf station.now second.old }
@@ -277,7 +278,7 @@ fn pause_for_nine<R: Abort + Wait>(rt: &R, station: &Station, first: &mut Task, 
     assert!(rt; given(rt, station, first, &mut call) == Some(Given { code: 9, next }));
 }
 
-// What the two have made of it.
+// The entries that the two tasks made of this.
 fn assert_paused<R: Abort>(rt: &R, first: &Task, second: &Task) {
     let made = [
         (Op::Element(ElementOp::Open), None),
@@ -309,7 +310,7 @@ fn an_obtain(station: &Station, task: &Task) -> ObtainCall
     ObtainCall::new(0, 1 + u64::from(task.number()), Mode::Exclusive)
 }
 
-// The latch, once it is granted.
+// Polls a request, and returns its token once it is granted.
 fn granted<R: Abort + Wait>(
     rt: &R,
     station: &Station,
@@ -329,7 +330,7 @@ fn granted<R: Abort + Wait>(
     }
 }
 
-// An obtain of one task behind that of another, which gives the latch back behind the second poll.
+// An obtain by one task while another holds the latch, which gives it back after two polls.
 fn obtain_behind<R: Abort + Wait>(
     rt: &R,
     station: &Station,
@@ -368,7 +369,8 @@ fn an_obtain_goes_on_once_it_is_granted(rt: HostRuntime) {
 
 // ---- futures
 
-// Two tasks poll the future of a wait for block 0, one after the other. Another key wakes nobody, and its own wakes the second.
+// Two tasks poll the future of a wait for block 0, one after the other. Another key wakes neither, and its own key wakes the
+// second.
 fn ring_a_wait<R>(rt: &R, station: &Station, waiter: &mut Task)
 where
     R: Abort + Wait + RandomSource + AllocGlobal,
@@ -425,7 +427,8 @@ fn a_future_of_a_pause_registers_and_does_not_yield(rt: HostRuntime) {
     end(station, Vec::new(rt.alloc()), first, second);
 }
 
-// The future of a wait for block 0 is over at its first poll: an executor that polled it again without a ring would sleep for ever.
+// The future of a wait for block 0 is over at its first poll. An executor that needed a ring to poll it again would sleep for
+// ever.
 fn end_at_once<R>(rt: &R, station: &Station, waiter: &mut Task)
 where
     R: Abort + Wait + RandomSource + AllocGlobal,
@@ -482,7 +485,7 @@ fn a_future_of_a_wait_for_one_of_two_is_over_by_the_second(rt: HostRuntime) {
     end(station, tasks, waiter, poster);
 }
 
-// Polls the future of a wait for two of three blocks, of which the first and then the last are posted.
+// Polls the future of a wait for two of three blocks, of which first the first and then the last is posted.
 fn poll_two_of_three<R>(rt: &R, station: &Station, waiter: &mut Task, poster: &mut Task)
 where
     R: Abort + Wait + RandomSource + AllocGlobal,

@@ -1,4 +1,4 @@
-//! That polled runs end, which no clause says: 200 random decks, each in rounds. A round in which no task makes an event would be a
+//! Polled runs end, which no clause says: 200 random decks run in rounds. A round in which no task makes an event would be a
 //! deadlock, so a run has at most one round for each event of the deck's weight, and one more.
 
 ghost use Rattle.std.specs.Prelude.{◌≤◌, ◌<◌};
@@ -12,7 +12,7 @@ use std::process::Abort;
 // How many decks are run.
 const DECKS: u32 = 200;
 
-// A deck has fewer jobs than this, with the names A to H.
+// The number of jobs of a deck is below this. They have the names A to H.
 const JOBS: u8 = 9;
 
 // A linear congruential generator, whose numbers are the same at each run.
@@ -22,7 +22,7 @@ struct Dice {
 }
 
 impl Dice {
-    // A number below this one, 1 to 65,536.
+    // A number below `sides`, which is 1 to 65,536.
     fn below(&mut self, sides: u32) -> u32
         requires { 1 ≤ sides }
         ensures { result < sides }
@@ -35,7 +35,7 @@ impl Dice {
     }
 }
 
-// Round by round; the picks are counted.
+// Goes round the tasks, and counts the picks.
 #[derive(Drop)]
 struct CountedRounds {
     rounds: RoundOrder,
@@ -54,7 +54,7 @@ fn add(rt: &impl Abort, text: &mut Vec<u8>, bytes: &[u8]) {
         .expect(rt, "memory for a deck");
 }
 
-// A job of this number, which waits for some of the earlier ones and accepts 0 or at most 4 of them.
+// Adds a job of this number, which waits for some of the earlier ones and of each accepts the end 0, or ends of at most 4.
 fn add_job(rt: &impl Abort, text: &mut Vec<u8>, dice: &mut Dice, number: u8)
     requires { number < 9 }
 {
@@ -75,7 +75,7 @@ fn add_job(rt: &impl Abort, text: &mut Vec<u8>, dice: &mut Dice, number: u8)
     add(rt, text, b"\n");
 }
 
-// Steps that use some latches, which is in rising order, count or scan under some of them, and free some.
+// Adds steps that use some latches, in rising order, count or scan under each of them, and free some.
 fn add_latches(rt: &impl Abort, text: &mut Vec<u8>, dice: &mut Dice) {
     for latch in b'0'..b'8' {
         let kind = dice.below(6);
@@ -101,7 +101,7 @@ fn add_latches(rt: &impl Abort, text: &mut Vec<u8>, dice: &mut Dice) {
     }
 }
 
-// How a job ends: by its last step, with a return code or in an abend.
+// Adds the end of a job: by its last step, with a return code, or with an abend.
 fn add_end(rt: &impl Abort, text: &mut Vec<u8>, dice: &mut Dice) {
     match dice.below(4) {
         0 => add(rt, text, b"// RETURN 4\n"),
@@ -123,7 +123,7 @@ fn random_text(rt: &impl Abort, alloc: Global, dice: &mut Dice) -> Vec<u8> {
     text
 }
 
-// What a deck weighs for this many initiators, by the formula of docs/FORMATS.md.
+// The weight of a deck for this many initiators, by the formula of docs/FORMATS.md.
 fn weight_of(deck: &Deck, initiators: u32) -> u64 {
     let n = deck.jobs.len() as u64;
     let i = u64::from(initiators);

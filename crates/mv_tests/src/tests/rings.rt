@@ -1,5 +1,5 @@
-//! A small executor on one thread: eight tasks hand a post round in a ring, and then releases, and each is polled only where an
-//! event has rung its key, or it has made an event itself.
+//! A small executor on one thread. Eight tasks pass a post round a ring, and then releases. Each task is polled only after an
+//! event has rung its key, or after it has made an event itself.
 
 ghost use Rattle.std.specs.Prelude.{◌≡◌, ◌<◌, ◌≤◌, ◌++◌, [], ◌∷◌, length};
 ghost use Rattle.std.specs.List.{AllByRecursion};
@@ -23,13 +23,13 @@ use std::sync::Wait;
 // The last of the eight tasks.
 const LAST: u32 = 7;
 
-// How often the releases go round.
+// How often the releases go round the ring.
 const LAPS: u32 = 3;
 
-// Turns that are enough.
+// How many turns are enough.
 const TURNS: u32 = 2000;
 
-// A task with the call that it waits in; it has none once it is done.
+// A task with the call in which it waits; it has none once it is done.
 #[derive(Drop)]
 struct Runner {
     task: Task,
@@ -54,7 +54,7 @@ fn waiting(rt: &impl Abort, alloc: Global, station: &Station, task: Task) -> Run
     }
 }
 
-// A task at rest that is to pause with its element of this generation.
+// A task at rest that is to pause with its element, which has this generation.
 fn pausing(station: &Station, task: Task, generation: u32) -> Runner
     requires task { IsOf station.now task }
     requires rest { IsAtRest task.log }
@@ -72,7 +72,7 @@ fn pausing(station: &Station, task: Task, generation: u32) -> Runner
     }
 }
 
-// Behind its wait a task hands the post on, and the last one begins the releases.
+// After its wait a task passes the post on, and the last task begins the releases.
 #[tactic(auto, using(mv_wait::proofs::Compose::served))]
 fn behind_wait<R: Abort + Wait>(rt: &R, station: &Station, mut task: Task) -> Runner
     requires task { IsOf station.now task }
@@ -92,7 +92,7 @@ fn behind_wait<R: Abort + Wait>(rt: &R, station: &Station, mut task: Task) -> Ru
     pausing(station, task, 0)
 }
 
-// Behind its pause a task hands the release on, and pauses again where another lap is to come.
+// After its pause a task passes the release on, and pauses again if another lap follows.
 fn behind_pause<R: Abort + Wait>(rt: &R, station: &Station, mut task: Task, lap: u32) -> Runner
     requires task { IsOf station.now task }
     requires rest { IsAtRest task.log }
@@ -117,7 +117,7 @@ fn behind_pause<R: Abort + Wait>(rt: &R, station: &Station, mut task: Task, lap:
     }
 }
 
-// Polls the wait of a task, and goes on with the task where it is over.
+// Polls the wait of a task, and goes on with the task if the wait is over.
 fn poll_wait<R: Abort + Wait>(
     rt: &R,
     station: &Station,
@@ -140,7 +140,7 @@ fn poll_wait<R: Abort + Wait>(
     }
 }
 
-// Polls the pause of a task, and goes on with the task where it is over.
+// Polls the pause of a task, and goes on with the task if the pause is over.
 fn poll_pause<R: Abort + Wait>(
     rt: &R,
     station: &Station,
@@ -162,7 +162,7 @@ fn poll_pause<R: Abort + Wait>(
     }
 }
 
-// Polls what a task waits in, and goes on with it where that is over.
+// Polls the call in which a task waits, and goes on with the task if that is over.
 fn go_on<R: Abort + Wait>(rt: &R, station: &Station, runner: Runner) -> Runner
     requires runner { MayGoOn station.now runner.task runner.wait runner.pause }
     requires blocks { length station.now.config.owners ≡ 8 }
@@ -184,7 +184,7 @@ fn go_on<R: Abort + Wait>(rt: &R, station: &Station, runner: Runner) -> Runner
     }
 }
 
-// A new task takes its element in use, and the last one posts the first one's block.
+// A new task allocates its element, and the last one posts the first one's block.
 #[tactic(auto, using(mv_wait::proofs::Compose::served))]
 fn begin<R: Abort + Wait>(rt: &R, alloc: Global, station: &Station, mut task: Task) -> Runner
     requires task { IsOf station.now task }
@@ -201,7 +201,7 @@ fn begin<R: Abort + Wait>(rt: &R, alloc: Global, station: &Station, mut task: Ta
     waiting(rt, alloc, station, task)
 }
 
-// One more task behind the others.
+// Appends one more task.
 fn add<R: Abort>(rt: &R, runners: &mut VecDeque<Runner>, runner: Runner)
     ensures { runners.new.items ≡ runners.old.items ++ runner ∷ [] }
 {
@@ -210,7 +210,7 @@ fn add<R: Abort>(rt: &R, runners: &mut VecDeque<Runner>, runner: Runner)
     }
 }
 
-// The tasks, the last one first. Each has its element in use and waits for its block; the first one's is posted.
+// The tasks, the last one first. Each has allocated its element and waits for its block; the first one's block is posted.
 fn begin_all<R: Abort + Wait>(
     rt: &R,
     alloc: Global,
@@ -230,7 +230,8 @@ fn begin_all<R: Abort + Wait>(
     runners
 }
 
-// Marks the task of each key that the entries of a log from this one on ring. Task e has block e and element e, whose keys end in e.
+// Marks the tasks whose keys are rung by the entries of a log from position `from` on. Task e has block e and element e, and the
+// last three bits of their keys are e.
 fn hear(woken: &mut [bool; 8], log: &OpenLog, from: usize) {
     for at in from..log.len() {
         if let Some(entry) = log.get(at) {
@@ -241,7 +242,7 @@ fn hear(woken: &mut [bool; 8], log: &OpenLog, from: usize) {
     }
 }
 
-// Polls a task where it was marked.
+// Polls a task if it was marked.
 fn turn<R: Abort + Wait>(rt: &R, station: &Station, runner: Runner, woken: &mut [bool; 8]) -> Runner
     requires runner { MayGoOn station.now runner.task runner.wait runner.pause }
     requires blocks { length station.now.config.owners ≡ 8 }
@@ -259,7 +260,7 @@ fn turn<R: Abort + Wait>(rt: &R, station: &Station, runner: Runner, woken: &mut 
     runner
 }
 
-// Polls one task after the other, where it was marked.
+// Polls one task after the other, if it was marked.
 fn run<R: Abort + Wait>(
     rt: &R,
     station: &Station,
@@ -280,7 +281,7 @@ fn run<R: Abort + Wait>(
     runners
 }
 
-// One more task behind those that are back.
+// Appends one more task to those that are back.
 fn give_back<R: Abort>(rt: &R, tasks: &mut Vec<Task>, task: Task)
     ensures { tasks.new.items ≡ tasks.old.items ++ task ∷ [] }
 {
@@ -324,7 +325,7 @@ fn open_eight<R: Abort>(rt: &R, alloc: Global) -> (Station, Vec<Task>)
     open(rt, alloc, owners)
 }
 
-// Has new tasks go round until all are done.
+// Runs new tasks until all are done.
 fn go_round<R: Abort + Wait>(
     rt: &R,
     alloc: Global,
@@ -341,7 +342,7 @@ fn go_round<R: Abort + Wait>(
     tasks_of(rt, alloc, station, runners)
 }
 
-// Closes the station, and judges its history.
+// Closes the station, and judges that its history is legal.
 fn judge<R: Abort>(rt: &R, alloc: Global, station: Station, tasks: Vec<Task>)
     requires callers { station.config.callers ≡ 8 }
     requires tasks { AreInOrder station 0 tasks.items × (length tasks.items ≡ 8) }
@@ -350,7 +351,7 @@ fn judge<R: Abort>(rt: &R, alloc: Global, station: Station, tasks: Vec<Task>)
     let Ok(listed) = history.listed(alloc) else {
         panic!(rt; "no memory for a list of events")
     };
-    // Of each task its allocation, an arm, a settle and what it hands on, and in each lap a pause, a resume and what it hands on; and the
+    // Each task has allocated, armed, settled and passed on, and in each lap paused, resumed and passed on; and there is the
     // first post.
     assert!(rt; listed.journal.len() == 8 * 4 + 3 * 8 * 3 + 1);
     assert!(rt; replay(alloc, &listed.config, &listed.journal).is_ok());
