@@ -14,22 +14,22 @@ use std::sync::Wait;
 use std::thread::Threads;
 use std::time::Clock;
 
-/// The task that waits. The other completes the event.
+/// The task that waits; the other one completes the event.
 const WAITER: u32 = 0;
 
 /// The block that says that the event is complete.
 const EVENT: u32 = 0;
 
-/// What came of it.
+/// The results of a completion.
 #[derive(Drop)]
 pub struct Completed {
-    /// The code that the waiter was told.
+    /// The code that the waiter's wait returned.
     pub told: u32,
-    /// All events, as one legal history, with the configuration that it ran with.
+    /// All events, as one legal history, with the configuration of the run.
     pub history: History,
 }
 
-// What the two tasks do: one waits, and the other posts this code.
+// The work of the two tasks: one waits, and the other posts this code.
 #[derive(Drop)]
 struct Completing(u32);
 
@@ -49,11 +49,11 @@ impl Work for Completing {
     }
 }
 
-/// Has one task wait for an event, which another completes with this code of 30 bits.
+/// Has one task wait for an event, which another task completes with this code of 30 bits.
 ///
 /// # Errors
 ///
-/// `NoMemory` where there is not enough, before the tasks start.
+/// `NoMemory` if memory runs out, before any task starts.
 pub fn complete<R: Threads + Wait + Clock + Sync>(
     rt: &R,
     alloc: Global,

@@ -1,4 +1,4 @@
-//! A completion: one task waits for an event, another completes it with a code, and the first is told that code.
+//! A completion: one task waits for an event, another completes it with a code, and the wait returns that code.
 #![tactic(auto)]
 
 mod completion;
