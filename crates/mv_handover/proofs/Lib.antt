@@ -1,4 +1,4 @@
--- lists that are part of lists, and items slot by slot
+-- lists that are parts of lists, and items slot by slot
 mod Lists
 -- what a log says of what goes through a block, and what goes through it in any history
 mod Logs

@@ -1,4 +1,4 @@
--- How a task stands between two calls, what a call adds to its log, and what each task has done when it is back.
+-- A task between two calls, what a call adds to its log, and what each task has done when it is back.
 use Rattle.std.specs.Prelude.{◌≡◌, ℕ, ◌+◌, ◌<◌, false, List, [], ◌∷◌, ◌++◌, length, slice_index_or, Vec}
 use Rattle.std.specs.List.{AllByRecursion}
 use Rattle.std.proofs.Common.{Global}
@@ -18,7 +18,7 @@ use Rattle.mv_attach.specs.Rooms.{HasRoom}
 use Rattle.mv_handover.specs.Setup.{slots, slots_setup, HasSlots}
 use Rattle.mv_handover.specs.Slots.{posts, takes, part}
 
--- it is task k of a hand-over on this board, is at rest, and holds no block extended
+-- this is task k of a hand-over on this board; it is at rest, and holds no block extended
 pub record CanHandOver (b : BoardFace) (k : ℕ) (t : CallerFace) : Type 0 where
   pub config : HasSlots b.config
   pub task : IsOf b t
@@ -26,17 +26,17 @@ pub record CanHandOver (b : BoardFace) (k : ℕ) (t : CallerFace) : Type 0 where
   pub rest : IsAtRest t.log
   pub plain : (e : ℕ) → (kept_of t.number t.log).extended e ≡ false
 
--- one that has made no event
+-- this is task k of a hand-over, and it has made no event
 abbrev pub IsNew : BoardFace → ℕ → CallerFace → Type 0
 IsNew b k t = CanHandOver b k t × (t.log ≡ [])
 
--- the block is there, and is the task's own
+-- the block exists, and is the task's own
 abbrev pub IsOwn : BoardFace → ℕ → CallerFace → Type 0
 IsOwn b ecb t = (ecb < 8) × (owner_of b.config ecb ≡ t.number)
 
 -- ---- calls
 
--- the same task made these entries
+-- the task made these entries, and no others
 pub record Added (es : List Entry) (t u : CallerFace) : Type 0 where
   pub number : u.number ≡ t.number
   pub logged : u.log ≡ t.log ++ es
@@ -77,20 +77,20 @@ pub record HasTaken (b : BoardFace) (items : List ℕ) (t : CallerFace) : Type 0
   pub takes : (s : ℕ) → s < slots → takes s t.log ≡ part s items
   pub posts : (s : ℕ) → s < slots → posts s t.log ≡ []
 
--- ---- the work of both
+-- ---- the work of both tasks
 
--- a room for each of the two, and the consumer's is large enough
+-- there is a room for each of the two tasks, and the consumer's is large enough
 pub record AreRooms (count : ℕ) (rooms : Vec (Vec ℕ Global) Global) : Type 0 where
   pub two : length rooms.items ≡ 2
   pub room : (d : Vec ℕ Global) → HasRoom count (slice_index_or rooms.items 1 d)
 
--- what the task of number k needs before it starts
+-- what task k requires before it starts
 pub record CanStart (b : BoardFace) (items : List ℕ) (k : ℕ) (room : Vec ℕ Global) : Type 0 where
   pub config : b.config ≡ slots_setup (length items)
   pub codes : AllByRecursion (λ x. x < code_limit) items
   pub space : k ≡ 1 → HasRoom (length items) room
 
--- what it has done when it is back: the producer put all items, and the consumer took as many
+-- what task k has done when it is back: the producer put all items, and the consumer took as many
 pub record HasDone (b : BoardFace) (items : List ℕ) (k : ℕ) (t : CallerFace) (taken : List ℕ) : Type 0 where
   pub put : k ≡ 0 → HasPut b items t
   pub took : k ≡ 1 → HasTaken b taken t

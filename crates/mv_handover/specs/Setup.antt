@@ -2,17 +2,17 @@
 use Rattle.std.specs.Prelude.{◌≡◌, ℕ, ◌+◌, ◌*◌, [], ◌∷◌}
 use Rattle.mv_machine.specs.Setup.{Setup}
 
--- how many slots there are
+-- the number of slots
 abbrev pub slots : ℕ
 slots = 4
 
--- how many items are handed over at most
+-- the highest number of items that are handed over
 abbrev pub items_limit : ℕ
 items_limit = 65535
 
--- The producer is caller 0, and the consumer caller 1. Blocks 0 to 3 are the consumer's, and say that a slot is full; blocks 4 to 7
--- are the producer's, and say that it is free. For each item each of them waits for a block, clears it, and posts one; before that
--- the consumer says of each slot that it is free.
+-- The producer is caller 0, and the consumer caller 1. Blocks 0 to 3 are the consumer's, and say that a slot is full; blocks 4 to
+-- 7 are the producer's, and say that a slot is free. For each item each task waits for a block, clears it, and posts another one.
+-- Before that the consumer posts for each slot that it is free.
 abbrev pub slots_setup : ℕ → Setup
 slots_setup n = record {
   callers = 2;
@@ -26,6 +26,6 @@ slots_setup n = record {
   exits = [];
 }
 
--- it is that of a hand-over of some number of items
+-- this is the configuration of a hand-over of some number of items
 abbrev pub HasSlots : Setup → Type 0
 HasSlots c = (n : ℕ) × (c ≡ slots_setup n)

@@ -1,4 +1,4 @@
--- What goes through a block: the codes that it is posted with, and those that are taken out of it.
+-- What goes through a block: the codes with which it is posted, and those that are taken out of it.
 use Rattle.std.specs.Prelude.{ℕ, ◌+◌, ◌%◌, ◌==◌, List, [], ◌∷◌, ◌++◌, Option, Some, None, if◌then◌else◌}
 use Rattle.std.specs.List.{filter_map}
 use Rattle.mv_ecb.specs.declared.operation.EcbOp.{EcbOp}
@@ -13,56 +13,56 @@ use Rattle.mv_machine.specs.declared.entry.Reply.{Reply}
 use Rattle.mv_machine.specs.declared.entry.Reply.TheVariants as reply_of
 use Rattle.mv_handover.specs.Setup.{slots}
 
--- the code of a post of block n
+-- the code, if this operation is a post of block n
 abbrev pub post_code : ℕ → Object → Op → Option ℕ
 post_code n (Ecb m) (op_on.Ecb (Post code)) = if m == n then Some code else None
 post_code n o op = None
 
--- those of all its posts, in order
+-- the codes of all posts of block n, in order
 abbrev pub posts : ℕ → List Entry → List ℕ
 posts n es = filter_map (λ e. post_code n e.object e.op) es
 
--- what is seen of a block from a settle that finds it complete until a clear
+-- the code that is seen in a block: from a settle that finds the block complete until a clear
 abbrev pub seen_by : EcbOp → Reply → Option ℕ → Option ℕ
 seen_by Settle (reply_of.Ecb (Complete code)) seen = Some code
 seen_by Clear reply seen = None
 seen_by op reply seen = seen
 
--- what is seen of block n after one more entry
+-- the code that is seen in block n after one more entry
 abbrev pub seen_with : ℕ → Option ℕ → Object → Op → Reply → Option ℕ
 seen_with n seen (Ecb m) (op_on.Ecb op) reply = if m == n then seen_by op reply seen else seen
 seen_with n seen o op reply = seen
 
--- after a list of them
+-- the code that is seen in block n after these entries
 abbrev pub seen_after : ℕ → Option ℕ → List Entry → Option ℕ
 seen_after n seen [] = seen
 seen_after n seen (e ∷ es) = seen_after n (seen_with n seen e.object e.op e.reply) es
 
--- a clear takes out what was seen
+-- the code that an operation takes out: a clear takes out the one that is seen
 abbrev pub taken_by : EcbOp → Option ℕ → List ℕ
 taken_by Clear (Some code) = code ∷ []
 taken_by op seen = []
 
--- what an entry takes out of block n
+-- the code that an operation takes out of block n
 abbrev pub taken_with : ℕ → Option ℕ → Object → Op → List ℕ
 taken_with n seen (Ecb m) (op_on.Ecb op) = if m == n then taken_by op seen else []
 taken_with n seen o op = []
 
--- what is taken out of block n, in order: the codes with which it was found complete and then cleared
+-- the codes that are taken out of block n, in order: those with which it was found complete before a clear
 abbrev pub takes_from : ℕ → Option ℕ → List Entry → List ℕ
 takes_from n seen [] = []
 takes_from n seen (e ∷ es) =
     taken_with n seen e.object e.op ++ takes_from n (seen_with n seen e.object e.op e.reply) es
 
--- what a history takes out of block n
+-- the codes that a history takes out of block n
 abbrev pub takes : ℕ → List Entry → List ℕ
 takes n es = takes_from n None es
 
--- of items that go to the slots in turn, the first of them as number i, those that go to slot s
+-- those items that go to slot s, if the items go to the slots in turn and the first of them is number i
 abbrev pub part_from : ℕ → ℕ → List ℕ → List ℕ
 part_from s i [] = []
 part_from s i (x ∷ xs) = (if i % slots == s then x ∷ [] else []) ++ part_from s (i + 1) xs
 
--- of items that go to the slots in turn, those of slot s
+-- those items that go to slot s, if the items go to the slots in turn
 abbrev pub part : ℕ → List ℕ → List ℕ
 part s xs = part_from s 0 xs

@@ -18,35 +18,35 @@ use std::sync::Wait;
 use std::thread::Threads;
 use std::time::Clock;
 
-/// How many items may lie between the two tasks.
+/// How many items may be between the two tasks.
 const SLOTS: usize = 4;
 
-/// The task that puts items in. The other takes them out.
+/// The task that puts items in; the other one takes them out.
 const PRODUCER: u32 = 0;
 
-/// The code that says that a slot is free.
+/// The code of a post that says that a slot is free.
 const FREE: u32 = 0;
 
-/// What a hand-over came to.
+/// The results of a hand-over.
 #[derive(Drop)]
 pub struct HandedOver {
-    /// What the second task took, in order.
+    /// The items that the consumer took, in order.
     pub taken: Vec<u32>,
-    /// All events, as one legal history, with the configuration that it ran with.
+    /// All events, as one legal history, with the configuration of the run.
     pub history: History,
 }
 
-// Caller 0 puts items in, and caller 1 takes them out. Blocks 0 to 3 say that a slot is full, and 4 to 7 that it is free.
+// Caller 0 puts items in, and caller 1 takes them out. Blocks 0 to 3 say that a slot is full, and blocks 4 to 7 that it is free.
 fn configuration(alloc: Global, items: u32) -> Result<ValidConfig, NoMemory>
     requires few { items ≤ items_limit }
     ensures { IfOk result (λ config. config ≡ slots_setup items) }
 {
-    // For each item a wait, which is two events, a clear and a post; the consumer begins with a post for each slot.
+    // For each item a wait, which makes two events, a clear and a post; the consumer begins with a post for each slot.
     let budgets = [4 * items, 4 * items + 4];
     config_of_blocks(alloc, &budgets, &[1, 1, 1, 1, 0, 0, 0, 0])
 }
 
-// Waits for a block of the task's own, zeroes it for its next use, and answers the code that it was posted with.
+// Waits for a block of the task's own, zeroes it for its next use, and returns the code with which it was posted.
 fn take<R: Wait + Clock>(rt: &R, station: &Station, task: &mut Task, ecb: u32) -> u32
     requires block { IsOwn station.now ecb task.old }
     requires ready { CanHandOver station.now task.old.number task.old }
@@ -87,7 +87,7 @@ fn produce<R: Wait + Clock>(rt: &R, station: &Station, task: &mut Task, items: &
     }
 }
 
-// Says that each slot is free; then takes so many items, each from the next slot, and frees that again.
+// Posts that each slot is free; then takes `count` items, each from the next slot, and frees that slot again.
 fn consume<R: Wait + Clock>(
     rt: &R,
     station: &Station,
@@ -111,7 +111,7 @@ fn consume<R: Wait + Clock>(
     }
 }
 
-// What the two tasks do.
+// The work of the two tasks.
 #[derive(Drop)]
 struct Handing<'a> {
     items: &'a [u32],
@@ -139,7 +139,7 @@ impl Work for Handing<'_> {
     }
 }
 
-// What the producer fills, which is nothing, and room for all that the consumer takes.
+// Makes the rooms: the producer's, which stays empty, and the consumer's, with room for all that it takes.
 fn rooms_for(alloc: Global, count: usize) -> Result<Vec<Vec<u32>>, NoMemory>
     ensures { IfOk result (AreRooms count) }
 {
@@ -149,11 +149,11 @@ fn rooms_for(alloc: Global, count: usize) -> Result<Vec<Vec<u32>>, NoMemory>
     Ok(rooms)
 }
 
-/// Hands these items over from one thread to another, each a number of 30 bits.
+/// Hands these items, each a number of 30 bits, over from one thread to another.
 ///
 /// # Errors
 ///
-/// `NoMemory` where there is not enough, before the tasks start.
+/// `NoMemory` if memory runs out, before any task starts.
 pub fn hand_over<R: Threads + Wait + Clock + Sync>(
     rt: &R,
     alloc: Global,

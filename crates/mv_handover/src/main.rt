@@ -1,5 +1,5 @@
-//! A bounded hand-over: one task puts items into a few slots, another takes them out, and what comes out is what went in, in
-//! order.
+//! A bounded hand-over: one task puts items into a few slots, another takes them out, and the items come out as they went in, in
+//! the same order.
 #![tactic(auto)]
 
 mod handover;
@@ -8,7 +8,7 @@ pub use handover::{HandedOver, hand_over};
 use mv_machine::replay;
 use std::io::{self, Print};
 
-// What is handed over.
+// The items that are handed over.
 const ITEMS: [u32; 10] = [3, 1, 4, 1, 5, 9, 2, 6, 5, 3];
 
 fn tell_taken(rt: &impl Print, taken: &[u32]) -> io::Result<()> {
