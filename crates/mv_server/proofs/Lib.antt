@@ -1,6 +1,6 @@
 -- the configuration
 mod Pool
--- work, hand_out, await_answer: entries that are right
+-- work, hand_out, await_answer: they make only entries that their task may make
 mod Always
 -- work: its token, and that no pause is refused
 mod Tokens

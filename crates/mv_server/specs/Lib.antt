@@ -1,4 +1,4 @@
--- the configuration, and what is asked
+-- the configuration, and the requests
 pub mod Pool
--- what tasks of the pool keep to
+-- what each task of the pool guarantees
 pub mod Right

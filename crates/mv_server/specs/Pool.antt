@@ -1,39 +1,40 @@
--- The configuration of a pool, and what its server is asked.
+-- The configuration of a pool, and the requests to its server.
 use Rattle.std.specs.Prelude.{ℕ, ◌+◌, ◌*◌, ◌-◌, ◌^◌, List, [], ◌∷◌, ◌++◌, replicate, slice_index}
 use Rattle.mv_machine.specs.Setup.{Setup}
 use Rattle.mv_attach.specs.Blocks.{blocks_setup}
 
--- how many workers there are: the callers from 0 on. The server is the caller behind them
+-- the number of workers, which are the callers from 0 on; the server is the caller after them
 abbrev pub workers : ℕ
 workers = 3
 
--- how many requests there are at most
+-- the highest number of requests
 abbrev pub requests_limit : ℕ
 requests_limit = 10000
 
--- a request is a number of weeks below this, so that its answer is the code of a post
+-- a request is a number of weeks below this, so that its answer fits into the code of a post
 abbrev pub weeks_limit : ℕ
 weeks_limit = 2 ^ 27
 
--- how many events a worker may need for so many requests: it opens its element; in each round, at most one for each request and
--- one for the stop, it posts that it is idle, pauses, and posts an answer
+-- how many events a worker may need for n requests: it opens its element; in each round, at most one for each request and one for
+-- the stop, it posts that it is idle, pauses with two events, and posts an answer
 abbrev pub worker_events : ℕ → ℕ
 worker_events n = 4 * n + 5
 
--- how many events the server may need to hand out a code: for each worker two to wait on its block, a clear and a release
+-- how many events the server may need to hand out a code: for each worker two to wait for its block, a clear and a release
 abbrev pub hand_out_events : ℕ
 hand_out_events = 4 * workers
 
--- and for so many requests: it hands out each of them and the stop of each worker, and waits for each answer
+-- how many events the server may need for n requests: it hands out each of them and a stop for each worker, and waits for each
+-- answer
 abbrev pub server_events : ℕ → ℕ
 server_events n = hand_out_events * (n + workers) + 2 * n
 
--- For so many requests. All blocks are the server's: block w says that worker w is idle, and behind these is one for the answer to
--- each request.
+-- The configuration of a pool for n requests. All blocks are the server's: block w says that worker w is idle, and after these
+-- there is a block for the answer to each request.
 abbrev pub pool_setup : ℕ → Setup
 pool_setup n = blocks_setup (replicate workers (worker_events n) ++ server_events n ∷ []) (replicate (workers + n) workers)
 
--- the answer to a request: how many days so many weeks have
+-- the answer to a request: how many days this many weeks have
 abbrev pub days_in : ℕ → ℕ
 days_in weeks = 7 * weeks
 

@@ -1,4 +1,4 @@
-//! A server with a pool of workers: each request is handed to a worker that is idle, and answered by a block of its own.
+//! A server with a pool of workers: it hands each request to an idle worker, and the answer to each request has a block.
 #![tactic(auto)]
 
 mod rounds;
@@ -13,10 +13,10 @@ use std::sync::Wait;
 use std::thread::Threads;
 use std::time::Clock;
 
-// What is asked: how many days so many weeks have.
+// The requests: how many days this many weeks have.
 const REQUESTS: [u32; 8] = [2, 7, 1, 8, 28, 18, 28, 52];
 
-// How many are answered in a round, where they are answered in rounds.
+// How many requests are answered in a round, by the service that works in rounds.
 const ROUND: usize = 3;
 
 fn tell_answers(rt: &impl Print, answers: &[u32]) -> io::Result<()> {

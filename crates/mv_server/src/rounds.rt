@@ -1,5 +1,5 @@
-//! A service that outlives its stations: a station has a budget of events for its life, so requests without a limit are answered
-//! in rounds, each on a station of its own. Clauses cite `specs/Pool.antt`.
+//! A service that outlives its stations. A station has a budget of events for its life, so requests without a limit are answered
+//! in rounds, each on a new station. Clauses cite `specs/Pool.antt`.
 
 ghost use Rattle.std.specs.Prelude.{◌≡◌, ◌<◌, ◌≤◌, ◌++◌, length, map, IfOk, OnOk, All};
 ghost use Rattle.std.specs.List.{AllByRecursion};
@@ -15,12 +15,13 @@ use std::sync::Wait;
 use std::thread::Threads;
 use std::time::Clock;
 
-/// Answers each of these requests, however many there are, so many in a round: 1 to 10,000. Each round has a station that is opened
-/// for it and closed, and its history is judged before the next begins.
+/// Answers each of these requests, however many there are, `round` of them in a round, 1 to 10,000.
+///
+/// Each round has a station that is opened for it and closed, and its history is judged before the next round begins.
 ///
 /// # Errors
 ///
-/// `NoMemory` where there is not enough for a round.
+/// `NoMemory` if memory runs out in a round.
 pub fn serve_in_rounds<R: Threads + Wait + Clock + Sync>(
     rt: &R,
     alloc: Global,
@@ -42,7 +43,7 @@ pub fn serve_in_rounds<R: Threads + Wait + Clock + Sync>(
     Ok(answers)
 }
 
-// One round: what it answers is added to the answers so far, which are all that it leaves.
+// Runs one round, and appends its answers to those so far. Nothing else remains of the round.
 fn serve_round<R: Threads + Wait + Clock + Sync>(
     rt: &R,
     alloc: Global,
@@ -62,7 +63,7 @@ fn serve_round<R: Threads + Wait + Clock + Sync>(
     Ok(())
 }
 
-// Judges the history of a round. It is proved to be legal, so nothing but memory can be wanting.
+// Judges the history of a round. The history is proved to be legal, so this fails only if memory runs out.
 fn judge(alloc: Global, history: History) -> Result<(), NoMemory>
     requires legal { Legal history.config history.coming }
     requires places { All (λ e. e.place ≤ highest_place) history.coming }

@@ -22,26 +22,26 @@ use std::sync::Wait;
 use std::thread::Threads;
 use std::time::Clock;
 
-/// How many workers there are. Worker w is caller w, its element is w, and block w says that it is idle. Behind these blocks there
-/// is one for the answer to each request.
+/// The number of workers. Worker w is caller w, its element is w, and block w says that it is idle. After these blocks there is
+/// one for the answer to each request.
 const WORKERS: u32 = 3;
 
 /// The blocks that say of each worker that it is idle.
 const IDLE: [u32; WORKERS as usize] = [0, 1, 2];
 
-/// The code that tells a worker that no request follows. Request r is handed out as r + 1.
+/// The code that says to a worker that no request follows. Request r is handed out with the code r + 1.
 const STOP: u32 = 0;
 
-/// What came of some requests.
+/// The results of a service.
 #[derive(Drop)]
 pub struct Served {
     /// The answer to each request.
     pub answers: Vec<u32>,
-    /// All events, as one legal history, with the configuration that they were answered with.
+    /// All events, as one legal history, with the configuration of the run.
     pub history: History,
 }
 
-/// What the server is asked: how many days so many weeks have.
+/// Returns the answer to a request: how many days this many weeks have.
 pub fn answer_to(weeks: u32) -> u32
     requires { weeks < weeks_limit }
     ensures { result ≡ days_in weeks }
@@ -49,22 +49,24 @@ pub fn answer_to(weeks: u32) -> u32
     7 * weeks
 }
 
-// The workers are the callers from 0 on, and the server, which waits on all blocks, is the last.
+// The workers are the callers from 0 on, and the server, which owns all blocks, is the last one.
 #[tactic(auto, using(crate::proofs::Pool::owners_exist, crate::proofs::Pool::budgets_fit))]
 fn pool_config(alloc: Global, requests: u32) -> Result<ValidConfig, NoMemory>
     requires few { requests ≤ requests_limit }
     ensures { IfOk result (λ config. config ≡ pool_setup requests) }
 {
-    // A worker opens its element, and posts, pauses and posts, at most for each request and for the stop.
+    // A worker opens its element; for each request and for the stop it makes at most a post, the two events of a pause, and a
+    // post.
     let mut budgets = vec![in alloc; 4 * requests + 5; WORKERS as usize]?;
-    // The server waits on the workers' blocks, and clears and releases, for each request and each worker, and waits for each answer.
+    // For each request and each worker's stop the server waits for the workers' blocks, and at most clears and releases each; and
+    // it waits for each answer.
     budgets.push(4 * WORKERS * (requests + WORKERS) + 2 * requests)?;
     let owners = vec![in alloc; WORKERS; (WORKERS + requests) as usize]?;
     config_of_blocks(alloc, &budgets, &owners)
 }
 
-// A worker: tells that it is idle and with which generation it pauses, answers the request that it is handed, and so on until it is
-// told to stop.
+// The work of a worker: it posts that it is idle, with the generation of its next pause, pauses, and answers the request that it
+// is given, until it is given the stop.
 fn work<R: Wait + Clock>(rt: &R, station: &Station, task: &mut Task, requests: &[u32])
     requires ready { CanServe station.now requests.now task.old }
     requires new { task.old.log ≡ [] }
@@ -94,7 +96,7 @@ fn work<R: Wait + Clock>(rt: &R, station: &Station, task: &mut Task, requests: &
     }
 }
 
-// Waits until a worker is idle, and hands this code to the first that takes it.
+// Waits until a worker is idle, and hands this code to the first worker that accepts it.
 fn hand_out<R: Wait + Clock>(
     rt: &R,
     station: &Station,
@@ -114,7 +116,7 @@ fn hand_out<R: Wait + Clock>(
     };
     for worker in 0..WORKERS {
         if let WaitSlot::Complete(generation) = found[worker as usize] {
-            // Cleared first: the worker may be idle again before the release returns.
+            // The block is cleared first, because the worker may be idle again before the release returns.
             let Ok(_) = station.clear(rt, task, worker) else {
                 unreachable!()
             };
@@ -122,8 +124,9 @@ fn hand_out<R: Wait + Clock>(
                 element: worker,
                 generation,
             };
-            // Whether this pause is over hangs on what the worker did, so no clause of the server's excludes that it is refused. Then
-            // the next that is idle has the code; where there is none, nobody has it, and the wait for its answer does not end.
+            // Whether this token is still current depends on what the worker did, so no clause of the server excludes that the
+            // release is refused. Then the next idle worker gets the code; if there is none, no worker gets it, and the wait for
+            // its answer never ends.
             if release(station, rt, task, token, code).is_ok() {
                 return;
             }
@@ -131,7 +134,7 @@ fn hand_out<R: Wait + Clock>(
     }
 }
 
-// Waits for the block of a request, and answers the code that it was posted with.
+// Waits for the block of a request, and returns the code with which it was posted.
 fn await_answer<R: Wait + Clock>(
     rt: &R,
     station: &Station,
@@ -149,7 +152,7 @@ fn await_answer<R: Wait + Clock>(
     station.wait_one(rt, task, block)
 }
 
-// The server: hands out each request, stops each worker, and waits for each answer, in order.
+// The work of the server: it hands out each request, stops each worker, and waits for each answer, in order.
 fn serve<R: Wait + Clock>(
     rt: &R,
     station: &Station,
@@ -175,7 +178,8 @@ fn serve<R: Wait + Clock>(
     }
 }
 
-// What the tasks do: the workers answer, and the server, which is behind them, hands out these requests and finds the answers.
+// The work of all tasks: the workers answer, and the server, which is the task after them, hands out these requests and collects
+// the answers.
 #[derive(Drop)]
 struct Pool<'a> {
     requests: &'a [u32],
@@ -203,7 +207,7 @@ impl Work for Pool<'_> {
     }
 }
 
-// An empty list for each task, with room for all answers: one of them is the server's.
+// An empty list for each task, with room for all answers; only the server fills its list.
 fn rooms_for(alloc: Global, requests: usize) -> Result<Vec<Vec<u32>>, NoMemory>
     ensures count { IfOk result (λ rooms. length rooms.items ≡ workers + 1) }
     ensures room { IfOk result (λ rooms. AllByRecursion (HasRoom requests) rooms.items) }
@@ -219,7 +223,7 @@ fn rooms_for(alloc: Global, requests: usize) -> Result<Vec<Vec<u32>>, NoMemory>
 ///
 /// # Errors
 ///
-/// `NoMemory` where there is not enough, before the tasks start.
+/// `NoMemory` if memory runs out, before any task starts.
 pub fn serve_all<R: Threads + Wait + Clock + Sync>(
     rt: &R,
     alloc: Global,
@@ -231,7 +235,7 @@ pub fn serve_all<R: Threads + Wait + Clock + Sync>(
     ensures posted { IfOk result (λ served. (r : ℕ) → r < length requests.now
         → IsWorkersPost served.history.coming (workers + r) (slice_index served.answers.items r)) }
     ensures config { IfOk result (λ served. served.history.config ≡ pool_setup (length requests.now)) }
-    // None of them is given yet.
+    // No entry of the history has been read yet.
     ensures whole { IfOk result (λ served. served.history.past ≡ []) }
     ensures legal { IfOk result (λ served. Legal served.history.config served.history.coming) }
     ensures places { IfOk result (λ served. All (λ e. e.place ≤ highest_place) served.history.coming) }
@@ -241,7 +245,7 @@ pub fn serve_all<R: Threads + Wait + Clock + Sync>(
     let (station, tasks) = Station::open(alloc, config)?;
     let pool = Pool { requests };
     let (tasks, mut rooms) = run_tasks(rt, alloc, &station, &pool, tasks, rooms)?;
-    // The server is the last.
+    // The server's room is the last one.
     let Some(answers) = rooms.pop() else {
         unreachable!()
     };
