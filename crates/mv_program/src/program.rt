@@ -24,10 +24,10 @@ use std::sync::Wait;
 use std::thread::Threads;
 use std::time::Clock;
 
-/// The machine, the memory and the gate that a run of the program uses.
+/// The runtime, the memory and the gate that a run of the program uses.
 #[derive(Drop)]
 pub struct Host<'a, X, G> {
-    /// The machine, which starts the threads.
+    /// The runtime, which starts the threads.
     pub rt: &'a X,
     /// The allocator of all memory.
     pub alloc: Global,
