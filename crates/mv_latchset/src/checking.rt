@@ -1,10 +1,8 @@
 //! The state of a request. Clauses cite `LatchCalls.antt` of mv_calls, `Run.antt` of mv_wait, and `specs/Answers.antt`.
 
 ghost use Rattle.std.specs.Prelude.{◌≡◌, ◌<◌};
-ghost use Rattle.mv_board.specs.Faces.{IsOf};
 ghost use Rattle.mv_calls.specs.LatchCalls.{check_latch};
-ghost use Rattle.mv_calls.specs.Rest.{IsAtRest};
-ghost use Rattle.mv_wait.specs.Run.{IsServed};
+ghost use Rattle.mv_wait.specs.Run.{IsServed, MayCall};
 ghost use Rattle.mv_latchset.specs.Answers.{standing_as};
 
 use crate::replies::standing_in;
@@ -24,10 +22,8 @@ pub fn check_latch<R: Wait>(
     task: &mut Task,
     token: LatchToken,
 ) -> Standing
-    requires task { IsOf station.now task.old }
-    requires rest { IsAtRest task.old.log }
+    requires task { MayCall station.now 1 task.old }
     requires latch { token.latch < station.now.config.latches }
-    requires left { 0 < task.old.left }
     ensures served { IsServed 1 (check_latch token.latch token.id) (λ a. a ≡ standing_as result) task.old task.new }
 {
     let reply = station.event(

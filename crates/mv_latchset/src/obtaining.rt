@@ -1,7 +1,7 @@
 //! Requests for latches. Clauses cite `LatchCalls.antt` and `Services.antt` of mv_calls, `Run.antt` of mv_wait, and
 //! `specs/Answers.antt` and `specs/Obtaining.antt`.
 
-ghost use Rattle.std.specs.Prelude.{◌≡◌, ◌<◌, ◌≤◌, ℕ, not, length, option_map, None, IfSome, IfOk, MatchResult};
+ghost use Rattle.std.specs.Prelude.{◌≡◌, ◌<◌, ℕ, not, length, option_map, None, IfSome, IfOk, MatchResult};
 ghost use Rattle.std.specs.List.{Contains};
 ghost use Rattle.mv_latch.specs.declared.operation.LatchOp.TheVariants.{Obtain, Confirm};
 ghost use Rattle.mv_latch.specs.declared.request.LatchForm.TheVariants.{Waiting};
@@ -13,9 +13,8 @@ ghost use Rattle.mv_board.specs.Faces.{CallerFace, IsOf};
 ghost use Rattle.mv_board.specs.declared.watch.Watch.TheVariants as watch;
 ghost use Rattle.mv_calls.specs.Keeping.{kept_of};
 ghost use Rattle.mv_calls.specs.LatchCalls.{obtain, obtain_refusal};
-ghost use Rattle.mv_calls.specs.Rest.{IsAtRest};
 ghost use Rattle.mv_calls.specs.Services.{obtain_events};
-ghost use Rattle.mv_wait.specs.Run.{IsServed};
+ghost use Rattle.mv_wait.specs.Run.{IsServed, MayCall};
 ghost use Rattle.mv_latchset.specs.Answers.{obtain_answer, obtain_refused};
 ghost use Rattle.mv_latchset.specs.Obtaining.{IsAnswered, IsObtainedBy, IsRefusedBy, IsOfLatch, settled_reply};
 ghost use Rattle.mv_latchset.specs.Polling.{IsObtaining, IsObtainMade, IsBegun};
@@ -88,10 +87,8 @@ pub fn obtain<R: Wait + Clock>(
     mode: Mode,
     form: LatchForm,
 ) -> Result<Obtained, ObtainRefusal>
-    requires task { IsOf station.now task.old }
-    requires rest { IsAtRest task.old.log }
+    requires task { MayCall station.now (obtain_events form) task.old }
     requires block { IfSome (posted_ecb form) (λ e. e < length station.now.config.owners) }
-    requires left { obtain_events form ≤ task.old.left }
     ensures served { IsServed (obtain_events form) (obtain station.now.config latch requestor mode form)
         (λ a. a ≡ obtain_answer result) task.old task.new }
     ensures causes { MatchResult result
@@ -130,10 +127,8 @@ pub fn begin_obtain<R: Wait>(
     mode: Mode,
     form: LatchForm,
 ) -> Asking
-    requires task { IsOf station.now task.old }
-    requires rest { IsAtRest task.old.log }
+    requires task { MayCall station.now (obtain_events form) task.old }
     requires block { IfSome (posted_ecb form) (λ e. e < length station.now.config.owners) }
-    requires left { obtain_events form ≤ task.old.left }
     ensures begun { IsBegun station.now.config latch requestor mode form task.old result task.new }
     ensures returned { task.new.returned ≡ task.old.returned }
 {

@@ -1,11 +1,9 @@
 //! Purges of a requestor. Clauses cite `LatchCalls.antt` of mv_calls, `Run.antt` of mv_wait, and `specs/Answers.antt`.
 
-ghost use Rattle.std.specs.Prelude.{◌≡◌, ◌≤◌};
+ghost use Rattle.std.specs.Prelude.{◌≡◌};
 ghost use Rattle.mv_machine.specs.Reach.{release_cost};
-ghost use Rattle.mv_board.specs.Faces.{IsOf};
 ghost use Rattle.mv_calls.specs.LatchCalls.{purge};
-ghost use Rattle.mv_calls.specs.Rest.{IsAtRest};
-ghost use Rattle.mv_wait.specs.Run.{IsServed};
+ghost use Rattle.mv_wait.specs.Run.{IsServed, MayCall};
 ghost use Rattle.mv_latchset.specs.Answers.{counts_of};
 
 use crate::replies::purged_in;
@@ -31,9 +29,7 @@ pub struct Purged {
 /// The call makes at most as many events as `ValidConfig::release_cost` gives; these must be left. It does not park; it spins
 /// until it gets its turn at the lists.
 pub fn purge<R: Wait>(station: &Station, rt: &R, task: &mut Task, requestor: u64) -> Purged
-    requires task { IsOf station.now task.old }
-    requires rest { IsAtRest task.old.log }
-    requires left { release_cost station.now.config ≤ task.old.left }
+    requires task { MayCall station.now (release_cost station.now.config) task.old }
     ensures served { IsServed (release_cost station.now.config) (purge station.now.config requestor)
         (λ a. a ≡ counts_of result) task.old task.new }
 {

@@ -1,12 +1,10 @@
 //! Releases of latches. Clauses cite `LatchCalls.antt` of mv_calls, `Run.antt` of mv_wait, and `specs/Answers.antt` and
 //! `specs/Releasing.antt`.
 
-ghost use Rattle.std.specs.Prelude.{◌≡◌, ◌<◌, ◌≤◌};
+ghost use Rattle.std.specs.Prelude.{◌≡◌, ◌<◌};
 ghost use Rattle.mv_machine.specs.Reach.{release_cost};
-ghost use Rattle.mv_board.specs.Faces.{IsOf};
 ghost use Rattle.mv_calls.specs.LatchCalls.{release_latch};
-ghost use Rattle.mv_calls.specs.Rest.{IsAtRest};
-ghost use Rattle.mv_wait.specs.Run.{IsServed};
+ghost use Rattle.mv_wait.specs.Run.{IsServed, MayCall};
 ghost use Rattle.mv_latchset.specs.Answers.{freed_answer};
 ghost use Rattle.mv_latchset.specs.Releasing.{IsReleasedBy};
 
@@ -47,10 +45,8 @@ pub fn release_latch<R: Wait>(
     token: LatchToken,
     conditional: bool,
 ) -> Result<u32, ReleaseLatchRefusal>
-    requires task { IsOf station.now task.old }
-    requires rest { IsAtRest task.old.log }
+    requires task { MayCall station.now (release_cost station.now.config) task.old }
     requires latch { token.latch < station.now.config.latches }
-    requires left { release_cost station.now.config ≤ task.old.left }
     ensures served { IsServed (release_cost station.now.config)
         (release_latch station.now.config token.latch token.id conditional) (λ a. a ≡ freed_answer result) task.old task.new }
     ensures causes { IsReleasedBy station.now.config token.latch token.id conditional task.old result task.new }

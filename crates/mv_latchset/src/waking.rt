@@ -1,13 +1,14 @@
 //! What follows a release or a purge: for each wake a block is posted, or a task is woken. Clauses cite `specs/Waking.antt`, and
 //! `Waking.antt` of mv_machine.
 
-ghost use Rattle.std.specs.Prelude.{◌≡◌, ◌<◌, ◌≤◌, ◌∷◌, [], length, slice_get, Some};
+ghost use Rattle.std.specs.Prelude.{◌≡◌, ◌<◌, ◌∷◌, [], length, slice_get, Some};
 ghost use Rattle.std.specs.List.{All};
 ghost use Rattle.mv_machine.specs.Reach.{reach, total};
 ghost use Rattle.mv_machine.specs.Waking.{IsFairWake, blocks_of};
-ghost use Rattle.mv_board.specs.Faces.{IsOf, last_of};
+ghost use Rattle.mv_board.specs.Faces.{last_of};
 ghost use Rattle.mv_calls.specs.Rest.{IsAtRest};
 ghost use Rattle.mv_latchset.specs.Waking.{PostsWakes};
+ghost use Rattle.mv_wait.specs.Run.{MayCall};
 
 use mv_latch::Wake;
 use mv_wait::{Station, Task};
@@ -15,10 +16,8 @@ use std::sync::Wait;
 
 /// Posts the block or wakes the task of each wake of the task's last event on the latch set, in order.
 pub(crate) fn post_wakes<R: Wait>(station: &Station, rt: &R, task: &mut Task)
-    requires task { IsOf station.now task.old }
-    requires rest { IsAtRest task.old.log }
+    requires task { MayCall station.now (total (reach station.now.config) (blocks_of task.old.wakes)) task.old }
     requires fair { All (IsFairWake station.now.config) task.old.wakes }
-    requires left { total (reach station.now.config) (blocks_of task.old.wakes) ≤ task.old.left }
     ensures posted { PostsWakes station.now.config task.old.wakes task.old task.new }
     ensures rest { IsAtRest task.new.log }
 {
@@ -39,10 +38,8 @@ fn wake_at(task: &Task, i: usize) -> Wake
 
 // Posts the block of a wake, or wakes its task if it has no block.
 fn post_wake<R: Wait>(station: &Station, rt: &R, task: &mut Task, wake: Wake)
-    requires task { IsOf station.now task.old }
-    requires rest { IsAtRest task.old.log }
+    requires task { MayCall station.now (total (reach station.now.config) (blocks_of (wake ∷ []))) task.old }
     requires fair { IsFairWake station.now.config wake }
-    requires left { total (reach station.now.config) (blocks_of (wake ∷ [])) ≤ task.old.left }
     ensures posted { PostsWakes station.now.config (wake ∷ []) task.old task.new }
     ensures rest { IsAtRest task.new.log }
     ensures told { task.new.told ≡ task.old.told }

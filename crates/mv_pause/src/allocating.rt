@@ -7,8 +7,7 @@ ghost use Rattle.mv_machine.specs.Limits.{highest_generation};
 ghost use Rattle.mv_board.specs.Faces.{IsOf};
 ghost use Rattle.mv_calls.specs.Keeping.{kept_of};
 ghost use Rattle.mv_calls.specs.Pauses.{allocate, lowest_free};
-ghost use Rattle.mv_calls.specs.Rest.{IsAtRest};
-ghost use Rattle.mv_wait.specs.Run.{IsServed};
+ghost use Rattle.mv_wait.specs.Run.{IsServed, MayCall};
 ghost use Rattle.mv_pause.specs.Answers.{allocate_answer};
 
 use crate::replies::opened;
@@ -32,9 +31,7 @@ pub struct NoElement;
 ///
 /// `NoElement` if all of the task's own elements are in use; then no event is made.
 pub fn allocate<R: Wait>(station: &Station, rt: &R, task: &mut Task) -> Result<Token, NoElement>
-    requires task { IsOf station.now task.old }
-    requires rest { IsAtRest task.old.log }
-    requires left { 0 < task.old.left }
+    requires task { MayCall station.now 1 task.old }
     ensures served { IsServed 1 (allocate station.now.config) (λ a. a ≡ allocate_answer result) task.old task.new }
     ensures causes { MatchResult result
         (λ token. lowest_free station.now.config (kept_of task.old.number task.old.log) ≡ Some token.element)

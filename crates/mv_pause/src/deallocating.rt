@@ -4,11 +4,9 @@ ghost use Rattle.std.specs.Prelude.{◌≡◌, ◌<◌, false, Ok, MatchResult};
 ghost use Rattle.mv_element.specs.declared.operation.ElementOp.TheVariants as element_op;
 ghost use Rattle.mv_element.specs.declared.operation.ElementReply.TheVariants as element_reply;
 ghost use Rattle.mv_machine.specs.Setup.{element_count};
-ghost use Rattle.mv_board.specs.Faces.{IsOf};
 ghost use Rattle.mv_calls.specs.Keeping.{kept_of};
 ghost use Rattle.mv_calls.specs.Pauses.{deallocate, is_others_token};
-ghost use Rattle.mv_calls.specs.Rest.{IsAtRest};
-ghost use Rattle.mv_wait.specs.Run.{IsServed};
+ghost use Rattle.mv_wait.specs.Run.{IsServed, MayCall};
 ghost use Rattle.mv_pause.specs.Answers.{deallocate_answer, IsLow};
 ghost use Rattle.mv_pause.specs.Deallocating.{IsDeallocateCause};
 ghost use Rattle.mv_pause.specs.Pausing.{IsCurrent};
@@ -47,10 +45,8 @@ pub fn deallocate<R: Wait>(
     task: &mut Task,
     token: Token,
 ) -> Result<(), DeallocateRefusal>
-    requires task { IsOf station.now task.old }
-    requires rest { IsAtRest task.old.log }
+    requires task { MayCall station.now 1 task.old }
     requires element { token.element < element_count station.now.config }
-    requires left { 0 < task.old.left }
     ensures served { IsServed 1 (deallocate station.now.config token) (λ a. a ≡ deallocate_answer result) task.old task.new }
     ensures causes { MatchResult result
         (λ _. (is_others_token station.now.config (kept_of task.old.number task.old.log) token ≡ false)

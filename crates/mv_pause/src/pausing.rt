@@ -10,8 +10,7 @@ ghost use Rattle.mv_board.specs.Faces.{CallerFace, IsOf};
 ghost use Rattle.mv_board.specs.declared.watch.Watch.TheVariants as watch;
 ghost use Rattle.mv_calls.specs.Keeping.{kept_of};
 ghost use Rattle.mv_calls.specs.Pauses.{gift_of, pause, is_others_token};
-ghost use Rattle.mv_calls.specs.Rest.{IsAtRest};
-ghost use Rattle.mv_wait.specs.Run.{IsServed};
+ghost use Rattle.mv_wait.specs.Run.{IsServed, MayCall};
 ghost use Rattle.mv_pause.specs.Answers.{gift_as, pause_answer, IsLow};
 ghost use Rattle.mv_pause.specs.Pausing.{IsCurrent, IsGiven, IsPauseCause, IsPausedOwn, IsPauseMade, IsPausing, MayPause};
 ghost use Rattle.mv_pause.specs.Replies.{HappenedOn};
@@ -68,10 +67,8 @@ pub fn pause<R: Wait + Clock>(
     task: &mut Task,
     token: Token,
 ) -> Result<Given, PauseRefusal>
-    requires task { IsOf station.now task.old }
-    requires rest { IsAtRest task.old.log }
+    requires task { MayCall station.now 2 task.old }
     requires element { token.element < element_count station.now.config }
-    requires left { 2 ≤ task.old.left }
     ensures served { IsServed 2 (pause station.now.config token) (λ a. a ≡ pause_answer result) task.old task.new }
     ensures causes { MatchResult result
         (λ given. (is_others_token station.now.config (kept_of task.old.number task.old.log) token ≡ false)
@@ -134,11 +131,9 @@ pub(crate) fn pause_own<R: Wait + Clock>(
     task: &mut Task,
     token: Token,
 ) -> Result<Given, PauseRefusal>
-    requires task { IsOf station.now task.old }
-    requires rest { IsAtRest task.old.log }
+    requires task { MayCall station.now 2 task.old }
     requires element { token.element < element_count station.now.config }
     requires own { element_owner station.now.config token.element ≡ task.old.number }
-    requires left { 2 ≤ task.old.left }
     ensures { IsPausedOwn token task.old result task.new }
 {
     if let Some(over) = begin_own(station, rt, task, token) {
@@ -156,11 +151,9 @@ fn begin_own<R: Wait>(
     task: &mut Task,
     token: Token,
 ) -> Option<Result<Given, PauseRefusal>>
-    requires task { IsOf station.now task.old }
-    requires rest { IsAtRest task.old.log }
+    requires task { MayCall station.now 2 task.old }
     requires own { element_owner station.now.config token.element ≡ task.old.number }
     requires element { token.element < element_count station.now.config }
-    requires left { 2 ≤ task.old.left }
     ensures { MatchOption result
         (HappenedOn token task.old (Pause token.generation) Parked task.new)
         (λ r. IsPausedOwn token task.old r task.new) }

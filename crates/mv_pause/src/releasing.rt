@@ -4,10 +4,9 @@ ghost use Rattle.std.specs.Prelude.{◌≡◌, ◌<◌, IfOk, IfSome, Some};
 ghost use Rattle.mv_element.specs.declared.operation.ElementOp.TheVariants as element_op;
 ghost use Rattle.mv_element.specs.Table.{release_limit};
 ghost use Rattle.mv_machine.specs.Setup.{element_count};
-ghost use Rattle.mv_board.specs.Faces.{IsOf};
 ghost use Rattle.mv_calls.specs.Pauses.{release, try_release};
 ghost use Rattle.mv_calls.specs.Rest.{IsAtRest};
-ghost use Rattle.mv_wait.specs.Run.{IsServed};
+ghost use Rattle.mv_wait.specs.Run.{IsServed, MayCall};
 ghost use Rattle.mv_pause.specs.Answers.{release_answer, try_release_answer, IsLow};
 ghost use Rattle.mv_pause.specs.Releasing.{HasNoPause, IsTried};
 ghost use Rattle.mv_pause.specs.Replies.{HappenedOn, reply_to_release};
@@ -71,11 +70,9 @@ pub fn release<R: Wait>(
     token: Token,
     code: u32,
 ) -> Result<ReleaseAnswer, ReleaseRefusal>
-    requires task { IsOf station.now task.old }
-    requires rest { IsAtRest task.old.log }
+    requires task { MayCall station.now 1 task.old }
     requires element { token.element < element_count station.now.config }
     requires code { code < release_limit }
-    requires left { 0 < task.old.left }
     ensures served { IsServed 1 (release token code) (λ a. a ≡ release_answer result) task.old task.new }
     ensures causes { HappenedOn token task.old (element_op.Release token.generation code) (reply_to_release result) task.new }
     ensures low { IsLow (release_answer result) }
@@ -106,12 +103,10 @@ pub fn try_release(
     expected: u64,
     code: u32,
 ) -> Result<ReleaseAnswer, TryReleaseRefusal>
-    requires task { IsOf station.now task.old }
-    requires rest { IsAtRest task.old.log }
+    requires task { MayCall station.now 1 task.old }
     requires element { token.element < element_count station.now.config }
     requires unpaused { HasNoPause token.element expected }
     requires code { code < release_limit }
-    requires left { 0 < task.old.left }
     ensures served { IfSome (try_release_answer result)
         (λ is. IsServed 1 (try_release token expected code) (λ a. a ≡ is) task.old task.new) }
     ensures causes { IsTried token expected code task.old result task.new }

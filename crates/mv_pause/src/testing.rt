@@ -3,10 +3,8 @@
 ghost use Rattle.std.specs.Prelude.{◌≡◌, ◌<◌, ◌≤◌};
 ghost use Rattle.mv_machine.specs.Setup.{element_count};
 ghost use Rattle.mv_machine.specs.Limits.{highest_generation};
-ghost use Rattle.mv_board.specs.Faces.{IsOf};
 ghost use Rattle.mv_calls.specs.Pauses.{test_element};
-ghost use Rattle.mv_calls.specs.Rest.{IsAtRest};
-ghost use Rattle.mv_wait.specs.Run.{IsServed};
+ghost use Rattle.mv_wait.specs.Run.{IsServed, MayCall};
 
 use crate::replies::state;
 use mv_element::ElementState;
@@ -18,10 +16,8 @@ use mv_wait::{Station, Task};
 ///
 /// The call makes one event, which must be left. It never waits.
 pub fn test_element(station: &Station, task: &mut Task, element: u32) -> ElementState
-    requires task { IsOf station.now task.old }
-    requires rest { IsAtRest task.old.log }
+    requires task { MayCall station.now 1 task.old }
     requires element { element < element_count station.now.config }
-    requires left { 0 < task.old.left }
     ensures served { IsServed 1 (test_element element) (λ a. a ≡ result) task.old task.new }
     ensures low { result.generation ≤ highest_generation }
 {

@@ -10,7 +10,7 @@ ghost use Rattle.mv_calls.specs.Keeping.{kept_of};
 ghost use Rattle.mv_calls.specs.Pauses.{transfer, transfer_refusal};
 ghost use Rattle.mv_calls.specs.Rest.{IsAtRest};
 ghost use Rattle.mv_calls.specs.Services.{transfer_events};
-ghost use Rattle.mv_wait.specs.Run.{IsServed};
+ghost use Rattle.mv_wait.specs.Run.{IsServed, MayCall};
 ghost use Rattle.mv_pause.specs.Answers.{transfer_answer, transfer_refused, IsLow, IsLowRefusal};
 ghost use Rattle.mv_pause.specs.Transferring.{target_refused, IsPausedBy, IsGivenTo, IsTransferCause};
 
@@ -59,12 +59,10 @@ pub fn transfer<R: Wait + Clock>(
     target: Token,
     code: u32,
 ) -> Result<Option<Given>, TransferRefusal>
-    requires task { IsOf station.now task.old }
-    requires rest { IsAtRest task.old.log }
+    requires task { MayCall station.now (transfer_events current) task.old }
     requires current { IfSome current (λ t. t.element < element_count station.now.config) }
     requires target { target.element < element_count station.now.config }
     requires code { code < release_limit }
-    requires left { transfer_events current ≤ task.old.left }
     ensures served { IsServed (transfer_events current) (transfer station.now.config current target code)
         (λ a. a ≡ transfer_answer result) task.old task.new }
     ensures causes { MatchResult result

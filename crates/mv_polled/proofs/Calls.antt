@@ -14,7 +14,7 @@ use Rattle.mv_work.specs.declared.need.Need.{Need}
 use Rattle.mv_work.specs.declared.need.Need.TheVariants as need
 use Rattle.mv_work.specs.Meeting.{MayMeet}
 use Rattle.mv_work.specs.Needs.{need_events}
-use Rattle.mv_work.specs.Waiting.{IsResting}
+use Rattle.mv_wait.specs.Run.{MayCall}
 
 -- a need that can be met fits a meeting
 pub need_fits : (c : Setup) (k : ℕ) (n : Need) → MayMeet c k n → IsNeed n
@@ -23,7 +23,7 @@ need_fits c k (need.Block e) may = tt
 need_fits c k (need.Pause token) may = tt
 need_fits c k (need.Latch latch requestor mode) may = tt
 
-taken_meets : (b : BoardFace) (n : Need) (k : Call) (w : WaitFace) (u : CallerFace) → IsResting b (need_events n) u
+taken_meets : (b : BoardFace) (n : Need) (k : Call) (w : WaitFace) (u : CallerFace) → MayCall b (need_events n) u
     → MayMeet b.config u.number n → IsTaken n k w → IsCallOf b.config n k w u u
 taken_meets b (need.Blocks bl) call.Wait w u rests may is =
     let len : length (take bl.len bl.of) ≡ bl.len = length-take-le bl.len bl.of (let few = may.0 in let room = may.1 in omega arith) in
@@ -33,27 +33,27 @@ taken_meets b (need.Blocks bl) call.Wait w u rests may is =
       may.0,
       may.1,
       subst (λ (f : WaitFace). IsWaitAt b.config f u u) (sym is)
-          (refl, record { rest = rests.quiet; blocks = may.2; left = omega arith }),
+          (refl, record { rest = rests.rest; blocks = may.2; left = omega arith }),
     )
 taken_meets b (need.Block e) call.Block w u rests may is = (
   ap (λ (f : WaitFace). f.count) is,
   ap (λ (f : WaitFace). f.ecbs) is,
   subst (λ (f : WaitFace). IsWaitAt b.config f u u) (sym is)
-      (refl, record { rest = rests.quiet; blocks = (may.0, tt); left = rests.left }),
+      (refl, record { rest = rests.rest; blocks = (may.0, tt); left = rests.left }),
 )
 taken_meets b (need.Pause token) (call.Pause p) w u rests may is = (
   ap (λ (f : PauseFace). f.token) is,
-  subst (λ (f : PauseFace). IsPauseAt b.config f u u) (sym is) (refl, record { rest = rests.quiet; element = may; left = rests.left }),
+  subst (λ (f : PauseFace). IsPauseAt b.config f u u) (sym is) (refl, record { rest = rests.rest; element = may; left = rests.left }),
 )
 taken_meets b (need.Latch latch requestor mode) (call.Obtain q) w u rests may is = (
   ap (λ (f : ObtainFace). f.latch) is,
   ap (λ (f : ObtainFace). f.requestor) is,
   ap (λ (f : ObtainFace). f.mode) is,
-  subst (λ (f : ObtainFace). IsObtainAt b.config f u u) (sym is) (refl, record { rest = rests.quiet; left = rests.left }),
+  subst (λ (f : ObtainFace). IsObtainAt b.config f u u) (sym is) (refl, record { rest = rests.rest; left = rests.left }),
 )
 taken_meets b n k w u rests may is = absurd is
 
 -- the call of a need that was taken up may be polled for the first time
-pub new_meets : (b : BoardFace) (n : Need) (m : Meeting) (u : CallerFace) → IsResting b (need_events n) u
+pub new_meets : (b : BoardFace) (n : Need) (m : Meeting) (u : CallerFace) → MayCall b (need_events n) u
     → MayMeet b.config u.number n → IsTakenUp n m → IsMeeting b.config n m u u
 new_meets b n m u rests may is = taken_meets b n m.call m.wait u rests may is

@@ -45,7 +45,7 @@ module _ (s : SpoolFace) (config : s.board.config ≡ spool_setup s.jobs s.initi
         go (Ok (Some n)) taken come =
             let at = waits_ready s t n p.task p.work.role config come in
             subst (Stands s k t p) (sym taken.0)
-            (n, p.task, come, same_caller p.task, new_meets s.board n p.meeting p.task at.rests at.may taken.1)
+            (n, p.task, come, same_caller p.task, new_meets s.board n p.meeting p.task at.task at.may taken.1)
         go (Ok None) taken come = subst (Stands s k t p) (sym taken) (done_worked s p.work.role t p.task come)
         go (Err lost) taken come = subst (Stands s k t p) (sym taken) (lost_worked s p.work.role t p.task come)
 

@@ -1,8 +1,8 @@
 -- One call of a script, by what its service did.
-use Rattle.std.proofs.Common.{◌≡◌, ℕ, zero, suc, ◌-◌, ◌≤◌, false, List, [], ◌∷◌, ◌++◌, get_or, Option, Some, None}
+use Rattle.std.proofs.Common.{◌≡◌, ℕ, zero, suc, ◌-◌, false, List, [], ◌∷◌, ◌++◌, get_or, Option, Some, None}
 use Rattle.std.proofs.Common.{refl, sym, ap, ◌∙◌, subst, arith}
 use Rattle.std.specs.Prelude.{slice_get, option_map, option_and_then, unwrap_or, is_none}
-use Rattle.mv_board.specs.Faces.{CallerFace, Missed}
+use Rattle.mv_board.specs.Faces.{BoardFace, CallerFace, Missed}
 use Rattle.mv_board.specs.declared.caller.Moved.{Moved}
 use Rattle.mv_calls.specs.Keeping.{kept_of}
 use Rattle.mv_calls.specs.Program.{followed, finished}
@@ -14,7 +14,7 @@ use Rattle.mv_latchset.specs.declared.token.LatchToken.{LatchToken}
 use Rattle.mv_machine.specs.declared.entry.Object.{Object}
 use Rattle.mv_machine.specs.Setup.{Setup}
 use Rattle.mv_calls.specs.declared.table.Table.{Table}
-use Rattle.mv_wait.specs.Run.{IsServed}
+use Rattle.mv_wait.specs.Run.{IsServed, MayCall}
 use Rattle.mv_wait.proofs.Runs.{runs_none, runs_within, runs_look, went_look, serves}
 use Rattle.mv_script.specs.declared.answer.Answer.{Answer}
 use Rattle.mv_script.specs.declared.answer.Answer.TheVariants as answer
@@ -31,9 +31,9 @@ use Rattle.mv_runscript.specs.Served.{Serves}
 use Rattle.mv_runscript.proofs.Answers.{no_word, keeps_requests}
 use Rattle.mv_runscript.proofs.Served.{served_so, served_none, served_then}
 
--- what a call may cost is left, once it is known which call that is
-pub paid : (c : Setup) {d e : Call} {left : ℕ} → d ≡ e → cost c d ≤ left → cost c e ≤ left
-paid c {d} {e} {left} is enough = subst (λ d. cost c d ≤ left) is enough
+-- the task may begin a call of what the call costs, once it is known which call that is
+pub may_paid : (b : BoardFace) {d e : Call} {t : CallerFace} → d ≡ e → MayCall b (cost b.config d) t → MayCall b (cost b.config e) t
+may_paid b {d} {e} {t} is may = subst (λ d. MayCall b (cost b.config d) t) is may
 
 -- ---- a call that is its service's
 

@@ -1,14 +1,13 @@
 //! One call of a script, of any kind (`specs/Making.antt`).
 
 ghost use Rattle.std.specs.Prelude.{◌≡◌, ◌<◌, ◌≤◌, ◌+◌, true, length, count_by, vec_capacity, [], ◌∷◌};
-ghost use Rattle.mv_board.specs.Faces.{IsOf};
-ghost use Rattle.mv_calls.specs.Rest.{IsAtRest};
 ghost use Rattle.mv_calls.specs.Table.{IsSoundTable};
 ghost use Rattle.mv_script.specs.Costs.{cost};
 ghost use Rattle.mv_script.specs.Fault.{obtain_meant};
 ghost use Rattle.mv_script.specs.Script.{is_obtain};
 ghost use Rattle.mv_script.specs.Sound.{IfThere};
 ghost use Rattle.mv_runscript.specs.Making.{MakesCall, AreOfLatches, HaveSlots, IsForScripts, is_wait, token_in, AreGoodIn};
+ghost use Rattle.mv_wait.specs.Run.{MayCall};
 
 use crate::answered::obtained;
 use crate::serving::{serve, wait_in};
@@ -45,9 +44,7 @@ pub(crate) fn make<R: Wait + Clock>(
 ) -> Answer
     requires config { IsForScripts station.now.config }
     requires table { IfThere (IsSoundTable station.now.config) table.now }
-    requires task { IsOf station.now task.old }
-    requires rest { IsAtRest task.old.log }
-    requires left { cost station.now.config call.now ≤ task.old.left }
+    requires task { MayCall station.now (cost station.now.config call.now) task.old }
     requires numbers { AreGoodIn station.now.config table.now call.now }
     requires obtain { IfThere (λ k. (1 ≤ k) × (k ≤ length requests.old.items)) (obtain_meant call.now) }
     requires requests { AreOfLatches requests.old.items }

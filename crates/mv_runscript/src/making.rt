@@ -1,13 +1,12 @@
 //! All calls of a task, one after the other, on its thread. Clauses cite `specs/Making.antt` and `specs/Rooms.antt`.
 
-ghost use Rattle.std.specs.Prelude.{◌≤◌, [], slice_index_or};
-ghost use Rattle.mv_board.specs.Faces.{IsOf};
-ghost use Rattle.mv_calls.specs.Rest.{IsAtRest};
+ghost use Rattle.std.specs.Prelude.{[], slice_index_or};
 ghost use Rattle.mv_calls.specs.Table.{IsSoundTable};
 ghost use Rattle.mv_script.specs.Costs.{costs_of};
 ghost use Rattle.mv_script.specs.Sound.{IfThere, IsSound};
 ghost use Rattle.mv_runscript.specs.Making.{IsForScripts, AreSoundIn, MakesCalls};
 ghost use Rattle.mv_runscript.specs.Rooms.{HasRoom, HasMade, script_with};
+ghost use Rattle.mv_wait.specs.Run.{MayCall};
 
 use crate::calling::make;
 use crate::room::Room;
@@ -51,9 +50,7 @@ fn make_all<R: Wait + Clock>(
     requires config { IsForScripts station.now.config }
     requires table { IfThere (IsSoundTable station.now.config) table.now }
     requires sound { AreSoundIn station.now.config table.now [] calls.now }
-    requires task { IsOf station.now task.old }
-    requires rest { IsAtRest task.old.log }
-    requires left { costs_of station.now.config calls.now ≤ task.old.left }
+    requires task { MayCall station.now (costs_of station.now.config calls.now) task.old }
     requires room { HasRoom calls.now room.old }
     ensures { MakesCalls station.now.config table.now calls.now room.new.answers.items [] room.new.requests.items task.old task.new }
 {

@@ -5,8 +5,6 @@ ghost use Rattle.std.specs.Prelude.{◌≡◌, ◌<◌, ◌≤◌, ◌+◌, ◌*
 ghost use Rattle.std.specs.List.{AllByRecursion};
 ghost use Rattle.mv_ecb.specs.Table.{code_limit};
 ghost use Rattle.mv_machine.specs.Reach.{release_cost};
-ghost use Rattle.mv_board.specs.Faces.{IsOf};
-ghost use Rattle.mv_calls.specs.Rest.{IsAtRest};
 ghost use Rattle.mv_calls.specs.declared.table.Table.{Table};
 ghost use Rattle.mv_calls.specs.Services as service;
 ghost use Rattle.mv_calls.specs.Table.{IsSoundTable};
@@ -19,6 +17,7 @@ ghost use Rattle.mv_script.specs.Sound.{IfThere};
 ghost use Rattle.mv_script.specs.Tasks.{named_table};
 ghost use Rattle.mv_runscript.specs.Making.{MakesCall, AreOfLatches, IsForScripts, is_wait, AreGoodIn};
 ghost use Rattle.mv_runscript.specs.Served.{Serves};
+ghost use Rattle.mv_wait.specs.Run.{MayCall};
 
 use crate::answered::{
     allocated, cleared, deallocated, entered, extended, freed, handed_out, paused, posted, purged,
@@ -44,11 +43,9 @@ pub(crate) fn wait_in<R: Wait + Clock>(
     ecbs: &[u32],
     room: Slots,
 ) -> Answer
-    requires task { IsOf station.now task.old }
-    requires rest { IsAtRest task.old.log }
+    requires task { MayCall station.now (2 * length ecbs.now) task.old }
     requires blocks { AllByRecursion (λ e. e < length station.now.config.owners) ecbs.now }
     requires room { length ecbs.now ≤ length room }
-    requires left { 2 * length ecbs.now ≤ task.old.left }
     ensures { Serves station.now.config (service.Wait count ecbs.now) result task.old task.new }
 {
     let Slots { mut slots } = room;
@@ -68,9 +65,7 @@ pub(crate) fn serve<R: Wait + Clock>(
 ) -> Answer
     requires config { IsForScripts station.now.config }
     requires table { IfThere (IsSoundTable station.now.config) table.now }
-    requires task { IsOf station.now task.old }
-    requires rest { IsAtRest task.old.log }
-    requires left { cost station.now.config call.now ≤ task.old.left }
+    requires task { MayCall station.now (cost station.now.config call.now) task.old }
     requires numbers { AreGoodIn station.now.config table.now call.now }
     requires obtain { IfThere (λ k. (1 ≤ k) × (k ≤ length requests.now)) (obtain_meant call.now) }
     requires requests { AreOfLatches requests.now }
@@ -128,9 +123,7 @@ fn event_posted<R: Wait + Clock>(
     code: u32,
 ) -> Answer
     requires table { IfThere (IsSoundTable station.now.config) table.now }
-    requires task { IsOf station.now task.old }
-    requires rest { IsAtRest task.old.log }
-    requires left { 6 + release_cost station.now.config ≤ task.old.left }
+    requires task { MayCall station.now (6 + release_cost station.now.config) task.old }
     requires index { index < event_count table.now }
     requires code { code < code_limit }
     ensures { Serves station.now.config (service.PostEvent (named_table table.now) index code) result task.old task.new }
@@ -150,9 +143,7 @@ fn event_taken<R: Wait + Clock>(
     position: u32,
 ) -> Answer
     requires table { IfThere (IsSoundTable station.now.config) table.now }
-    requires task { IsOf station.now task.old }
-    requires rest { IsAtRest task.old.log }
-    requires left { 3 ≤ task.old.left }
+    requires task { MayCall station.now 3 task.old }
     requires position { position < position_count table.now }
     ensures { Serves station.now.config (service.NextEvent (named_table table.now) position) result task.old task.new }
 {
@@ -171,9 +162,7 @@ fn check<R: Wait>(
     obtain: u32,
 ) -> Answer
     requires config { IsForScripts station.now.config }
-    requires task { IsOf station.now task.old }
-    requires rest { IsAtRest task.old.log }
-    requires left { 0 < task.old.left }
+    requires task { MayCall station.now 1 task.old }
     requires obtain { (1 ≤ obtain) × (obtain ≤ length requests.now) }
     requires requests { AreOfLatches requests.now }
     ensures { (table : Option Table) → MakesCall station.now.config table (call.Check obtain) result
@@ -195,9 +184,7 @@ fn free<R: Wait>(
     conditional: bool,
 ) -> Answer
     requires config { IsForScripts station.now.config }
-    requires task { IsOf station.now task.old }
-    requires rest { IsAtRest task.old.log }
-    requires left { release_cost station.now.config ≤ task.old.left }
+    requires task { MayCall station.now (release_cost station.now.config) task.old }
     requires obtain { (1 ≤ obtain) × (obtain ≤ length requests.now) }
     requires requests { AreOfLatches requests.now }
     ensures { (table : Option Table) → MakesCall station.now.config table (call.Free obtain conditional) result

@@ -5,13 +5,12 @@ ghost use Rattle.mv_ecb.specs.Table.{code_limit};
 ghost use Rattle.mv_element.specs.Table.{release_limit};
 ghost use Rattle.mv_machine.specs.Limits.{highest_place, highest_generation};
 ghost use Rattle.mv_machine.specs.Setup.{element_count};
-ghost use Rattle.mv_board.specs.Faces.{IsOf};
 ghost use Rattle.mv_calls.specs.declared.table.Table.{Table};
-ghost use Rattle.mv_calls.specs.Rest.{IsAtRest};
 ghost use Rattle.mv_latchset.specs.declared.token.LatchToken.{LatchToken};
 ghost use Rattle.mv_script.specs.declared.call.Call.TheVariants as call;
 ghost use Rattle.mv_script.specs.Costs as expected;
 ghost use Rattle.mv_runscript.specs.Making.{MakesCall};
+ghost use Rattle.mv_wait.specs.Run.{MayCall};
 
 use crate::answered::posted;
 use mv_board::Moved;
@@ -30,12 +29,10 @@ pub(crate) fn try_post(
     place: u32,
     code: u32,
 ) -> Answer
-    requires task { IsOf station.now task.old }
-    requires rest { IsAtRest task.old.log }
+    requires task { MayCall station.now 1 task.old }
     requires block { ecb < length station.now.config.owners }
     requires place { place ≤ highest_place }
     requires code { code < code_limit }
-    requires left { 0 < task.old.left }
     ensures { (table : Option Table) (tokens : List (Option LatchToken)) → MakesCall station.now.config table
         (call.TryPost ecb place code) result
         tokens tokens task.old task.new }
@@ -56,13 +53,11 @@ pub(crate) fn try_release_token(
     place: u32,
     code: u32,
 ) -> Answer
-    requires task { IsOf station.now task.old }
-    requires rest { IsAtRest task.old.log }
+    requires task { MayCall station.now 1 task.old }
     requires element { token.element < element_count station.now.config }
     requires generation { token.generation < highest_generation }
     requires place { place ≤ highest_place }
     requires code { code < release_limit }
-    requires left { 0 < task.old.left }
     ensures { (table : Option Table) (tokens : List (Option LatchToken)) → MakesCall station.now.config table
         (call.TryRelease token place code) result
         tokens tokens task.old task.new }

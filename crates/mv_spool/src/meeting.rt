@@ -2,7 +2,7 @@
 
 ghost use Rattle.mv_work.specs.Meeting.{IsMet, MayMeet};
 ghost use Rattle.mv_work.specs.Needs.{need_events};
-ghost use Rattle.mv_work.specs.Waiting.{IsResting};
+ghost use Rattle.mv_wait.specs.Run.{MayCall};
 
 use mv_latchset::{LatchForm, Obtained, obtain};
 use mv_pause::pause;
@@ -22,7 +22,7 @@ pub(crate) fn meet<R: Wait + Clock>(
     task: &mut Task,
     need: Need,
 ) -> Result<Got, Lost>
-    requires rests { IsResting station.now (need_events need) task.old }
+    requires task { MayCall station.now (need_events need) task.old }
     requires need { MayMeet station.now.config task.old.number need }
     ensures met { IsMet station.now.config need task.old result task.new }
 {

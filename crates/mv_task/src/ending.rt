@@ -1,7 +1,7 @@
 //! The ends of jobs and of tasks. Clauses cite `Endings.antt` and `Services.antt` of mv_calls, `Run.antt` of mv_wait,
 //! `Answers.antt` of mv_latchset, and `specs/Ending.antt`.
 
-ghost use Rattle.std.specs.Prelude.{◌≡◌, ◌+◌, ◌<◌, ◌≤◌, true, length, IfSome};
+ghost use Rattle.std.specs.Prelude.{◌≡◌, ◌+◌, ◌<◌, true, length, IfSome};
 ghost use Rattle.mv_ecb.specs.Table.{code_limit};
 ghost use Rattle.mv_machine.specs.Reach.{reach, release_cost};
 ghost use Rattle.mv_machine.specs.Setup.{element_count, element_owner};
@@ -10,7 +10,7 @@ ghost use Rattle.mv_calls.specs.Endings.{end_of_job, end_of_task, used_elements}
 ghost use Rattle.mv_calls.specs.Keeping.{kept_of};
 ghost use Rattle.mv_calls.specs.Rest.{IsAtRest};
 ghost use Rattle.mv_calls.specs.Services.{mother_events};
-ghost use Rattle.mv_wait.specs.Run.{IsServed};
+ghost use Rattle.mv_wait.specs.Run.{IsServed, MayCall};
 ghost use Rattle.mv_latchset.specs.Answers.{counts_of};
 ghost use Rattle.mv_task.specs.Ending.{ClosesOne, ClosesAll, KeepsOthers};
 
@@ -34,11 +34,9 @@ pub fn end_of_job<R: Wait>(
     ecb: u32,
     code: u32,
 ) -> Purged
-    requires task { IsOf station.now task.old }
-    requires rest { IsAtRest task.old.log }
+    requires task { MayCall station.now (release_cost station.now.config + reach station.now.config ecb) task.old }
     requires block { ecb < length station.now.config.owners }
     requires code { code < code_limit }
-    requires left { release_cost station.now.config + reach station.now.config ecb ≤ task.old.left }
     ensures served { IsServed (release_cost station.now.config + reach station.now.config ecb)
         (end_of_job station.now.config requestor ecb code) (λ a. a ≡ counts_of result) task.old task.new }
 {
@@ -61,12 +59,10 @@ pub fn end_of_task<R: Wait>(
     mother: Option<u32>,
     code: u32,
 ) -> Purged
-    requires task { IsOf station.now task.old }
-    requires rest { IsAtRest task.old.log }
+    requires task { MayCall station.now (length (used_elements station.now.config (kept_of task.old.number task.old.log))
+        + release_cost station.now.config + mother_events station.now.config mother) task.old }
     requires block { IfSome mother (λ ecb. ecb < length station.now.config.owners) }
     requires code { code < code_limit }
-    requires left { length (used_elements station.now.config (kept_of task.old.number task.old.log))
-        + release_cost station.now.config + mother_events station.now.config mother ≤ task.old.left }
     ensures served { IsServed (length (used_elements station.now.config (kept_of task.old.number task.old.log))
         + release_cost station.now.config + mother_events station.now.config mother)
         (end_of_task station.now.config requestor mother code) (λ a. a ≡ counts_of result) task.old task.new }
@@ -80,9 +76,7 @@ pub fn end_of_task<R: Wait>(
 
 // Gives back the task's elements that are in use, from the lowest on.
 fn give_back_all<R: Wait>(station: &Station, rt: &R, task: &mut Task)
-    requires task { IsOf station.now task.old }
-    requires rest { IsAtRest task.old.log }
-    requires left { length (used_elements station.now.config (kept_of task.old.number task.old.log)) ≤ task.old.left }
+    requires task { MayCall station.now (length (used_elements station.now.config (kept_of task.old.number task.old.log))) task.old }
     ensures closed { ClosesAll station.now.config task.old task.new }
     ensures rest { IsAtRest task.new.log }
 {

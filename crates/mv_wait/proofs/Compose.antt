@@ -1,6 +1,6 @@
 -- Calls within calls, and calls one after the other.
-use Rattle.std.proofs.Common.{◌≡◌, ℕ, ◌+◌, ◌≤◌, ◌++◌, sym, ap, ◌∙◌, subst, arith, length-append}
-use Rattle.mv_board.specs.Faces.{BoardFace, CallerFace, IsOf}
+use Rattle.std.proofs.Common.{◌≡◌, ℕ, ◌+◌, ◌≤◌, ◌++◌, refl, sym, ap, ◌∙◌, subst, arith, length-append}
+use Rattle.mv_board.specs.Faces.{BoardFace, CallerFace, IsOf, IsFresh}
 use Rattle.mv_machine.specs.Setup.{Setup}
 use Rattle.mv_machine.specs.Reach.{reach}
 use Rattle.mv_calls.specs.Keeping.{Kept, kept_from, kept_of, nothing_kept}
@@ -10,7 +10,7 @@ use Rattle.mv_calls.specs.Rest.{IsAtRest}
 use Rattle.mv_calls.proofs.Making.{kept_from-append}
 use Rattle.mv_calls.proofs.Programs.{and_then_says, and_then_left, going_on_left, going_on_says}
 use Rattle.std.specs.Prelude.{Some}
-use Rattle.mv_wait.specs.Run.{Runs, IsServed}
+use Rattle.mv_wait.specs.Run.{Runs, IsServed, MayCall}
 use Rattle.mv_wait.proofs.Runs.{went_then, served_runs}
 
 -- a program of a call, and the one that follows it in the same call
@@ -70,3 +70,28 @@ served_left most call Is t u s = let few = s.made.few in let left = s.left in om
 
 -- all of this, for whoever makes one call after another
 pub ruleset served = (still_served, served_number, served_rest, served_left)
+
+-- ---- the head of a call
+
+-- a task that may begin a call of n events may begin one of fewer
+pub may_less : (b : BoardFace) (m n : ℕ) (t : CallerFace) → MayCall b n t → m ≤ n → MayCall b m t
+may_less b m n t may le = let left = may.left in record { board = may.board; rest = may.rest; left = omega arith }
+
+-- after a call, the task may begin one of the events that the call did not need
+pub may_still : {A : Type 0} (b : BoardFace) (most m n : ℕ) (call : Call A) (Is : A → Type 0) (t u : CallerFace)
+    → IsServed most call Is t u → MayCall b n t → m + most ≤ n → MayCall b m u
+may_still b most m n call Is t u s may le =
+    let less = served_left most call Is t u s in
+    let left = may.left in record {
+      board = still_served b most call Is t u s may.board;
+      rest = served_rest most call Is t u s;
+      left = omega arith;
+    }
+
+-- a new task may begin a call of all events that are left to it
+pub may_fresh : (b : BoardFace) (k n : ℕ) (t : CallerFace) → IsFresh b k t → n ≤ t.left → MayCall b n t
+may_fresh b k n t fresh le = record {
+  board = fresh.board;
+  rest = subst IsAtRest (sym fresh.log) (record { armed = λ n. refl; parked = λ n. refl; queued = λ latch id. refl });
+  left = le;
+}

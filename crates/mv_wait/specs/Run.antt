@@ -1,14 +1,22 @@
--- The events that a task has made, and how far these have taken its program.
+-- What a call requires of its task, the events that a task has made, and how far these have taken its program.
 use Rattle.std.specs.Prelude.{◌≡◌, ℕ, ◌+◌, ◌≤◌, List, ◌++◌, length}
 use Rattle.mv_board.specs.declared.view.Sight.{Sight}
-use Rattle.mv_board.specs.Faces.{CallerFace, IsSame}
+use Rattle.mv_board.specs.Faces.{BoardFace, CallerFace, IsOf, IsSame}
 use Rattle.mv_calls.specs.Keeping.{Kept, kept_of}
 use Rattle.mv_calls.specs.Made.{IsMade, told_by, HaveTheirWakes}
 use Rattle.mv_calls.specs.Program.{Program, Call, Heard, Says, left, entries}
+use Rattle.mv_calls.specs.Rest.{IsAtRest}
 
 -- what a task keeps by its log
 abbrev pub keeps : CallerFace → Kept
 keeps t = kept_of t.number t.log
+
+-- The task may begin a call of at most `most` events: it belongs to this station, it is at rest, and at least `most` events are
+-- left to it.
+pub record MayCall (b : BoardFace) (most : ℕ) (t : CallerFace) : Type 0 where
+  pub board : IsOf b t
+  pub rest : IsAtRest t.log
+  pub left : most ≤ t.left
 
 -- The task made these events and no others, each on the latch set with its wakes. They are appended to its log and to its told
 -- list, and their number is taken from the events that are left; words that it read earlier stay recorded.

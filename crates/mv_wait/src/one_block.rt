@@ -1,15 +1,13 @@
 //! A wait for one block. Clauses cite `Waits.antt` and `Exits.antt` of mv_calls, `specs/Run.antt` and `specs/OneBlock.antt`.
 
-ghost use Rattle.std.specs.Prelude.{◌≡◌, ◌<◌, ◌≤◌, ◌∷◌, [], false, length, Some, Ok};
+ghost use Rattle.std.specs.Prelude.{◌≡◌, ◌<◌, ◌∷◌, [], false, length, Some, Ok};
 ghost use Rattle.mv_ecb.specs.Table.{code_limit};
 ghost use Rattle.mv_machine.specs.Setup.{owner_of};
-ghost use Rattle.mv_board.specs.Faces.{IsOf};
 ghost use Rattle.mv_calls.specs.Keeping.{kept_of};
-ghost use Rattle.mv_calls.specs.Rest.{IsAtRest};
 ghost use Rattle.mv_calls.specs.Exits.{StartsExit};
 ghost use Rattle.mv_calls.specs.Waits.{wait};
 ghost use Rattle.mv_wait.specs.OneBlock.{WaitedFor};
-ghost use Rattle.mv_wait.specs.Run.{IsServed};
+ghost use Rattle.mv_wait.specs.Run.{IsServed, MayCall};
 
 use crate::station::Station;
 use crate::task::Task;
@@ -31,12 +29,10 @@ impl Station {
     /// let code = station.wait_one(rt, task, 3);
     /// ```
     pub fn wait_one<R: Wait + Clock>(&self, rt: &R, task: &mut Task, ecb: u32) -> u32
-        requires task { IsOf self.now task.old }
-        requires rest { IsAtRest task.old.log }
+        requires task { MayCall self.now 2 task.old }
         requires block { ecb < length self.now.config.owners }
         requires own { owner_of self.now.config ecb ≡ task.old.number }
         requires plain { StartsExit self.now.config ecb → (kept_of task.old.number task.old.log).extended ecb ≡ false }
-        requires left { 2 ≤ task.old.left }
         ensures served { IsServed 2 (wait self.now.config 1 (ecb ∷ [])) (λ a. a ≡ Ok (Some result ∷ [])) task.old task.new }
         ensures waited { WaitedFor ecb result task.old task.new }
         ensures code { result < code_limit }

@@ -7,10 +7,9 @@ ghost use Rattle.mv_ecb.specs.Table.{code_limit};
 ghost use Rattle.mv_machine.specs.Reach.{reach, total};
 ghost use Rattle.mv_board.specs.Faces.{IsOf};
 ghost use Rattle.mv_calls.specs.Posts.{post};
-ghost use Rattle.mv_calls.specs.Rest.{IsAtRest};
 ghost use Rattle.mv_wait.specs.Answers.{post_answer};
 ghost use Rattle.mv_wait.specs.Posted.{PostedOne};
-ghost use Rattle.mv_wait.specs.Run.{IsServed};
+ghost use Rattle.mv_wait.specs.Run.{IsServed, MayCall};
 ghost use Rattle.mv_wait.specs.Task.{IsRecorded};
 
 use crate::keep::Keep;
@@ -47,11 +46,9 @@ impl Station {
     /// if let PostAnswer::Already(first) = station.post(rt, task, 3, 12) { .. }
     /// ```
     pub fn post<R: Wait>(&self, rt: &R, task: &mut Task, ecb: u32, code: u32) -> PostAnswer
-        requires task { IsOf self.now task.old }
-        requires rest { IsAtRest task.old.log }
+        requires task { MayCall self.now (reach self.now.config ecb) task.old }
         requires block { ecb < length self.now.config.owners }
         requires code { code < code_limit }
-        requires left { reach self.now.config ecb ≤ task.old.left }
         ensures served { IsServed (reach self.now.config ecb) (post self.now.config ecb code)
             (λ p. post_answer p ≡ result) task.old task.new }
         ensures told { task.new.told ≡ task.old.told }

@@ -11,7 +11,7 @@ ghost use Rattle.mv_calls.specs.Posts.{try_post};
 ghost use Rattle.mv_calls.specs.Rest.{IsAtRest};
 ghost use Rattle.mv_calls.specs.Waits.{clear, extend, extend_refusal, is_others_block, test_ecb, read_volume, write_volume};
 ghost use Rattle.mv_wait.specs.Answers.{clear_answer, extend_answer, extend_refused, post_answer};
-ghost use Rattle.mv_wait.specs.Run.{IsServed};
+ghost use Rattle.mv_wait.specs.Run.{IsServed, MayCall};
 ghost use Rattle.mv_wait.specs.Single.{IsExtendCause, HasNoWaitBit};
 
 use crate::posting::PostAnswer;
@@ -56,10 +56,8 @@ impl Station {
     ///
     /// `NotOwner` if the block is another caller's; then no event is made.
     pub fn clear<R: Wait>(&self, rt: &R, task: &mut Task, ecb: u32) -> Result<u32, NotOwner>
-        requires task { IsOf self.now task.old }
-        requires rest { IsAtRest task.old.log }
+        requires task { MayCall self.now 1 task.old }
         requires block { ecb < length self.now.config.owners }
-        requires left { 0 < task.old.left }
         ensures served { IsServed 1 (clear self.now.config ecb) (λ a. a ≡ clear_answer result) task.old task.new }
         ensures causes { MatchResult result
             (λ _. is_others_block self.now.config (kept_of task.old.number task.old.log) ecb ≡ false)
@@ -88,10 +86,8 @@ impl Station {
         ecb: u32,
         exit: u32,
     ) -> Result<(), ExtendRefusal>
-        requires task { IsOf self.now task.old }
-        requires rest { IsAtRest task.old.log }
+        requires task { MayCall self.now 1 task.old }
         requires block { ecb < length self.now.config.owners }
-        requires left { 0 < task.old.left }
         ensures served { IsServed 1 (extend self.now.config ecb exit) (λ a. a ≡ extend_answer result) task.old task.new }
         ensures causes { MatchResult result
             (λ _. extend_refusal self.now.config ecb exit (kept_of task.old.number task.old.log) ≡ None)
@@ -150,12 +146,10 @@ impl Station {
         expected: u64,
         code: u32,
     ) -> Result<PostAnswer, Moved>
-        requires task { IsOf self.now task.old }
-        requires rest { IsAtRest task.old.log }
+        requires task { MayCall self.now 1 task.old }
         requires block { ecb < length self.now.config.owners }
         requires code { code < code_limit }
         requires unwaited { HasNoWaitBit expected }
-        requires left { 0 < task.old.left }
         ensures answer { MatchResult result
             (λ answer. IsServed 1 (try_post ecb expected code) (λ p. post_answer p ≡ answer) task.old task.new)
             (λ moved. Missed task.old (object.Ecb ecb) expected moved task.new) }
@@ -169,10 +163,8 @@ impl Station {
     ///
     /// The call makes one event, which must be left, and never waits.
     pub fn test_ecb(&self, task: &mut Task, ecb: u32) -> u32
-        requires task { IsOf self.now task.old }
-        requires rest { IsAtRest task.old.log }
+        requires task { MayCall self.now 1 task.old }
         requires block { ecb < length self.now.config.owners }
-        requires left { 0 < task.old.left }
         ensures served { IsServed 1 (test_ecb ecb) (λ a. a ≡ result) task.old task.new }
     {
         let reply = self.test(task, Object::Ecb(ecb));
@@ -183,10 +175,8 @@ impl Station {
     ///
     /// The call makes one event, which must be left, and never waits.
     pub fn read_volume(&self, task: &mut Task, volume: u32) -> u32
-        requires task { IsOf self.now task.old }
-        requires rest { IsAtRest task.old.log }
+        requires task { MayCall self.now 1 task.old }
         requires volume { volume < self.now.config.volumes }
-        requires left { 0 < task.old.left }
         ensures served { IsServed 1 (read_volume volume) (λ a. a ≡ result) task.old task.new }
     {
         let reply = self.test(task, Object::Volume(volume));
@@ -198,10 +188,8 @@ impl Station {
     /// A read and a write are two events, between which other tasks may write; use a latch to keep them out. The call makes one
     /// event, which must be left, and does not park.
     pub fn write_volume<R: Wait>(&self, rt: &R, task: &mut Task, volume: u32, number: u32)
-        requires task { IsOf self.now task.old }
-        requires rest { IsAtRest task.old.log }
+        requires task { MayCall self.now 1 task.old }
         requires volume { volume < self.now.config.volumes }
-        requires left { 0 < task.old.left }
         ensures served { IsServed 1 (write_volume volume number) (λ a. a ≡ tt) task.old task.new }
     {
         self.event(

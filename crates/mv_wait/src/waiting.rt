@@ -12,7 +12,7 @@ ghost use Rattle.mv_calls.specs.Waits.{wait, wait_refusal, complete_count, doubl
 ghost use Rattle.mv_calls.specs.Refusal.{Doubled, NotOwnerAt};
 ghost use Rattle.mv_wait.specs.Answers.{wait_answer, wait_refused, slots_of};
 ghost use Rattle.mv_wait.specs.Listed.{is_listed, listed_count, AreSeenBut};
-ghost use Rattle.mv_wait.specs.Run.{Went, IsServed};
+ghost use Rattle.mv_wait.specs.Run.{Went, IsServed, MayCall};
 ghost use Rattle.mv_wait.specs.Waiting.{IsArmed, IsArmedFor, ArePlain, AreOwn, AreOwnUpTo, ArmsAll, SettlesEnough, IsBlockSettled};
 ghost use Rattle.mv_wait.specs.Waiting.{IsComplete, NamesSource, HasLowCode};
 
@@ -84,11 +84,9 @@ impl Station {
         ecbs: &[u32],
         out: &mut [WaitSlot],
     ) -> Result<(), WaitRefusal>
-        requires task { IsOf self.now task.old }
-        requires rest { IsAtRest task.old.log }
+        requires task { MayCall self.now (2 * length ecbs.now) task.old }
         requires blocks { AllByRecursion (λ e. e < length self.now.config.owners) ecbs.now }
         requires out { length out.old ≡ length ecbs.now }
-        requires left { 2 * length ecbs.now ≤ task.old.left }
         ensures served { IsServed (2 * length ecbs.now) (wait self.now.config count ecbs.now)
             (λ a. a ≡ wait_answer result out.new) task.old task.new }
         ensures causes { MatchResult result
@@ -129,10 +127,8 @@ impl Station {
         count: u32,
         ecbs: &[u32],
     ) -> Result<(), WaitRefusal>
-        requires task { IsOf self.now task.old }
-        requires rest { IsAtRest task.old.log }
+        requires task { MayCall self.now (2 * length ecbs.now) task.old }
         requires blocks { AllByRecursion (λ e. e < length self.now.config.owners) ecbs.now }
-        requires left { 2 * length ecbs.now ≤ task.old.left }
         ensures armed { MatchResult result
             (λ _. IsArmed self.now.config count ecbs.now task.old task.new)
             (λ why. (wait_refusal self.now.config count ecbs.now (kept_of task.old.number task.old.log) ≡ Some (wait_refused why))
@@ -203,12 +199,10 @@ impl Station {
 
     // Arms each block.
     fn arm_all<R: Wait>(&self, rt: &R, task: &mut Task, ecbs: &[u32])
-        requires task { IsOf self.now task.old }
-        requires rest { IsAtRest task.old.log }
+        requires task { MayCall self.now (length ecbs.now) task.old }
         requires own { AreOwn self.now.config task.old.number ecbs.now }
         requires plain { ArePlain task.old ecbs.now }
         requires distinct { AreDistinct ecbs.now }
-        requires left { length ecbs.now ≤ task.old.left }
         ensures armed { ArmsAll ecbs.now task.old task.new }
         ensures waits { IsArmedFor ecbs.now task.new.log }
         ensures plain { ArePlain task.new ecbs.now }

@@ -7,7 +7,7 @@ use Rattle.mv_calls.specs.Program.{Call, Program, Done, Wrong, accepted, unrefus
 use Rattle.mv_calls.specs.Refusal.{Refusal}
 use Rattle.mv_plan.specs.SpoolSetup.{initiator, scheduler, spool_setup, writer}
 use Rattle.mv_wait.proofs.Runs.{same_then}
-use Rattle.mv_wait.specs.Run.{IsServed}
+use Rattle.mv_wait.specs.Run.{IsServed, MayCall}
 use Rattle.mv_work.specs.declared.need.Got.{Got}
 use Rattle.mv_work.specs.declared.need.Got.TheVariants as got
 use Rattle.mv_work.specs.declared.need.Need.{Need}
@@ -24,7 +24,7 @@ use Rattle.mv_work.specs.Needs.{Answer, answer_of, need_call, need_events}
 use Rattle.mv_work.specs.Ran.{Ran, RanOut}
 use Rattle.mv_work.specs.Scheduling.{AreBlocks, AreSlots}
 use Rattle.mv_work.specs.Spool.{SpoolFace}
-use Rattle.mv_work.specs.Waiting.{IsResting, Stages, Told, Waits}
+use Rattle.mv_work.specs.Waiting.{Stages, Told, Waits}
 use Rattle.mv_work.specs.Works.{HasComeAs, HasWorked, ProgramIs, ToldAs, WaitsAs}
 use Rattle.mv_work.proofs.Runs.{leads_astray, out_done, out_wrong, ran_last, served_as}
 use Rattle.mv_work.proofs.Waits.{rests_less, told_answer}
@@ -67,7 +67,7 @@ own_index sp me s n fits = absurd fits
 -- the call of what the task waits for may be made; after an answer the task was told that, and otherwise it has worked
 pub record CanMeet (sp : SpoolFace) (r : Role) (t : CallerFace) (n : Need) (u : CallerFace) : Type 0 where
   pub same : IsSame t u
-  pub rests : IsResting sp.board (need_events n) u
+  pub task : MayCall sp.board (need_events n) u
   pub may : MayMeet sp.board.config u.number n
   pub told : (g : Got) (v : CallerFace) → IsAnswerTo n g → Ran (need_call sp.board.config n) (Done (answer_of g)) u v
       → u.left ≤ v.left + need_events n → ToldAs sp r t g v
@@ -81,7 +81,7 @@ module _ (sp : SpoolFace) (t : CallerFace) (n : Need) (u : CallerFace) where
       → ((v : CallerFace) → IsSame t v → RanOut whole a t v → HasWorked sp r t v) → CanMeet sp r t n u
   ready {stages = stages} {s = s} a r k is x may answers told worked = record {
     same = x.same;
-    rests = rests_less x.rests (omega arith);
+    task = rests_less x.task (omega arith);
     may = subst (λ k. MayMeet sp.board.config k n) (sym (x.same.number ∙ is)) (may x.fits);
     told = λ g v is ran few. told g v (told_answer g (answers g is) x ran few);
     lost = λ v ran. worked v (same_then t u v x.same ran.went.same) (out_wrong a (leads_astray (stages.then s) x.leads ran));

@@ -18,7 +18,7 @@ use Rattle.mv_work.specs.declared.need.Need.TheVariants as need
 use Rattle.mv_work.specs.Meeting.{MayMeet}
 use Rattle.mv_work.specs.Spool.{IsSpool, SpoolFace}
 use Rattle.mv_work.specs.Steps.{BearsSteps}
-use Rattle.mv_work.specs.Waiting.{IsResting}
+use Rattle.mv_wait.specs.Run.{MayCall}
 use Rattle.mv_work.proofs.Decks.{numbers_of}
 use Rattle.mv_work.proofs.Reaches.{block_count, reach_alone, reach_done, release_cost_is}
 
@@ -87,6 +87,6 @@ module _ {s : SpoolFace} (spool : IsSpool s) where
 
   -- and is at rest
   pub fresh_rests : (k most : ℕ) (t : CallerFace) → IsFresh s.board k t → most ≤ get_or (task_budgets s.jobs s.initiators) k 0
-      → IsResting s.board most t
+      → MayCall s.board most t
   fresh_rests k most t fresh le =
-      record { board = fresh.board; quiet = search rules; left = (let left = fresh_left k t fresh in omega arith) }
+      record { board = fresh.board; rest = search rules; left = (let left = fresh_left k t fresh in omega arith) }

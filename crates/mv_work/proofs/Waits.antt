@@ -6,7 +6,7 @@ use Rattle.mv_calls.specs.Program.{Call, Done, Wrong, followed, wrong}
 use Rattle.mv_calls.specs.Rest.{IsAtRest}
 use Rattle.mv_machine.specs.Setup.{Setup}
 use Rattle.mv_wait.proofs.Runs.{same_then}
-use Rattle.mv_wait.specs.Run.{IsServed}
+use Rattle.mv_wait.specs.Run.{IsServed, MayCall}
 use Rattle.mv_work.specs.declared.lost.Lost.{Lost}
 use Rattle.mv_work.specs.declared.need.Got.{Got}
 use Rattle.mv_work.specs.declared.need.Need.{Need}
@@ -14,26 +14,26 @@ use Rattle.mv_work.specs.declared.next.Next.{Next}
 use Rattle.mv_work.specs.declared.next.Next.TheVariants as next
 use Rattle.mv_work.specs.Needs.{answer_of, need_call, need_events}
 use Rattle.mv_work.specs.Ran.{Ran, Leads}
-use Rattle.mv_work.specs.Waiting.{Asks, AsksFor, Comes, ComesTo, IsResting, Stages, Told, Waits}
+use Rattle.mv_work.specs.Waiting.{Asks, AsksFor, Comes, ComesTo, Stages, Told, Waits}
 use Rattle.mv_work.proofs.Runs.{astray, leads_all, leads_on, leads_same, leads_then, ran_nothing}
 use Rattle.mv_work.proofs.Runs.{served_few, served_ran, still_of}
 
 -- a task at rest, with fewer events that it needs
-pub rests_less : {b : BoardFace} {most less : ℕ} {u : CallerFace} → IsResting b most u → less ≤ most → IsResting b less u
-rests_less r le = record { board = r.board; quiet = r.quiet; left = (let left = r.left in omega arith) }
+pub rests_less : {b : BoardFace} {most less : ℕ} {u : CallerFace} → MayCall b most u → less ≤ most → MayCall b less u
+rests_less r le = record { board = r.board; rest = r.rest; left = (let left = r.left in omega arith) }
 
 -- a call was run, of so many events
 pub rests_ran : {A : Type 0} {call : Call A} {a : A} {b : BoardFace} {most less : ℕ} {u v : CallerFace} (n : ℕ) → Ran call (Done a) u v
-    → u.left ≤ v.left + n → IsResting b most u → less + n ≤ most → IsResting b less v
+    → u.left ≤ v.left + n → MayCall b most u → less + n ≤ most → MayCall b less v
 rests_ran {b = b} n x few r le = record {
   board = still_of b r.board x.went.same;
-  quiet = x.quiet;
+  rest = x.quiet;
   left = (let left = r.left in omega arith);
 }
 
 -- a call was served
 pub rests_then : {A : Type 0} {n : ℕ} {call : Call A} {Is : A → Type 0} {b : BoardFace} {most less : ℕ} {u v : CallerFace}
-    → IsServed n call Is u v → IsResting b most u → less + n ≤ most → IsResting b less v
+    → IsServed n call Is u v → MayCall b most u → less + n ≤ most → MayCall b less v
 rests_then {n = n} s r le = rests_ran n (served_ran s) (served_few s) r le
 
 -- what is left to do, by another name
@@ -43,21 +43,21 @@ leads_as {A} {whole} {later} u is = subst (λ call. Leads whole call u u) is (le
 module _ {S A : Type 0} {b : BoardFace} {stages : Stages S A} {Fits : S → Need → Type 0} {a : A} where
   -- what is left to do, asked for, is what the task comes to
   pub asks_come : {later whole : Call A} {t u : CallerFace} {most : ℕ} {came : Next S}
-      → Asks b.config stages Fits a later most came → Leads whole later t u → IsResting b most u
+      → Asks b.config stages Fits a later most came → Leads whole later t u → MayCall b most u
       → Comes b stages Fits a whole t (Ok came) u
   asks_come {later} {whole} {t} {u} {most} {came} asks leads rests = record { come = go came asks.asks } where
     go : (came : Next S) → AsksFor b.config stages Fits a later most came → ComesTo b stages Fits a whole t (Ok came) u
     go (next.Wait s n) asks = record {
-      same = leads_same leads rests.quiet;
-      rests = rests_less rests asks.2;
+      same = leads_same leads rests.rest;
+      task = rests_less rests asks.2;
       fits = asks.1;
       leads = subst (λ r. Leads whole r t u) asks.0 leads;
     }
-    go next.Done asks = leads (Done a) u (ran_nothing later (asks (kept_of u.number u.log)) rests.quiet)
+    go next.Done asks = leads (Done a) u (ran_nothing later (asks (kept_of u.number u.log)) rests.rest)
 
   -- with nothing done before
   pub asks_first : {later : Call A} {u : CallerFace} {most : ℕ} {came : Next S} → Asks b.config stages Fits a later most came
-      → IsResting b most u → Comes b stages Fits a later u (Ok came) u
+      → MayCall b most u → Comes b stages Fits a later u (Ok came) u
   asks_first {later} {u} asks rests = asks_come asks (leads_all later u) rests
 
   -- what was left to do has come to its next wait: so has the whole
@@ -67,7 +67,7 @@ module _ {S A : Type 0} {b : BoardFace} {stages : Stages S A} {Fits : S → Need
     go : (came : Result (Next S) Lost) → ComesTo b stages Fits a later u came v → ComesTo b stages Fits a whole t came v
     go (Ok (next.Wait s n)) w =
         let all : Leads whole (followed (need_call b.config n) (stages.then s)) t v = leads_then leads w.leads in
-        record { same = leads_same all w.rests.quiet; rests = w.rests; fits = w.fits; leads = all }
+        record { same = leads_same all w.task.rest; task = w.task; fits = w.fits; leads = all }
     go (Ok next.Done) w = leads (Done a) v w
     go (Err lost) w = leads Wrong v w
 
@@ -101,7 +101,7 @@ pub told_answer : {S A : Type 0} {b : BoardFace} {stages : Stages S A} {Fits : S
     → Told b stages Answers whole t s g v
 told_answer {stages = stages} {t = t} {u = u} {v = v} {s = s} {n = n} g is w x few = record {
   same = same_then t u v w.same x.went.same;
-  rests = rests_ran (need_events n) x few w.rests (omega arith);
+  task = rests_ran (need_events n) x few w.task (omega arith);
   answers = is w.fits;
   leads = leads_on (stages.then s) w.leads x;
 }

@@ -1,11 +1,11 @@
 -- A task that waits, one that was given its answer, and one that has come to its next wait. A stage says where a task waits:
 -- what is left to do after the answer, and how many events that may need. What a task of the spool waits for fits its stage.
 use Rattle.std.specs.Prelude.{◌≡◌, ℕ, ◌+◌, ◌≤◌, Option, Some, None, Result, Ok, Err}
-use Rattle.mv_board.specs.Faces.{BoardFace, CallerFace, IsOf, IsSame}
+use Rattle.mv_board.specs.Faces.{BoardFace, CallerFace, IsSame}
 use Rattle.mv_calls.specs.Keeping.{Kept}
 use Rattle.mv_calls.specs.Program.{Call, Done, Wrong, followed}
-use Rattle.mv_calls.specs.Rest.{IsAtRest}
 use Rattle.mv_machine.specs.Setup.{Setup}
+use Rattle.mv_wait.specs.Run.{MayCall}
 use Rattle.mv_work.specs.declared.lost.Lost.{Lost}
 use Rattle.mv_work.specs.declared.need.Got.{Got}
 use Rattle.mv_work.specs.declared.need.Need.{Need}
@@ -13,12 +13,6 @@ use Rattle.mv_work.specs.declared.next.Next.{Next}
 use Rattle.mv_work.specs.declared.next.Next.TheVariants as next
 use Rattle.mv_work.specs.Needs.{Answer, answer_of, need_call, need_events}
 use Rattle.mv_work.specs.Ran.{Leads, Ran}
-
--- a task of the board that is at rest, with at least this many events left
-pub record IsResting (b : BoardFace) (most : ℕ) (u : CallerFace) : Type 0 where
-  pub board : IsOf b u
-  pub quiet : IsAtRest u.log
-  pub left : most ≤ u.left
 
 -- what stages of one kind say
 pub record Stages (S A : Type 0) : Type 0 where
@@ -29,7 +23,7 @@ pub record Stages (S A : Type 0) : Type 0 where
 pub record Waits {S A : Type 0} (b : BoardFace) (stages : Stages S A) (Fits : S → Need → Type 0) (whole : Call A) (t : CallerFace)
     (s : S) (n : Need) (u : CallerFace) : Type 0 where
   pub same : IsSame t u
-  pub rests : IsResting b (need_events n + stages.due s) u
+  pub task : MayCall b (need_events n + stages.due s) u
   pub fits : Fits s n
   pub leads : Leads whole (followed (need_call b.config n) (stages.then s)) t u
 
@@ -37,7 +31,7 @@ pub record Waits {S A : Type 0} (b : BoardFace) (stages : Stages S A) (Fits : S 
 pub record Told {S A : Type 0} (b : BoardFace) (stages : Stages S A) (Answers : S → Got → Type 0) (whole : Call A) (t : CallerFace)
     (s : S) (g : Got) (u : CallerFace) : Type 0 where
   pub same : IsSame t u
-  pub rests : IsResting b (stages.due s) u
+  pub task : MayCall b (stages.due s) u
   pub answers : Answers s g
   pub leads : Leads whole (stages.then s (answer_of g)) t u
 

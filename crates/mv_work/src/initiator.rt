@@ -25,7 +25,7 @@ ghost use Rattle.mv_work.specs.Initiating.{steps_then};
 ghost use Rattle.mv_work.specs.Needs.{Gave, answer_of};
 ghost use Rattle.mv_work.specs.Noting.{initiating_noted, record_of, rounds_noted};
 ghost use Rattle.mv_work.specs.Parts.{named_of};
-ghost use Rattle.mv_work.specs.Waiting.{IsResting};
+ghost use Rattle.mv_wait.specs.Run.{MayCall};
 ghost use Rattle.mv_work.specs.Works.{HasComeAs, IsNewInitiator, ToldAs};
 ghost use Rattle.mv_work.specs.declared.stage.InitiatorStage.TheVariants as stage;
 ghost use Rattle.mv_work.specs.declared.work.Role.TheVariants as role;
@@ -179,7 +179,7 @@ impl<G: Gate> Spool<'_, G> {
         got: Got,
     ) -> Result<Next<InitiatorStage>, Lost>
         requires answer { IsInitiatorAnswer self.now me.old stage got }
-        requires rests { IsResting self.now.board (initiator_due self.now me.old stage) task.old }
+        requires task { MayCall self.now.board (initiator_due self.now me.old stage) task.old }
         ensures comes { InitiatorComes self.now me.new (initiator_left self.now me.old stage (answer_of got)) task.old result task.new }
         ensures same { me.new.index ≡ me.old.index }
     {
@@ -204,7 +204,7 @@ impl<G: Gate> Spool<'_, G> {
         requires number { task.old.number ≡ plan_initiator me.now.index }
         requires between { IsBetween self.now me.now 0 }
         requires none { me.now.noted.jobs ≡ [] }
-        requires rests { IsResting self.now.board (1 + rounds_due self.now me.now 0) task.old }
+        requires task { MayCall self.now.board (1 + rounds_due self.now me.now 0) task.old }
         ensures { InitiatorComes self.now me.now (initiating_noted self.now.board.config self.now.jobs me.now.index) task.old result task.new }
     {
         let next = allocate(self.station, rt, task)?;
@@ -221,7 +221,7 @@ impl<G: Gate> Spool<'_, G> {
     ) -> Result<Next<InitiatorStage>, Lost>
         requires between { IsBetween self.now me.now round.number }
         requires token { IsOwn me.now round.next }
-        requires rests { IsResting self.now.board (rounds_due self.now me.now round.number) task.old }
+        requires task { MayCall self.now.board (rounds_due self.now me.now round.number) task.old }
         ensures { InitiatorComes self.now me.now (rounds_noted self.now.board.config self.now.jobs me.now.index
             (suc (length self.now.jobs - round.number)) me.now.noted.jobs round.next) task.old result task.new }
     {
@@ -241,7 +241,7 @@ impl<G: Gate> Spool<'_, G> {
     ) -> Result<Next<InitiatorStage>, Lost>
         requires between { IsBetween self.now me.old round }
         requires token { IsOwn me.old given.next }
-        requires rests { IsResting self.now.board (initiator_due self.now me.old (stage.Pause round)) task.old }
+        requires task { MayCall self.now.board (initiator_due self.now me.old (stage.Pause round)) task.old }
         ensures comes { InitiatorComes self.now me.new (initiator_left self.now me.old (stage.Pause round) (Gave (gift_as given)))
             task.old result task.new }
         ensures same { me.new.index ≡ me.old.index }
@@ -279,7 +279,7 @@ impl<G: Gate> Spool<'_, G> {
         requires at { IsAtJob self.now me.old round.number named.job (steps_marks (job_at self.now.jobs named.job).steps) }
         requires none { me.old.noted.notes ≡ [] }
         requires token { IsOwn me.old round.next }
-        requires rests { IsResting self.now.board (steps_events (job_at self.now.jobs named.job).steps + 4
+        requires task { MayCall self.now.board (steps_events (job_at self.now.jobs named.job).steps + 4
             + rounds_due self.now me.old (round.number + 1)) task.old }
         ensures comes { InitiatorComes self.now me.new
             (named_then self.now me.old (rounds_after self.now round.number) round.next (named_of named)) task.old result task.new }
@@ -305,7 +305,7 @@ impl<G: Gate> Spool<'_, G> {
         requires at { IsAtJob self.now me.old running.round.number running.job 0 }
         requires token { IsOwn me.old running.round.next }
         requires end { end ≤ not_run }
-        requires rests { IsResting self.now.board (4 + rounds_due self.now me.old (running.round.number + 1)) task.old }
+        requires task { MayCall self.now.board (4 + rounds_due self.now me.old (running.round.number + 1)) task.old }
         ensures comes { InitiatorComes self.now me.new
             (steps_then self.now me.old running (record_of running.job end me.old.noted.notes)) task.old result task.new }
         ensures same { me.new.index ≡ me.old.index }

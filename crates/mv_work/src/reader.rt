@@ -9,7 +9,6 @@ ghost use Rattle.mv_board.specs.Faces.{IsFresh};
 ghost use Rattle.mv_plan.specs.SpoolSetup.{reader};
 ghost use Rattle.mv_plan.specs.SpoolTasks.{reading};
 ghost use Rattle.mv_work.specs.Ran.{RanOut};
-ghost use Rattle.mv_work.specs.Waiting.{IsResting};
 ghost use Rattle.mv_work.specs.Works.{HasComeAs};
 ghost use Rattle.mv_work.specs.declared.work.Role.TheVariants as role;
 

@@ -15,7 +15,7 @@ ghost use Rattle.mv_plan.specs.Jobs.{job_at};
 ghost use Rattle.mv_work.specs.Initiating.{InitiatorComes, IsRunning, initiator_due, initiator_left, step_marks, steps_from};
 ghost use Rattle.mv_work.specs.Needs.{Holds};
 ghost use Rattle.mv_work.specs.Steps.{AreKept, DoesStep, IsGoodDid, requests_of, step_at};
-ghost use Rattle.mv_work.specs.Waiting.{IsResting};
+ghost use Rattle.mv_wait.specs.Run.{MayCall};
 ghost use Rattle.mv_work.specs.declared.stage.InitiatorStage.TheVariants as stage;
 
 use crate::initiator::Initiator;
@@ -65,7 +65,7 @@ impl<G: Gate> Spool<'_, G> {
         running: Running,
     ) -> Result<Next<InitiatorStage>, Lost>
         requires running { IsRunning self.now me.old running }
-        requires rests { IsResting self.now.board (initiator_due self.now me.old (stage.Latch running)) task.old }
+        requires task { MayCall self.now.board (initiator_due self.now me.old (stage.Latch running)) task.old }
         ensures comes { InitiatorComes self.now me.new
             (steps_from self.now me.old running running.step (requests_of running.requests)) task.old result task.new }
         ensures same { me.new.index ≡ me.old.index }
@@ -100,7 +100,7 @@ impl<G: Gate> Spool<'_, G> {
         requires place { place < length (job_at self.now.jobs running.now.job).steps }
         requires kept { AreKept running.now.requests }
         requires room { step_marks (step_at self.now running.now.job place) ≤ noted.old.room }
-        requires rests { IsResting self.now.board (step_events (step_at self.now running.now.job place)) task.old }
+        requires task { MayCall self.now.board (step_events (step_at self.now running.now.job place)) task.old }
         ensures does { DoesStep self.now.board.config running.now.job running.now.requests place noted.old.notes
             (step_at self.now running.now.job place) result noted.new.notes task.old task.new }
         ensures jobs { noted.new.jobs ≡ noted.old.jobs }
@@ -159,7 +159,7 @@ impl<G: Gate> Spool<'_, G> {
     ) -> Result<Next<InitiatorStage>, Lost>
         requires running { IsRunning self.now me.old running }
         requires token { (running.latch ≤ highest_latch) × (token.latch ≡ running.latch) }
-        requires rests { IsResting self.now.board (initiator_due self.now me.old (stage.Latch running)) task.old }
+        requires task { MayCall self.now.board (initiator_due self.now me.old (stage.Latch running)) task.old }
         ensures comes { InitiatorComes self.now me.new
             (initiator_left self.now me.old (stage.Latch running) (Holds token.id)) task.old result task.new }
         ensures same { me.new.index ≡ me.old.index }

@@ -25,7 +25,7 @@ ghost use Rattle.mv_work.specs.Needs.{Slots, answer_of};
 ghost use Rattle.mv_work.specs.Ran.{Ran};
 ghost use Rattle.mv_work.specs.Scheduling.{IsSchedulerAnswer, SchedulerAsks, SchedulerComes, scheduler_due, scheduler_left};
 ghost use Rattle.mv_work.specs.Scheduling.{dismissals_from, exit_set, jobs_due, jobs_from, then_jobs};
-ghost use Rattle.mv_work.specs.Waiting.{IsResting};
+ghost use Rattle.mv_wait.specs.Run.{MayCall};
 ghost use Rattle.mv_work.specs.Works.{HasComeAs, ToldAs};
 ghost use Rattle.mv_work.specs.declared.stage.SchedulerStage.TheVariants as stage;
 ghost use Rattle.mv_work.specs.declared.work.Role.TheVariants as role;
@@ -85,7 +85,7 @@ impl<G: Gate> Spool<'_, G> {
         got: Got,
     ) -> Result<Next<SchedulerStage>, Lost>
         requires answer { IsSchedulerAnswer self.now stage got }
-        requires rests { IsResting self.now.board (scheduler_due self.now stage) task.old }
+        requires task { MayCall self.now.board (scheduler_due self.now stage) task.old }
         ensures { SchedulerComes self.now (scheduler_left self.now stage (answer_of got)) task.old result task.new }
     {
         match (stage, got) {
@@ -121,7 +121,7 @@ impl<G: Gate> Spool<'_, G> {
         job: u32,
     ) -> Result<Next<SchedulerStage>, Lost>
         requires job { job < length self.now.jobs }
-        requires rests { IsResting self.now.board (scheduler_due self.now (stage.Entry job)) task.old }
+        requires task { MayCall self.now.board (scheduler_due self.now (stage.Entry job)) task.old }
         ensures { SchedulerComes self.now (then_jobs self.now job (ends_awaited self.now.board.config (length self.now.jobs)
             (job_at self.now.jobs job).after (exit_set self.now job))) task.old result task.new }
     {
@@ -149,7 +149,7 @@ impl<G: Gate> Spool<'_, G> {
     ) -> Result<Next<SchedulerStage>, Lost>
         requires job { job < length self.now.jobs }
         requires slots { length slots.now ≡ length (job_at self.now.jobs job).after }
-        requires rests { IsResting self.now.board (scheduler_due self.now (stage.Ends job)) task.old }
+        requires task { MayCall self.now.board (scheduler_due self.now (stage.Ends job)) task.old }
         ensures { SchedulerComes self.now (scheduler_left self.now (stage.Ends job) (Slots (slots_of slots.now))) task.old result task.new }
     {
         let skipped = some_above(self.after_of(job), slots);
@@ -165,7 +165,7 @@ impl<G: Gate> Spool<'_, G> {
         skipped: bool,
     ) -> Result<Next<SchedulerStage>, Lost>
         requires job { job < length self.now.jobs }
-        requires rests { IsResting self.now.board (scheduler_due self.now (stage.Ends job)) task.old }
+        requires task { MayCall self.now.board (scheduler_due self.now (stage.Ends job)) task.old }
         ensures { SchedulerComes self.now (then_jobs self.now job (exit_set self.now job skipped)) task.old result task.new }
     {
         let done = self.done(job);
@@ -191,7 +191,7 @@ impl<G: Gate> Spool<'_, G> {
     ) -> Result<Next<SchedulerStage>, Lost>
         requires job { job < length self.now.jobs }
         requires slots { length slots.now ≡ self.now.initiators }
-        requires rests { IsResting self.now.board (scheduler_due self.now (stage.Idle job skipped)) task.old }
+        requires task { MayCall self.now.board (scheduler_due self.now (stage.Idle job skipped)) task.old }
         ensures { SchedulerComes self.now (scheduler_left self.now (stage.Idle job skipped) (Slots (slots_of slots.now)))
             task.old result task.new }
     {
@@ -214,7 +214,7 @@ impl<G: Gate> Spool<'_, G> {
     ) -> Result<(), Lost>
         requires index { index < self.now.initiators }
         requires code { code < release_limit }
-        requires rests { IsResting self.now.board 2 task.old }
+        requires task { MayCall self.now.board 2 task.old }
         ensures ran { MatchResult result
             (λ _. Ran (handed self.now.board.config (length self.now.jobs) code index generation) (Done tt) task.old task.new)
             (λ _. Ran (handed self.now.board.config (length self.now.jobs) code index generation) Wrong task.old task.new) }
@@ -252,7 +252,7 @@ impl<G: Gate> Spool<'_, G> {
         generation: u32,
     ) -> Result<Next<SchedulerStage>, Lost>
         requires index { index < self.now.initiators }
-        requires rests { IsResting self.now.board (scheduler_due self.now (stage.Dismissal index)) task.old }
+        requires task { MayCall self.now.board (scheduler_due self.now (stage.Dismissal index)) task.old }
         ensures { SchedulerComes self.now (scheduler_left self.now (stage.Dismissal index) (Slots (Some generation ∷ [])))
             task.old result task.new }
     {

@@ -9,7 +9,7 @@ ghost use Rattle.std.specs.Prelude.{◌≡◌, ◌<◌, ◌≤◌, ◌-◌, ◌*
 ghost use Rattle.mv_board.specs.Faces.{CallerFace, IsFresh};
 ghost use Rattle.mv_plan.specs.SpoolSetup.{writer};
 ghost use Rattle.mv_work.specs.Needs.{Slots};
-ghost use Rattle.mv_work.specs.Waiting.{IsResting};
+ghost use Rattle.mv_wait.specs.Run.{MayCall};
 ghost use Rattle.mv_work.specs.Works.{HasComeAs, ToldAs};
 ghost use Rattle.mv_work.specs.Writing.{WriterAsks, WriterComes, ends_from, room_in, writer_due, writer_left};
 ghost use Rattle.mv_work.specs.declared.work.Role.TheVariants as role;
@@ -75,7 +75,7 @@ impl<G: Gate> Spool<'_, G> {
     ) -> Result<Next<u32>, Lost>
         requires job { job < length self.now.jobs }
         requires room { length self.now.jobs - job ≤ room_in ends.old }
-        requires rests { IsResting self.now.board (writer_due self.now job) task.old }
+        requires task { MayCall self.now.board (writer_due self.now job) task.old }
         ensures { WriterComes self.now ends.new (writer_left self.now ends.old.items job (Slots (Some end ∷ []))) task.old result task.new }
     {
         self.pass(rt, task, Point::Written(job));

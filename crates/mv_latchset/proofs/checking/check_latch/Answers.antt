@@ -9,5 +9,5 @@ standing_in-requires g c = says_standing c.args.station.now.config c.args.task.n
 pub returns : goal.returns
 returns g c = record {
   served = check_served c.args.token.latch c.args.token.id c.args.task.now c.event-reply.new.task c.event-reply.result
-      c.standing_in.result c.event-reply.ensures.event c.standing_in.ensures c.requires.rest;
+      c.standing_in.result c.event-reply.ensures.event c.standing_in.ensures c.requires.task.rest;
 }

@@ -42,7 +42,7 @@ returns-in-Some-clause-begun g c =
     let a = c.args in
     let is = sym (c.refuses.ensures.refusal a.requestor a.mode) ∙ ap (λ o. option_map obtain_refused o) c.in-Some.is in record {
       served = stopped a.station.now.config a.latch a.requestor a.mode a.form (λ x. x ≡ Err (obtain_refused c.in-Some.refusal)) a.task.now
-          (obtain_refused c.in-Some.refusal) is c.requires.rest refl;
+          (obtain_refused c.in-Some.refusal) is c.requires.task.rest refl;
       causes = stopped_by a.station.now.config a.latch a.requestor a.mode a.form a.task.now c.in-Some.refusal is;
       there = tt;
     }
@@ -75,7 +75,7 @@ returns-in-Granted-clause-begun g c =
     let none = allowed g (goal.at.returns-in-Granted-clause-begun g c).In_default in
     let h = read_as _ _ _ _ _ c.in-Granted.ensures.reply c.event-reply.ensures.event in record {
       served = granted_served a.station.now.config a.latch a.requestor a.mode a.form (λ x. x ≡ Ok (GrantedAs c.token_of.result.id))
-          a.task.now c.event-reply.new.task c.in-Granted.id none h c.requires.rest
+          a.task.now c.event-reply.new.task c.in-Granted.id none h c.requires.task.rest
           (ap (λ n. Ok (GrantedAs n)) (sym c.token_of.ensures.id));
       causes = (
         none,
@@ -93,7 +93,7 @@ returns-in-NotNow-clause-begun g c =
     let none = allowed g (goal.at.returns-in-NotNow-clause-begun g c).In_default in
     let h = read_as _ _ _ _ _ c.in-NotNow.ensures.reply c.event-reply.ensures.event in record {
       served = not_now_served a.station.now.config a.latch a.requestor a.mode a.form (λ x. x ≡ Err (refusal.NotNow c.in-NotNow.id))
-          a.task.now c.event-reply.new.task c.in-NotNow.id none c.in-NotNow.ensures.form h c.requires.rest refl;
+          a.task.now c.event-reply.new.task c.in-NotNow.id none c.in-NotNow.ensures.form h c.requires.task.rest refl;
       causes = (none, c.in-NotNow.ensures.form, h);
       there = tt;
     }
@@ -114,7 +114,7 @@ returns-in-Pending-clause-begun g c =
     let h = read_as _ _ _ _ _ c.in-Pending.ensures.reply c.event-reply.ensures.event in record {
       served = pending_served a.station.now.config a.latch a.requestor a.mode a.form
           (λ x. x ≡ Ok (PendingAs c.token_of-in-Pending.result.id)) a.task.now c.event-reply.new.task c.in-Pending.id none
-          c.in-Pending.ensures.form h c.requires.rest (ap (λ n. Ok (PendingAs n)) (sym id));
+          c.in-Pending.ensures.form h c.requires.task.rest (ap (λ n. Ok (PendingAs n)) (sym id));
       causes = (
         none,
         (
@@ -136,6 +136,6 @@ returns-in-Queued-clause-begun g c =
     let is = c.in-Queued.ensures.form in
     let h = read_as _ _ _ _ _ c.in-Queued.ensures.reply c.event-reply.ensures.event in (
       is,
-      obtaining_begun s a.latch a.requestor a.mode a.form c.in-Queued.id a.task.now c.event-reply.new.task is c.requires.rest
-          c.requires.left none h,
+      obtaining_begun s a.latch a.requestor a.mode a.form c.in-Queued.id a.task.now c.event-reply.new.task is c.requires.task.rest
+          c.requires.task.left none h,
     )

@@ -9,10 +9,11 @@ use Rattle.mv_latchset.proofs.Admits.{may_purge}
 use Rattle.mv_latchset.proofs.Answering.{fair_wakes, says_purged}
 use Rattle.mv_latchset.proofs.Releases.{costs_one, left_for_wakes, purge_served}
 use Rattle.mv_latchset.proofs.Resting.{purge_rests}
+use Rattle.mv_wait.proofs.Parts.{still_of}
 use Rattle.mv_latchset.proofs.purging.purge.Goals as goal
 
 pub event-reply-requires-clause-left : goal.event-reply-requires-clause-left
-event-reply-requires-clause-left g c = let one = costs_one c.args.station.now.config in let left = c.requires.left in omega arith
+event-reply-requires-clause-left g c = let one = costs_one c.args.station.now.config in let left = c.requires.task.left in omega arith
 
 pub event-reply-requires-clause-admitted : goal.event-reply-requires-clause-admitted
 event-reply-requires-clause-admitted g c lt =
@@ -22,25 +23,24 @@ pub purged_in-purged-requires : goal.purged_in-purged-requires
 purged_in-purged-requires g c = says_purged c.args.station.now.config c.args.task.now c.event-reply.new.task c.args.requestor
     c.event-reply.result c.event-reply.ensures.event c.event-reply.ensures.possible
 
-pub post_wakes-requires-clause-rest : goal.post_wakes-requires-clause-rest
-post_wakes-requires-clause-rest g c =
+pub post_wakes-requires-clause-task : goal.post_wakes-requires-clause-task
+post_wakes-requires-clause-task g c =
+    let s = c.args.station.now in
     let t = c.args.task.now in
     let v = c.event-reply.new.task in
-    purge_rests t v c.args.requestor (purge_reply c.purged_in-purged.result)
-    (subst (λ r. Happened t Latches (op_on.Latch (Purge c.args.requestor)) r v) c.purged_in-purged.ensures c.event-reply.ensures.event)
-    c.requires.rest
+    let event = c.event-reply.ensures.event in record {
+      board = still_of s s t v event.1.same c.requires.task.board refl;
+      rest = purge_rests t v c.args.requestor (purge_reply c.purged_in-purged.result)
+          (subst (λ r. Happened t Latches (op_on.Latch (Purge c.args.requestor)) r v) c.purged_in-purged.ensures event)
+          c.requires.task.rest;
+      left = left_for_wakes s.config v.wakes t.left v.left
+          (fair_wakes s.config t v (Purge c.args.requestor) c.event-reply.result event c.event-reply.ensures.possible)
+          c.requires.task.left c.event-reply.ensures.few event.1.left;
+    }
 
 pub post_wakes-requires-clause-fair : goal.post_wakes-requires-clause-fair
 post_wakes-requires-clause-fair g c = (fair_wakes c.args.station.now.config c.args.task.now c.event-reply.new.task
     (Purge c.args.requestor) c.event-reply.result c.event-reply.ensures.event c.event-reply.ensures.possible).each
-
-pub post_wakes-requires-clause-left : goal.post_wakes-requires-clause-left
-post_wakes-requires-clause-left g c =
-    let v = c.event-reply.new.task in
-    left_for_wakes c.args.station.now.config v.wakes c.args.task.now.left v.left
-    (fair_wakes c.args.station.now.config c.args.task.now v (Purge c.args.requestor) c.event-reply.result c.event-reply.ensures.event
-    c.event-reply.ensures.possible)
-    c.requires.left c.event-reply.ensures.few c.event-reply.ensures.event.1.left
 
 pub returns : goal.returns
 returns g c =
@@ -51,9 +51,9 @@ returns g c =
     let fair = fair_wakes s t v (Purge c.args.requestor) c.event-reply.result c.event-reply.ensures.event
     c.event-reply.ensures.possible in
     let few = c.event-reply.ensures.few in
-    let left = c.requires.left in record {
+    let left = c.requires.task.left in record {
       served = purge_served s c.args.requestor (λ a. a ≡ counts_of p) t v c.post_wakes.new.task p.removed p.granted
           (subst (λ r. Happened t Latches (op_on.Latch (Purge c.args.requestor)) r v) c.purged_in-purged.ensures
           c.event-reply.ensures.event)
-          c.post_wakes.ensures.posted (fair.cost (omega arith)) c.requires.rest c.post_wakes.ensures.rest refl;
+          c.post_wakes.ensures.posted (fair.cost (omega arith)) c.requires.task.rest c.post_wakes.ensures.rest refl;
     }

@@ -7,10 +7,10 @@ use Rattle.mv_latchset.proofs.waking.post_wakes.Goals as goal
 
 pub loop-i-init : goal.loop-i-init
 loop-i-init g c = record {
-  task = c.requires.task;
-  rest = c.requires.rest;
+  task = c.requires.task.board;
+  rest = c.requires.task.rest;
   told = refl;
-  posted = none_posted c.args.station.now.config c.args.task.now.wakes c.args.task.now c.requires.left;
+  posted = none_posted c.args.station.now.config c.args.task.now.wakes c.args.task.now c.requires.task.left;
 }
 
 pub wake_at-wake-requires : goal.wake_at-wake-requires
@@ -26,14 +26,17 @@ post_wake-requires-clause-fair g c =
     let here = subst (λ (xs : List Wake). slice_get xs c.loop-i.i ≡ Some c.wake_at-wake.result) now c.wake_at-wake.ensures in
     next_is_fair c.args.station.now.config ws c.loop-i.i c.wake_at-wake.result lt here c.requires.fair
 
-pub post_wake-requires-clause-left : goal.post_wake-requires-clause-left
-post_wake-requires-clause-left g c =
+pub post_wake-requires-clause-task : goal.post_wake-requires-clause-task
+post_wake-requires-clause-task g c =
     let ws = c.args.task.now.wakes in
     let now = ap last_of c.loop-i.invariant.told ∙ (sym c.wakes-count.ensures.last ∙ c.wakes-count.ensures.wakes) in
     let lt = subst (λ (xs : List Wake). c.loop-i.i < length xs) c.wakes-count.ensures.wakes c.loop-i-test.true in
-    let here = subst (λ (xs : List Wake). slice_get xs c.loop-i.i ≡ Some c.wake_at-wake.result) now c.wake_at-wake.ensures in
-    next_fits c.args.station.now.config ws c.loop-i.i c.wake_at-wake.result c.args.task.now c.loop-i.task
-    (next_wake ws c.loop-i.i c.wake_at-wake.result lt here) c.loop-i.invariant.posted
+    let here = subst (λ (xs : List Wake). slice_get xs c.loop-i.i ≡ Some c.wake_at-wake.result) now c.wake_at-wake.ensures in record {
+      board = c.loop-i.invariant.task;
+      rest = c.loop-i.invariant.rest;
+      left = next_fits c.args.station.now.config ws c.loop-i.i c.wake_at-wake.result c.args.task.now c.loop-i.task
+          (next_wake ws c.loop-i.i c.wake_at-wake.result lt here) c.loop-i.invariant.posted;
+    }
 
 pub loop-i-preserved : goal.loop-i-preserved
 loop-i-preserved g c =

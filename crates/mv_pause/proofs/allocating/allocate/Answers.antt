@@ -21,7 +21,7 @@ use Rattle.mv_pause.proofs.allocating.allocate.Goals as goal
 pub returns-in_default-clause-served : goal.returns-in_default-clause-served
 returns-in_default-clause-served g c =
     done_served 1 (allocate c.args.station.now.config) (λ a. a ≡ Err refusal.NoElement) c.args.task.now (Err refusal.NoElement)
-    (ap open_lowest (sym c.lowest.ensures.lowest ∙ c.in_default.is)) c.requires.rest refl
+    (ap open_lowest (sym c.lowest.ensures.lowest ∙ c.in_default.is)) c.requires.task.rest refl
 
 pub event-reply-requires-clause-admitted : goal.event-reply-requires-clause-admitted
 event-reply-requires-clause-admitted g c lt =
@@ -51,7 +51,7 @@ returns g c =
     let h = subst (λ r. Happened t (Element n) (op_on.Element Open) r u) c.opened.ensures c.event-reply.ensures.event in record {
       served = event_served (allocate s) (λ a. a ≡ Ok token) t u (Element n) (op_on.Element Open) (λ x. on_element x.entry.reply (opened n))
           (reply_of.Element (Opened c.opened.result)) (Ok token) tt h (ap open_lowest found) (λ x r. ap (λ z. on_element z (opened n)) r)
-          (λ w. refl) c.requires.rest refl;
+          (λ w. refl) c.requires.task.rest refl;
       causes = found;
       own = subst (λ z. IfSome z (λ m. (m < element_count s) × (element_owner s m ≡ t.number))) c.in-Some.is c.lowest.ensures.own;
       low = subst (NamesUpTo 262143) c.opened.ensures c.event-reply.ensures.low;

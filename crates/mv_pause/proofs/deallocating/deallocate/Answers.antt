@@ -25,7 +25,7 @@ returns-then-is_others-clause-served g c =
     done_served 1 (deallocate c.args.station.now.config c.args.token) (λ a. a ≡ Err refusal.NotOwner) t (Err refusal.NotOwner)
     (others c.args.station.now.config (kept_of t.number t.log) c.args.token
     (Do (Element c.args.token.element) (op_on.Element (Close c.args.token.generation)) (λ h. on_element h.entry.reply closed))
-    (sym c.is_others.ensures ∙ c.if-is_others.true)) c.requires.rest refl
+    (sym c.is_others.ensures ∙ c.if-is_others.true)) c.requires.task.rest refl
 
 pub returns-then-is_others-clause-current : goal.returns-then-is_others-clause-current
 returns-then-is_others-clause-current g c own current =
@@ -44,7 +44,7 @@ over-requires g c =
     says_idle c.args.station.now.config c.args.task.now c.event-reply.new.task c.args.token.element (Close c.args.token.generation)
     c.event-reply.result SaysClosed (close_says c.args.token.generation) c.event-reply.ensures.event c.event-reply.ensures.possible
     (own_is c.args.station.now.config c.args.task.now.number c.args.task.now.log c.args.token
-    (sym c.is_others.ensures ∙ c.if-is_others.false)) c.requires.rest
+    (sym c.is_others.ensures ∙ c.if-is_others.false)) c.requires.task.rest
 
 pub returns-in-None : goal.returns-in-None
 returns-in-None g c =
@@ -60,7 +60,7 @@ returns-in-None g c =
       served = event_served (deallocate s token) (λ a. a ≡ Ok tt) t u o op (λ x. on_element x.entry.reply closed) (reply_of.Element Closed)
           (Ok tt) tt h
           (mine s (kept_of t.number t.log) token (Do o op (λ x. on_element x.entry.reply closed)) own)
-          (λ x r. ap (λ z. on_element z closed) r) (λ w. refl) c.requires.rest refl;
+          (λ x r. ap (λ z. on_element z closed) r) (λ w. refl) c.requires.task.rest refl;
       causes = (own, h);
       current = λ mine current. refl;
       low = tt;
@@ -81,10 +81,10 @@ returns-in-Some g c =
       served = event_served (deallocate s token) (λ a. a ≡ Err (refusal.Spent now)) t u o op (λ x. on_element x.entry.reply closed)
           (reply_of.Element (Spent now)) (Err (refusal.Spent now)) tt h
           (mine s (kept_of t.number t.log) token (Do o op (λ x. on_element x.entry.reply closed)) own)
-          (λ x r. ap (λ z. on_element z closed) r) (λ w. refl) c.requires.rest refl;
+          (λ x r. ap (λ z. on_element z closed) r) (λ w. refl) c.requires.task.rest refl;
       causes = (own, h);
       current = λ mine current. absurd (current_is_not_spent s t u token (Close token.generation) c.event-reply.result now
           (close_is_current token.generation now) c.event-reply.ensures.event c.event-reply.ensures.possible
-          (own_is s t.number t.log token own) c.requires.rest current is);
+          (own_is s t.number t.log token own) c.requires.task.rest current is);
       low = subst (NamesUpTo 262143) is c.event-reply.ensures.low;
     }

@@ -24,7 +24,7 @@ pub beginning-requires : goal.beginning-requires
 beginning-requires g c =
     says_idle c.args.station.now.config c.args.task.now c.event-reply.new.task c.args.token.element (Pause c.args.token.generation)
     c.event-reply.result SaysBegun (pause_says c.args.token.generation) c.event-reply.ensures.event c.event-reply.ensures.possible
-    c.requires.own c.requires.rest
+    c.requires.own c.requires.task.rest
 
 pub returns-in-Given : goal.returns-in-Given
 returns-in-Given g c =
@@ -44,7 +44,7 @@ returns-in-Given g c =
           (element_runs (paused n token.generation) whole t u n (Pause token.generation) (Given gift.code gift.next) h
           (ap (λ z. Done (Ok z)) (sym c.with_token.ensures)));
       rest = rests_by u.log (waits_after (waits_from no_waits t.log) (Element n) op reply) (waits_one t u (Element n) op reply h)
-          (none_given (waits_from no_waits t.log) n gift.code gift.next op c.requires.rest);
+          (none_given (waits_from no_waits t.log) n gift.code gift.next op c.requires.task.rest);
       current = λ is. (c.with_token.result, refl);
       answer = given_is_so u token c.with_token.result gift.code gift.next c.with_token.ensures
           (was_given t u token op gift.code gift.next h next) next;
@@ -67,10 +67,10 @@ returns-in-Spent g c =
     let h = subst (λ r. Happened t (Element n) op r u) c.in-Spent.ensures c.event-reply.ensures.event in record {
       runs = runs_within 1 2 (pause_own token) whole t u (omega arith)
           (element_runs (paused n token.generation) whole t u n (Pause token.generation) (Spent now) h refl);
-      rest = still_at_rest t u (Element n) op (reply_of.Element (Spent now)) h (λ w. refl) c.requires.rest;
+      rest = still_at_rest t u (Element n) op (reply_of.Element (Spent now)) h (λ w. refl) c.requires.task.rest;
       current = λ is. absurd (current_is_not_spent c.args.station.now.config t u token (Pause token.generation) c.event-reply.result now
           (pause_is_current token.generation now) c.event-reply.ensures.event c.event-reply.ensures.possible
-          c.requires.own c.requires.rest is c.in-Spent.ensures);
+          c.requires.own c.requires.task.rest is c.in-Spent.ensures);
       answer = h;
       low = (subst (NamesUpTo 262143) c.in-Spent.ensures c.event-reply.ensures.low, tt);
     }

@@ -6,7 +6,7 @@ use Rattle.mv_pause.proofs.pausing.pause.Goals as goal
 pub returns-then-is_others : goal.returns-then-is_others
 returns-then-is_others g c =
     let m = made_not c.args.station.now.config c.args.token c.args.task.now (sym c.is_others.ensures ∙ c.if-is_others.true)
-    c.requires.rest in
+    c.requires.task.rest in
     record { served = m.served; causes = m.causes; next = m.next; current = m.current; low = m.low }
 
 pub pause_own-requires-clause-own : goal.pause_own-requires-clause-own
@@ -17,5 +17,5 @@ pause_own-requires-clause-own g c =
 pub returns : goal.returns
 returns g c =
     let m = made_own c.args.station.now.config c.args.token c.args.task.now c.pause_own.new.task c.pause_own.result
-    (sym c.is_others.ensures ∙ c.if-is_others.false) c.requires.rest c.pause_own.ensures in
+    (sym c.is_others.ensures ∙ c.if-is_others.false) c.requires.task.rest c.pause_own.ensures in
     record { served = m.served; causes = m.causes; next = m.next; current = m.current; low = m.low }

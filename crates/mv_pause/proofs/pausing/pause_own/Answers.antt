@@ -6,7 +6,7 @@ end_pause-requires-clause-pausing g c =
     let t = c.args.task.now in (
       t,
       record {
-        may = record { rest = c.requires.rest; element = c.requires.element; left = c.requires.left };
+        may = record { rest = c.requires.task.rest; element = c.requires.element; left = c.requires.task.left };
         own = is_mine c.args.station.now.config t.number t.log c.args.token c.requires.own;
         parked = c.begin_own.new.task;
         event = c.in_default.ensures;
@@ -19,7 +19,7 @@ returns g c =
     let t = c.args.task.now in
     c.end_pause.ensures t
     (record {
-      may = record { rest = c.requires.rest; element = c.requires.element; left = c.requires.left };
+      may = record { rest = c.requires.task.rest; element = c.requires.element; left = c.requires.task.left };
       own = is_mine c.args.station.now.config t.number t.log c.args.token c.requires.own;
       parked = c.begin_own.new.task;
       event = c.in_default.ensures;

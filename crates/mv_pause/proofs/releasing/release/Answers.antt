@@ -28,7 +28,7 @@ returns g c =
     let h = subst (λ z. Happened t o op z u) c.released-answer.ensures c.event-reply.ensures.event in record {
       served = one_served (release c.args.token c.args.code) (λ a. a ≡ release_answer r) t u o op (reply_of.Element (reply_to_release r))
           (release_answer r) tt h refl (λ x e. ap (λ z. on_element z released) e ∙ release_says_so r)
-          (λ w. release_opens_nothing r w c.args.token.element op) c.requires.rest refl;
+          (λ w. release_opens_nothing r w c.args.token.element op) c.requires.task.rest refl;
       causes = h;
       low = release_is_low r (subst (NamesUpTo 262143) c.released-answer.ensures c.event-reply.ensures.low);
     }

@@ -29,9 +29,9 @@ returns-in-Ok c =
     let op = op_on.Element (Release c.args.token.generation c.args.code) in
     let call = try_release c.args.token c.args.expected c.args.code in
     let x = subst (λ z. Exchanged t (Element n) op c.args.expected z u) c.released.ensures c.in-Ok.ensures.answer in
-    let rest = rests_released t u n op r (x.place, x.happened) c.requires.rest in record {
+    let rest = rests_released t u n op r (x.place, x.happened) c.requires.task.rest in record {
       served = subst (λ z. IfSome z (λ is. IsServed 1 call (λ a. a ≡ is) t u)) (sym c.tried_as.ensures)
-          (serves 1 call (λ a. a ≡ release_answer r) t u (release_answer r) c.requires.rest refl
+          (serves 1 call (λ a. a ≡ release_answer r) t u (release_answer r) c.requires.task.rest refl
           (tried_runs t u c.args.token c.args.expected c.args.code r x) rest);
       causes = tried_is t u c.args.token c.args.expected c.args.code r c.tried_as.result c.tried_as.ensures x;
       early = tried_early t u c.args.token c.args.expected c.args.code r c.tried_as.result x c.requires.unpaused c.tried_as.ensures;

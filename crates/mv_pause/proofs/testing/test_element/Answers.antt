@@ -25,6 +25,6 @@ returns c =
     let h = subst (λ r. Happened t o (op_on.Element Test) r u) c.state.ensures c.test.ensures.event in record {
       served = one_served (test_element c.args.element) (λ a. a ≡ c.state.result) t u o (op_on.Element Test)
           (reply_of.Element (State c.state.result)) c.state.result tt h refl (λ x r. ap (λ z. on_element z the_state) r) (λ w. refl)
-          c.requires.rest refl;
+          c.requires.task.rest refl;
       low = subst (NamesUpTo 262143) c.state.ensures c.test.ensures.low;
     }

@@ -25,7 +25,7 @@ returns-in-Some g c =
     let is = sym c.refuses_transfer.ensures.refusal ∙ ap (λ z. option_map transfer_refused z) c.in-Some.is in record {
       served = done_served (transfer_events c.args.current) (transfer s c.args.current c.args.target c.args.code)
           (λ a. a ≡ Err why) t (Err why)
-          (refused_whole s c.args.current c.args.target c.args.code (kept_of t.number t.log) why is) c.requires.rest refl;
+          (refused_whole s c.args.current c.args.target c.args.code (kept_of t.number t.log) why is) c.requires.task.rest refl;
       causes = current_cause s c.args.current c.args.target c.args.code t c.in-Some.refusal is;
       low = (c.in-Some.ensures.low, tt);
     }
@@ -53,7 +53,7 @@ returns-in-Some-refuses_target g c =
           (runs_within 1 (transfer_events c.args.current) p (Done (Err why)) t u (cost_parts c.args.current).1
           (element_runs (transferred s c.args.current kept) (Done (Err why)) t u n op (reply_to_release r) h
           (target_is_refused s c.args.current kept r why is)))
-          c.requires.rest (rests_released t u n (op_on.Element op) r h c.requires.rest) refl;
+          c.requires.task.rest (rests_released t u n (op_on.Element op) r h c.requires.task.rest) refl;
       causes = target_cause s c.args.current c.args.target c.args.code t u r refusal (sym is) none h;
       low = (target_is_low r refusal (sym is) c.release-answer.ensures.low, tt);
     }
@@ -61,7 +61,7 @@ returns-in-Some-refuses_target g c =
 pub pause_current-requires-clause-rest : goal.pause_current-requires-clause-rest
 pause_current-requires-clause-rest g c =
     rests_released c.args.task.now c.release-answer.new.task c.args.target.element
-    (op_on.Element (Release c.args.target.generation c.args.code)) c.release-answer.result c.release-answer.ensures.causes c.requires.rest
+    (op_on.Element (Release c.args.target.generation c.args.code)) c.release-answer.result c.release-answer.ensures.causes c.requires.task.rest
 
 pub pause_current-requires-clause-accepted : goal.pause_current-requires-clause-accepted
 pause_current-requires-clause-accepted g c =
@@ -99,7 +99,7 @@ returns g c =
           (runs_then 1 (pause_cost c.args.current) p pause (Done answer) t u v
           (element_runs (transferred s c.args.current kept) pause t u n op (reply_to_release r) h
           (target_is_released s c.args.current kept r reached)) paused))
-          c.requires.rest c.pause_current.ensures.rest refl;
+          c.requires.task.rest c.pause_current.ensures.rest refl;
       causes = (none, c.pause_current.ensures.given);
       low = (transfer_is_low c.pause_current.result, c.pause_current.ensures.low);
     }

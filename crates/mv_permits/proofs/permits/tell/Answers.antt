@@ -8,9 +8,13 @@ pub post-requires-clause-block : goal.post-requires-clause-block
 post-requires-clause-block g c =
     subst (λ (s : Setup). c.args.block < length s.owners) (sym c.requires.ready.config.1) c.requires.block
 
-pub post-requires-clause-left : goal.post-requires-clause-left
-post-requires-clause-left g c =
-    subst (λ (s : Setup). reach s c.args.block ≤ c.args.task.now.left) (sym c.requires.ready.config.1) c.requires.left
+pub post-requires-clause-task : goal.post-requires-clause-task
+post-requires-clause-task g c =
+    let ready = c.requires.ready in record {
+      board = ready.task;
+      rest = ready.rest;
+      left = subst (λ (s : Setup). reach s c.args.block ≤ c.args.task.now.left) (sym ready.config.1) c.requires.left;
+    }
 
 pub returns-clause-permit : goal.returns-clause-permit
 returns-clause-permit g c =

@@ -4,14 +4,14 @@ use Rattle.std.specs.List.{AllByRecursion}
 use Rattle.mv_calls.specs.Services as service
 use Rattle.mv_machine.proofs.Lists.{all_front, all_back}
 use Rattle.mv_wait.specs.declared.waiting.WaitSlot.{WaitSlot}
+use Rattle.mv_wait.specs.Run.{MayCall}
 use Rattle.mv_script.specs.declared.call.Call.{Call}
 use Rattle.mv_script.specs.declared.call.Call.TheVariants as call
-use Rattle.mv_script.specs.Costs.{cost}
 use Rattle.mv_script.specs.Limits.{most_waited}
 use Rattle.mv_script.specs.Script.{is_obtain}
 use Rattle.mv_runscript.specs.Making.{AreGoodIn, HaveSlots, MakesCall, is_wait}
 use Rattle.mv_runscript.specs.Served.{Serves}
-use Rattle.mv_runscript.proofs.Makes.{known_makes, plain_makes}
+use Rattle.mv_runscript.proofs.Makes.{may_paid, known_makes, plain_makes}
 use Rattle.mv_runscript.proofs.Obtains.{latch_low, posts_there, requests_more, tokens_more}
 use Rattle.mv_runscript.proofs.calling.make.Goals as goal
 
@@ -30,11 +30,12 @@ wait_in-requires-clause-room g c =
     (subst HaveSlots c.in-Some.ensures.items c.requires.slots)).0 in
     omega arith
 
-pub wait_in-requires-clause-left : goal.wait_in-requires-clause-left
-wait_in-requires-clause-left g c =
-    let left = c.args.task.now.left in
-    subst (λ (es : List ℕ). 2 * length es ≤ left) (sym (c.deref.ensures.value ∙ c.ecbs.view_is))
-    (subst (λ (d : Call). cost c.args.station.now.config d ≤ left) c.in-Wait.is c.requires.left)
+pub wait_in-requires-clause-task : goal.wait_in-requires-clause-task
+wait_in-requires-clause-task g c =
+    let b = c.args.station.now in
+    let t = c.args.task.now in
+    let may = may_paid b c.in-Wait.is c.requires.task in
+    subst (λ (es : List ℕ). MayCall b (2 * length es) t) (sym (c.deref.ensures.value ∙ c.ecbs.view_is)) may
 
 pub returns-in-Some-clause-makes : goal.returns-in-Some-clause-makes
 returns-in-Some-clause-makes g c =
@@ -65,9 +66,8 @@ obtain-outcome-requires-clause-block g c =
     posts_there config c.args.table.now c.in-Obtain.form
     (subst (AreGoodIn config c.args.table.now) c.in-Obtain.is c.requires.numbers).1
 
-pub obtain-outcome-requires-clause-left : goal.obtain-outcome-requires-clause-left
-obtain-outcome-requires-clause-left g c =
-    subst (λ (d : Call). cost c.args.station.now.config d ≤ c.args.task.now.left) c.in-Obtain.is c.requires.left
+pub obtain-outcome-requires-clause-task : goal.obtain-outcome-requires-clause-task
+obtain-outcome-requires-clause-task g c = let may = may_paid c.args.station.now c.in-Obtain.is c.requires.task in may
 
 pub push_reserved-requires : goal.push_reserved-requires
 push_reserved-requires g c =

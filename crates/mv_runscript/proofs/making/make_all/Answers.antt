@@ -15,9 +15,9 @@ pub loop-call-init : goal.loop-call-init
 loop-call-init g c =
     let room = c.requires.room in
     record {
-      board = c.requires.task;
-      quiet = c.requires.rest;
-      left = c.requires.left;
+      board = c.requires.task.board;
+      quiet = c.requires.task.rest;
+      left = c.requires.task.left;
       requests = subst AreOfLatches (sym room.none_asked) tt;
       count = ap length room.none_asked;
       request_room = room.requests;
@@ -29,12 +29,15 @@ loop-call-init g c =
           c.args.task.now c.args.task.now) (sym room.none_answered) (room.none_asked, refl);
     }
 
-pub make-answer-requires-clause-left : goal.make-answer-requires-clause-left
-make-answer-requires-clause-left g c =
+pub make-answer-requires-clause-task : goal.make-answer-requires-clause-task
+make-answer-requires-clause-task g c =
     let cost = cost_more c.args.calls.now c.loop-call.call-index c.call-item.result c.loop-call-test.true c.call-item.is
     c.args.station.now.config in
-    let left = c.loop-call.invariant.left in
-    omega arith
+    let left = c.loop-call.invariant.left in record {
+      board = c.loop-call.invariant.board;
+      rest = c.loop-call.invariant.quiet;
+      left = omega arith;
+    }
 
 pub make-answer-requires-clause-room : goal.make-answer-requires-clause-room
 make-answer-requires-clause-room g c obtains =

@@ -14,4 +14,4 @@ returns-in-Some g c table =
 pub returns-in-None : goal.returns-in-None
 returns-in-None g c table =
     unheld_makes c.args.station.now.config table (call.Check c.args.obtain) c.args.obtain c.args.requests.now c.args.task.now refl
-    c.in-None.is c.requires.rest
+    c.in-None.is c.requires.task.rest

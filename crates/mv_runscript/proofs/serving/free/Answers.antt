@@ -16,4 +16,4 @@ pub returns-in-None : goal.returns-in-None
 returns-in-None g c table =
     unheld_makes c.args.station.now.config table (call.Free c.args.obtain c.args.conditional) c.args.obtain c.args.requests.now
     c.args.task.now
-    refl c.in-None.is c.requires.rest
+    refl c.in-None.is c.requires.task.rest

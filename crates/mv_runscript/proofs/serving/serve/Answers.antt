@@ -3,75 +3,79 @@ use Rattle.mv_calls.specs.Keeping.{kept_of}
 use Rattle.mv_script.specs.declared.call.Call.TheVariants as call
 use Rattle.mv_script.specs.Costs.{no_table, nothing_asked}
 use Rattle.mv_script.proofs.Suffices.{suffices}
-use Rattle.mv_runscript.proofs.Makes.{paid, plain_makes}
+use Rattle.mv_runscript.proofs.Makes.{may_paid, plain_makes}
 use Rattle.mv_runscript.proofs.Served.{served_with, served_post}
 use Rattle.mv_runscript.proofs.serving.serve.Goals as goal
 
--- what is left for each
-pub post-requires-clause-left : goal.post-requires-clause-left
-post-requires-clause-left g c = let left = paid c.args.station.now.config c.in-Post.is c.requires.left in left
+-- what each asks of the task
+pub post-requires-clause-task : goal.post-requires-clause-task
+post-requires-clause-task g c = let may = may_paid c.args.station.now c.in-Post.is c.requires.task in may
 
-pub try_post-requires-clause-left : goal.try_post-requires-clause-left
-try_post-requires-clause-left g c = let left = paid c.args.station.now.config c.in-TryPost.is c.requires.left in left
+pub try_post-requires-clause-task : goal.try_post-requires-clause-task
+try_post-requires-clause-task g c = let may = may_paid c.args.station.now c.in-TryPost.is c.requires.task in may
 
-pub clear-requires-clause-left : goal.clear-requires-clause-left
-clear-requires-clause-left g c = let left = paid c.args.station.now.config c.in-Clear.is c.requires.left in left
+pub clear-requires-clause-task : goal.clear-requires-clause-task
+clear-requires-clause-task g c = let may = may_paid c.args.station.now c.in-Clear.is c.requires.task in may
 
-pub extend-requires-clause-left : goal.extend-requires-clause-left
-extend-requires-clause-left g c = let left = paid c.args.station.now.config c.in-Extend.is c.requires.left in left
+pub extend-requires-clause-task : goal.extend-requires-clause-task
+extend-requires-clause-task g c = let may = may_paid c.args.station.now c.in-Extend.is c.requires.task in may
 
-pub test_ecb-requires-clause-left : goal.test_ecb-requires-clause-left
-test_ecb-requires-clause-left g c = let left = paid c.args.station.now.config c.in-Test.is c.requires.left in left
+pub test_ecb-requires-clause-task : goal.test_ecb-requires-clause-task
+test_ecb-requires-clause-task g c = let may = may_paid c.args.station.now c.in-Test.is c.requires.task in may
 
-pub read_volume-requires-clause-left : goal.read_volume-requires-clause-left
-read_volume-requires-clause-left g c = let left = paid c.args.station.now.config c.in-Read.is c.requires.left in left
+pub read_volume-requires-clause-task : goal.read_volume-requires-clause-task
+read_volume-requires-clause-task g c = let may = may_paid c.args.station.now c.in-Read.is c.requires.task in may
 
-pub write_volume-requires-clause-left : goal.write_volume-requires-clause-left
-write_volume-requires-clause-left g c = let left = paid c.args.station.now.config c.in-Write.is c.requires.left in left
+pub write_volume-requires-clause-task : goal.write_volume-requires-clause-task
+write_volume-requires-clause-task g c = let may = may_paid c.args.station.now c.in-Write.is c.requires.task in may
 
-pub allocate-requires-clause-left : goal.allocate-requires-clause-left
-allocate-requires-clause-left g c = let left = paid c.args.station.now.config c.in-Alloc.is c.requires.left in left
+pub allocate-requires : goal.allocate-requires
+allocate-requires g c = let may = may_paid c.args.station.now c.in-Alloc.is c.requires.task in record { task = may }
 
-pub pause-requires-clause-left : goal.pause-requires-clause-left
-pause-requires-clause-left g c = let left = paid c.args.station.now.config c.in-Pause.is c.requires.left in left
+pub pause-requires-clause-task : goal.pause-requires-clause-task
+pause-requires-clause-task g c = let may = may_paid c.args.station.now c.in-Pause.is c.requires.task in may
 
-pub release-requires-clause-left : goal.release-requires-clause-left
-release-requires-clause-left g c = let left = paid c.args.station.now.config c.in-Release.is c.requires.left in left
+pub release-requires-clause-task : goal.release-requires-clause-task
+release-requires-clause-task g c = let may = may_paid c.args.station.now c.in-Release.is c.requires.task in may
 
-pub try_release_token-requires-clause-left : goal.try_release_token-requires-clause-left
-try_release_token-requires-clause-left g c = let left = paid c.args.station.now.config c.in-TryRelease.is c.requires.left in left
+pub try_release_token-requires-clause-task : goal.try_release_token-requires-clause-task
+try_release_token-requires-clause-task g c = let may = may_paid c.args.station.now c.in-TryRelease.is c.requires.task in may
 
-pub transfer-requires-clause-left : goal.transfer-requires-clause-left
-transfer-requires-clause-left g c = let left = paid c.args.station.now.config c.in-Transfer.is c.requires.left in left
+pub transfer-requires-clause-task : goal.transfer-requires-clause-task
+transfer-requires-clause-task g c = let may = may_paid c.args.station.now c.in-Transfer.is c.requires.task in may
 
-pub deallocate-requires-clause-left : goal.deallocate-requires-clause-left
-deallocate-requires-clause-left g c = let left = paid c.args.station.now.config c.in-Dealloc.is c.requires.left in left
+pub deallocate-requires-clause-task : goal.deallocate-requires-clause-task
+deallocate-requires-clause-task g c = let may = may_paid c.args.station.now c.in-Dealloc.is c.requires.task in may
 
-pub test_element-requires-clause-left : goal.test_element-requires-clause-left
-test_element-requires-clause-left g c = let left = paid c.args.station.now.config c.in-TestElement.is c.requires.left in left
+pub test_element-requires-clause-task : goal.test_element-requires-clause-task
+test_element-requires-clause-task g c = let may = may_paid c.args.station.now c.in-TestElement.is c.requires.task in may
 
-pub check-requires-clause-left : goal.check-requires-clause-left
-check-requires-clause-left g c = let left = paid c.args.station.now.config c.in-Check.is c.requires.left in left
+pub check-requires-clause-task : goal.check-requires-clause-task
+check-requires-clause-task g c = let may = may_paid c.args.station.now c.in-Check.is c.requires.task in may
 
-pub free-requires-clause-left : goal.free-requires-clause-left
-free-requires-clause-left g c = let left = paid c.args.station.now.config c.in-Free.is c.requires.left in left
+pub free-requires-clause-task : goal.free-requires-clause-task
+free-requires-clause-task g c = let may = may_paid c.args.station.now c.in-Free.is c.requires.task in may
 
-pub purge-requires-clause-left : goal.purge-requires-clause-left
-purge-requires-clause-left g c = let left = paid c.args.station.now.config c.in-Purge.is c.requires.left in left
+pub purge-requires : goal.purge-requires
+purge-requires g c = let may = may_paid c.args.station.now c.in-Purge.is c.requires.task in record { task = may }
 
-pub event_posted-requires-clause-left : goal.event_posted-requires-clause-left
-event_posted-requires-clause-left g c = let left = paid c.args.station.now.config c.in-PostEvent.is c.requires.left in left
+pub event_posted-requires-clause-task : goal.event_posted-requires-clause-task
+event_posted-requires-clause-task g c = let may = may_paid c.args.station.now c.in-PostEvent.is c.requires.task in may
 
-pub event_taken-requires-clause-left : goal.event_taken-requires-clause-left
-event_taken-requires-clause-left g c = let left = paid c.args.station.now.config c.in-NextEvent.is c.requires.left in left
+pub event_taken-requires-clause-task : goal.event_taken-requires-clause-task
+event_taken-requires-clause-task g c = let may = may_paid c.args.station.now c.in-NextEvent.is c.requires.task in may
 
-pub end_of_task-requires-clause-left : goal.end_of_task-requires-clause-left
-end_of_task-requires-clause-left g c =
+pub end_of_task-requires-clause-task : goal.end_of_task-requires-clause-task
+end_of_task-requires-clause-task g c =
     let e = c.in-EndTask in
     let few = suffices c.args.station.now.config (kept_of c.args.task.now.number c.args.task.now.log) no_table nothing_asked
     (call.EndTask e.requestor e.mother e.code) in
-    let left = paid c.args.station.now.config e.is c.requires.left in
-    omega arith
+    let may = may_paid c.args.station.now e.is c.requires.task in
+    let left = may.left in record {
+      board = may.board;
+      rest = may.rest;
+      left = omega arith;
+    }
 
 -- what each did
 pub returns-in-Post : goal.returns-in-Post

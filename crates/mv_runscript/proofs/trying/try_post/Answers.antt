@@ -16,4 +16,4 @@ returns-in-Ok c table tokens =
 
 pub returns-in-Err : goal.returns-in-Err
 returns-in-Err c table tokens =
-    missed_makes (ap (λ w. Some (Ecb c.args.ecb, w)) (sym c.zero_at-zero.ensures)) c.requires.rest c.in-Err.ensures.answer
+    missed_makes (ap (λ w. Some (Ecb c.args.ecb, w)) (sym c.zero_at-zero.ensures)) c.requires.task.rest c.in-Err.ensures.answer

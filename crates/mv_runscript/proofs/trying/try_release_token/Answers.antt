@@ -44,6 +44,6 @@ pub returns-in-Err-Moved : goal.returns-in-Err-Moved
 returns-in-Err-Moved c table tokens =
     let token = c.args.token in
     missed_makes {moved = record { 0 = c.in-Err-Moved.word }} (ap (λ w. Some (Element token.element, w)) (sym c.reset_at-reset.ensures))
-    c.requires.rest
+    c.requires.task.rest
     (subst (λ e. IsTried token c.reset_at-reset.result c.args.code c.args.task.now (Err e) c.try_release.new.task)
     c.in-Err-Moved.field-0-is c.in-Err-Moved.ensures.causes)

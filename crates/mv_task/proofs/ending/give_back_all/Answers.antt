@@ -21,8 +21,8 @@ own_used g c =
 pub loop-element-init : goal.loop-element-init
 loop-element-init g c =
     let own = c.into_iter-element-iterator.result in record {
-      task = c.requires.task;
-      rest = c.requires.rest;
+      task = c.requires.task.board;
+      rest = c.requires.task.rest;
       from = omega arith;
       end = refl;
       closing = none_closed own.start own.end c.args.task.now;
@@ -53,7 +53,7 @@ give_back-requires-clause-left g c =
     (close_fits own.start at own.end t u (omega (arith, known.end, steps.1.0)) known.closing
     (subst (λ (xs : List ℕ). length xs ≤ t.left)
     (sym (own_used g (goal.at.give_back-requires-clause-left g c).After-into_iter-element-iterator))
-    c.requires.left))
+    c.requires.task.left))
 
 pub loop-element-preserved : goal.loop-element-preserved
 loop-element-preserved g c =

@@ -13,7 +13,7 @@ pub poll-requires-clause-task : goal.poll-requires-clause-task
 poll-requires-clause-task g c =
     let p = c.requires.polled in
     let at = waits c.args.spool.now c.requires.spool.config p.0 c.args.self.now p.2 c.requires.waits in
-    rw c.station.ensures (still_of c.args.spool.now.board at.ready.rests.board at.same)
+    rw c.station.ensures (still_of c.args.spool.now.board at.ready.task.board at.same)
 
 pub poll-requires-clause-room : goal.poll-requires-clause-room
 poll-requires-clause-room g c = c.requires.polled.2.room

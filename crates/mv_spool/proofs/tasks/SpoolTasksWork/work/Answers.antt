@@ -58,8 +58,8 @@ returns-in_default-meet g c =
     ((waits g (goal.at.returns-in_default-meet g c).In-Some-needed).lost c.meet.new.task c.in_default-meet.ensures.met) in
     record { task = is.0; number = is.1; done = is.2 }
 
-pub meet-requires-clause-rests : goal.meet-requires-clause-rests
-meet-requires-clause-rests g c = (waits g (goal.at.meet-requires-clause-rests g c).In-Some-needed).rests
+pub meet-requires-clause-task : goal.meet-requires-clause-task
+meet-requires-clause-task g c = (waits g (goal.at.meet-requires-clause-task g c).In-Some-needed).task
 
 pub meet-requires-clause-need : goal.meet-requires-clause-need
 meet-requires-clause-need g c = (waits g (goal.at.meet-requires-clause-need g c).In-Some-needed).may

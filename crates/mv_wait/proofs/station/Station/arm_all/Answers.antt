@@ -16,9 +16,9 @@ use Rattle.mv_wait.proofs.station.Station.arm_all.Goals as goal
 pub loop-ecb-init : goal.loop-ecb-init
 loop-ecb-init g c = record {
   runs = λ p. runs_none (arm_all c.args.ecbs.now p) c.args.task.now;
-  waits = rest_is_none c.args.task.now.log c.requires.rest;
+  waits = rest_is_none c.args.task.now.log c.requires.task.rest;
   plain = c.requires.plain;
-  idle = idle_at_rest c.args.task.now.log c.args.ecbs.now c.requires.rest;
+  idle = idle_at_rest c.args.task.now.log c.args.ecbs.now c.requires.task.rest;
 }
 
 pub event-requires : goal.event-requires
@@ -27,11 +27,11 @@ event-requires g c =
     let few = (c.loop-ecb.invariant.runs Wrong).few in
     let left = went.left in
     let below = c.loop-ecb-test.true in
-    let much = c.requires.left in
+    let much = c.requires.task.left in
     let own = own_one c.args.self.now.config c.args.self.now.config c.loop-ecb.task.number c.args.task.now.number c.args.ecbs.now
     c.loop-ecb.ecb-index
     refl went.same.number c.requires.own below in record {
-      task = still_of c.args.self.now c.args.self.now c.args.task.now c.loop-ecb.task went.same c.requires.task refl;
+      task = still_of c.args.self.now c.args.self.now c.args.task.now c.loop-ecb.task went.same c.requires.task.board refl;
       left = omega arith;
       admitted = λ lt. may_arm c.args.self.now.config c.loop-ecb.task.number (get_or c.args.ecbs.now c.loop-ecb.ecb-index 0)
           c.loop-ecb.task.log lt own.0 own.1;

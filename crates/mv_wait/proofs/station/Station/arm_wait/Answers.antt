@@ -27,16 +27,18 @@ arm_all-requires g c =
     let none : wait_refusal s c.args.count es (kept_of t.number t.log) ≡ None =
     sym c.refuses_wait.ensures.refusal ∙ ap (λ o. option_map wait_refused o) c.in_default.is in
     let a = accepted_wait s t.number c.args.count es (kept_of t.number t.log) none in
-    let much = c.requires.left in
+    let much = c.requires.task.left in
     let left = ap (λ (d : CallerFace). d.left) same in record {
-      task = still_of c.args.self.now c.args.self.now t u (same_view t u same) c.requires.task refl;
-      rest = subst (λ (d : CallerFace). IsAtRest d.log) (sym same) c.requires.rest;
+      task = record {
+        board = still_of c.args.self.now c.args.self.now t u (same_view t u same) c.requires.task.board refl;
+        rest = subst (λ (d : CallerFace). IsAtRest d.log) (sym same) c.requires.task.rest;
+        left = omega arith;
+      };
       own = subst (λ (d : CallerFace). AreOwn s d.number es) (sym same)
           (both_own s t.number es c.requires.blocks
           (subst (λ k. AllByRecursion (λ e. owner_of s e ≡ k) es) (kept_caller (nothing_kept t.number) t.log) a.own));
       plain = subst (λ (d : CallerFace). ArePlain d es) (sym same) a.plain;
       distinct = a.distinct;
-      left = omega arith;
     }
 
 pub returns-clause-armed : goal.returns-clause-armed

@@ -18,7 +18,7 @@ returns-then-is_others_block-clause-served g c =
     let t = c.args.task.now in
     done_served 1 (clear c.args.self.now.config c.args.ecb) (λ a. a ≡ Err NotOwner) t (Err NotOwner)
     (clear_stops c.args.self.now.config c.args.ecb (kept_of t.number t.log) (sym c.is_others_block.ensures ∙ c.if-is_others_block.true))
-    c.requires.rest refl
+    c.requires.task.rest refl
 
 pub event-reply-requires-clause-admitted : goal.event-reply-requires-clause-admitted
 event-reply-requires-clause-admitted g c lt =
@@ -37,4 +37,4 @@ returns-clause-served g c =
     event_served (clear c.args.self.now.config c.args.ecb) (λ a. a ≡ Ok c.word.result) t c.event-reply.new.task (Ecb c.args.ecb)
     (op_on.Ecb Clear) clear_next c.event-reply.result (Ok c.word.result) tt c.event-reply.ensures.event
     (clear_goes c.args.self.now.config c.args.ecb (kept_of t.number t.log) (sym c.is_others_block.ensures ∙ c.if-is_others_block.false))
-    (λ h r. ap (λ z. on_ecb z (the_word (λ w. Done (Ok w)))) (r ∙ c.word.ensures)) (λ w. refl) c.requires.rest refl
+    (λ h r. ap (λ z. on_ecb z (the_word (λ w. Done (Ok w)))) (r ∙ c.word.ensures)) (λ w. refl) c.requires.task.rest refl

@@ -14,7 +14,7 @@ returns-in-Some-clause-served g c =
     let why = extend_refused c.in-Some.refusal in
     done_served 1 (extend c.args.self.now.config c.args.ecb c.args.exit) (λ a. a ≡ Err why) t (Err why)
     (extend_stops c.args.self.now.config c.args.ecb c.args.exit (kept_of t.number t.log) why
-    (sym c.refuses_extend.ensures.refusal ∙ ap (λ o. option_map extend_refused o) c.in-Some.is)) c.requires.rest refl
+    (sym c.refuses_extend.ensures.refusal ∙ ap (λ o. option_map extend_refused o) c.in-Some.is)) c.requires.task.rest refl
 
 pub event-reply-requires-clause-admitted : goal.event-reply-requires-clause-admitted
 event-reply-requires-clause-admitted g c lt =
@@ -33,18 +33,18 @@ taken-requires g c =
     let none = sym c.refuses_extend.ensures.refusal ∙ ap (λ o. option_map extend_refused o) c.in_default.is in
     let may = may_extend d c.args.ecb c.args.exit (kept_of t.number t.log) none in
     says_extended d t c.event-reply.new.task c.args.ecb c.args.exit c.event-reply.result c.event-reply.ensures.event
-    c.event-reply.ensures.possible (own_is d c.args.ecb t.number t.log may.own) c.requires.rest may.plain
+    c.event-reply.ensures.possible (own_is d c.args.ecb t.number t.log may.own) c.requires.task.rest may.plain
 
 pub returns-in-None-clause-served : goal.returns-in-None-clause-served
 returns-in-None-clause-served g c =
     let none = sym c.refuses_extend.ensures.refusal ∙ ap (λ o. option_map extend_refused o) c.in_default.is in
     extended_served c.args.self.now.config c.args.task.now c.event-reply.new.task c.args.ecb c.args.exit c.event-reply.result
-    c.taken.result (Ok tt) c.event-reply.ensures.event none c.requires.rest c.taken.ensures
+    c.taken.result (Ok tt) c.event-reply.ensures.event none c.requires.task.rest c.taken.ensures
     (λ i. extended (extend_reply (c.in-None.is i)))
 
 pub returns-in-Some-taken-clause-served : goal.returns-in-Some-taken-clause-served
 returns-in-Some-taken-clause-served g c =
     let none = sym c.refuses_extend.ensures.refusal ∙ ap (λ o. option_map extend_refused o) c.in_default.is in
     extended_served c.args.self.now.config c.args.task.now c.event-reply.new.task c.args.ecb c.args.exit c.event-reply.result
-    c.taken.result (Err (Complete c.in-Some-taken.code)) c.event-reply.ensures.event none c.requires.rest c.taken.ensures
+    c.taken.result (Err (Complete c.in-Some-taken.code)) c.event-reply.ensures.event none c.requires.task.rest c.taken.ensures
     (λ i. extended (extend_reply (c.in-Some-taken.is i)))

@@ -32,8 +32,8 @@ loop-next-init g c =
         subst (λ (d : CallerFace). Underway config c.args.code c.args.ecb d one.posted u (reverse c.post_one-answer.new.pending.items)) view
             (subst (λ ns. Underway config c.args.code c.args.ecb t one.posted u ns) (sym work)
             (begun config c.args.code t u c.args.ecb one.posted c.requires.block one.event one.leads
-            (subst (λ (d : CallerFace). reach config c.args.ecb ≤ d.left) (sym view) c.requires.left) one.few
-            (subst (λ (d : CallerFace). IsAtRest d.log) (sym view) c.requires.rest))),
+            (subst (λ (d : CallerFace). reach config c.args.ecb ≤ d.left) (sym view) c.requires.task.left) one.few
+            (subst (λ (d : CallerFace). IsAtRest d.log) (sym view) c.requires.task.rest))),
       );
       told = one.event.1.shown.0 ∙ ap (λ (d : CallerFace). d.told) view;
       recorded = c.post_one-answer.ensures.recorded;
@@ -98,7 +98,7 @@ returns-clause-served g c =
     let config = c.args.self.now.config in
     let none : c.loop-next.task-inside.pending.items ≡ [] =
     length_zero c.loop-next.task-inside.pending.items (let n = c.in_default.ensures.cases.0 in omega arith) in
-    ended config c.args.code c.args.ecb c.args.task.now u.0 c.loop-next.task-inside.caller c.post_one-answer.result u.1 c.requires.rest
+    ended config c.args.code c.args.ecb c.args.task.now u.0 c.loop-next.task-inside.caller c.post_one-answer.result u.1 c.requires.task.rest
     (subst (λ ns. Underway config c.args.code c.args.ecb c.args.task.now u.0 c.loop-next.task-inside.caller (reverse ns)) none u.2)
 
 pub invariant_of-task : goal.invariant_of-task
@@ -111,7 +111,7 @@ invariant_of-task g c = record {
 
 pub post_one-answer-requires-clause-task : goal.post_one-answer-requires-clause-task
 post_one-answer-requires-clause-task g c =
-    of_inside c.args.self.now c.args.self.now c.args.task.now c.task.inside.caller c.task.view_is refl c.requires.task
+    of_inside c.args.self.now c.args.self.now c.args.task.now c.task.inside.caller c.task.view_is refl c.requires.task.board
 
 pub post_one-answer-requires-clause-blocks : goal.post_one-answer-requires-clause-blocks
 post_one-answer-requires-clause-blocks g c =
@@ -123,14 +123,14 @@ nothing_more n m few = omega arith
 pub post_one-answer-requires-clause-left : goal.post_one-answer-requires-clause-left
 post_one-answer-requires-clause-left g c =
     let config = c.args.self.now.config in
-    let left = subst (λ (d : CallerFace). reach config c.args.ecb ≤ d.left) (sym c.task.view_is) c.requires.left in
+    let left = subst (λ (d : CallerFace). reach config c.args.ecb ≤ d.left) (sym c.task.view_is) c.requires.task.left in
     subst (λ (xs : List ℕ). total (reach config) (c.args.ecb ∷ reverse xs) ≤ c.task.inside.caller.left) (sym c.task.invariant.idle)
     (nothing_more (reach config c.args.ecb) c.task.inside.caller.left left)
 
 pub post_one-requires-clause-task : goal.post_one-requires-clause-task
 post_one-requires-clause-task g c =
     still_of c.args.self.now c.args.self.now c.args.task.now c.loop-next.task-inside.caller
-    c.loop-next.invariant.underway.2.runs.went.same c.requires.task refl
+    c.loop-next.invariant.underway.2.runs.went.same c.requires.task.board refl
 
 pub post_one-requires-clause-left : goal.post_one-requires-clause-left
 post_one-requires-clause-left g c =

@@ -17,5 +17,5 @@ pub returns : goal.returns
 returns c = record {
   served = one_served (read_volume c.args.volume) (λ a. a ≡ c.value.result) c.args.task.now c.test-reply.new.task (Volume c.args.volume)
       (op_on.Volume Read) c.test-reply.result c.value.result tt c.test-reply.ensures.event refl
-      (λ h r. ap (λ z. on_volume z the_value) (r ∙ c.value.ensures)) (λ w. refl) c.requires.rest refl;
+      (λ h r. ap (λ z. on_volume z the_value) (r ∙ c.value.ensures)) (λ w. refl) c.requires.task.rest refl;
 }

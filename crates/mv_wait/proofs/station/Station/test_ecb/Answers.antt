@@ -17,5 +17,5 @@ pub returns : goal.returns
 returns c = record {
   served = one_served (test_ecb c.args.ecb) (λ a. a ≡ c.word.result) c.args.task.now c.test-reply.new.task (Ecb c.args.ecb)
       (op_on.Ecb Test) c.test-reply.result c.word.result tt c.test-reply.ensures.event refl
-      (λ h r. ap (λ z. on_ecb z (the_word (λ w. Done w))) (r ∙ c.word.ensures)) (λ w. refl) c.requires.rest refl;
+      (λ h r. ap (λ z. on_ecb z (the_word (λ w. Done w))) (r ∙ c.word.ensures)) (λ w. refl) c.requires.task.rest refl;
 }

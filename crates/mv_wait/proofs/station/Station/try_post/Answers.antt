@@ -19,7 +19,7 @@ returns-clause-answer c =
     (try_post_served c.args.self.now.config c.args.ecb c.args.expected c.args.code p t u
     (subst (λ r. Exchanged t (Ecb c.args.ecb) (op_on.Ecb (Post c.args.code)) c.args.expected r u) c.posted.ensures
     c.in_ok-reply.ensures.answer)
-    c.requires.rest)
+    c.requires.task.rest)
 
 pub returns-clause-rest : goal.returns-clause-rest
 returns-clause-rest c =
@@ -28,4 +28,4 @@ returns-clause-rest c =
     (try_post_served c.args.self.now.config c.args.ecb c.args.expected c.args.code (posting_of c.posted.result) t u
     (subst (λ r. Exchanged t (Ecb c.args.ecb) (op_on.Ecb (Post c.args.code)) c.args.expected r u) c.posted.ensures
     c.in_ok-reply.ensures.answer)
-    c.requires.rest).made.rest
+    c.requires.task.rest).made.rest

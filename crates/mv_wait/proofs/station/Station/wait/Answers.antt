@@ -19,7 +19,7 @@ returns-in-Err-clause-served g c =
     let s = c.args.self.now.config in
     let why = wait_refused c.in-Err.refusal in
     subst (λ (d : CallerFace). IsServed (2 * length es) (wait s c.args.count es) (λ a. a ≡ Err why) t d) (sym c.in-Err.ensures.armed.1)
-    (wait_is_refused s c.args.count es why t c.in-Err.ensures.armed.0 c.requires.rest)
+    (wait_is_refused s c.args.count es why t c.in-Err.ensures.armed.0 c.requires.task.rest)
 
 pub await_complete-requires-clause-task : goal.await_complete-requires-clause-task
 await_complete-requires-clause-task g c =
@@ -27,7 +27,7 @@ await_complete-requires-clause-task g c =
     let u = c.arm_wait.new.task in
     let r = c.task.inside.caller in
     let same = (c.in_default.ensures.armed.arms Wrong).went.same in
-    still_of c.args.self.now c.args.self.now t r (same_then t u r same (same_view u r c.task.view_is)) c.requires.task refl
+    still_of c.args.self.now c.args.self.now t r (same_then t u r same (same_view u r c.task.view_is)) c.requires.task.board refl
 
 pub await_complete-requires-clause-own : goal.await_complete-requires-clause-own
 await_complete-requires-clause-own g c =
@@ -40,7 +40,7 @@ pub await_complete-requires-clause-places : goal.await_complete-requires-clause-
 await_complete-requires-clause-places g c =
     let same = (c.in_default.ensures.armed.arms Wrong).went.same in
     c.deref_mut.ensures.len ∙ (c.task.invariant.places
-    ∙ ap blocks_in (ap (λ (d : CallerFace). d.about) c.task.view_is ∙ (same.about ∙ c.requires.task.1)))
+    ∙ ap blocks_in (ap (λ (d : CallerFace). d.about) c.task.view_is ∙ (same.about ∙ c.requires.task.board.1)))
 
 pub invariant_of-task : goal.invariant_of-task
 invariant_of-task g c =
@@ -51,7 +51,7 @@ invariant_of-task g c =
     let left = looks.left in
     let room = c.task.invariant.room in record {
       recorded = recorded_looked c.args.self.now.config r v c.task.inside.keep
-          (ap (λ (d : CallerFace). d.about) c.task.view_is ∙ (same.about ∙ c.requires.task.1)) looks c.task.invariant.recorded;
+          (ap (λ (d : CallerFace). d.about) c.task.view_is ∙ (same.about ∙ c.requires.task.board.1)) looks c.task.invariant.recorded;
       idle = c.task.invariant.idle;
       room = omega arith;
       places = c.task.invariant.places ∙ sym (ap blocks_in looks.same.about);
@@ -65,7 +65,7 @@ settle_wait-requires-clause-task g c =
     let v = c.await_complete.new.caller in
     let same = (c.in_default.ensures.armed.arms Wrong).went.same in
     still_of c.args.self.now c.args.self.now t v
-    (same_then t r v (same_then t u r same (same_view u r c.task.view_is)) c.await_complete.ensures.went.same) c.requires.task refl
+    (same_then t r v (same_then t u r same (same_view u r c.task.view_is)) c.await_complete.ensures.went.same) c.requires.task.board refl
 
 pub settle_wait-requires-clause-waits : goal.settle_wait-requires-clause-waits
 settle_wait-requires-clause-waits g c =
@@ -98,7 +98,7 @@ settle_wait-requires-clause-left g c =
     let first = run.went.left in
     let second = c.await_complete.ensures.went.left in
     let view = ap (λ (d : CallerFace). d.left) c.task.view_is in
-    let much = c.requires.left in omega arith
+    let much = c.requires.task.left in omega arith
 
 pub returns-clause-served : goal.returns-clause-served
 returns-clause-served g c =
@@ -110,6 +110,6 @@ returns-clause-served g c =
     let es = c.args.ecbs.now in
     let s = c.args.self.now.config in
     let armed = c.in_default.ensures.armed in
-    wait_served s c.args.count es (slots_of c.settle_wait.new.out) t u v w armed.accepted c.requires.rest armed.arms
+    wait_served s c.args.count es (slots_of c.settle_wait.new.out) t u v w armed.accepted c.requires.task.rest armed.arms
     (subst (λ (d : CallerFace). Went [] d v) c.task.view_is c.await_complete.ensures.went) c.settle_wait.ensures.settled
     c.settle_wait.ensures.rest

@@ -22,5 +22,5 @@ returns g c =
     c.event.ensures.possible in record {
       served = one_served (write_volume c.args.volume c.args.number) (λ a. a ≡ tt) t u (Volume c.args.volume)
           (op_on.Volume (Write c.args.number)) c.event.result tt tt c.event.ensures.event refl
-          (λ h r. ap (λ z. on_volume z stored) (r ∙ is)) (λ w. refl) c.requires.rest refl;
+          (λ h r. ap (λ z. on_volume z stored) (r ∙ is)) (λ w. refl) c.requires.task.rest refl;
     }

@@ -21,8 +21,8 @@ initiate-next-requires-clause-between g c =
       room = new.room;
     }
 
-pub initiate-next-requires-clause-rests : goal.initiate-next-requires-clause-rests
-initiate-next-requires-clause-rests g c =
+pub initiate-next-requires-clause-task : goal.initiate-next-requires-clause-task
+initiate-next-requires-clause-task g c =
     let s = c.args.self.now in
     let new = c.requires.new in
     let spool = subst IsSpool c.self.view_is c.self.invariant in

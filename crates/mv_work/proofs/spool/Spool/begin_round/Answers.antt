@@ -18,7 +18,7 @@ returns g c =
     let cost = c.idle-idle.ensures.cost in record {
       come = record {
         same = served.same;
-        rests = rests_then served c.requires.rests (omega arith);
+        task = rests_then served c.requires.task (omega arith);
         fits = (c.requires.between, c.requires.token);
         leads = subst (λ call.
             Leads (rounds_noted s.board.config s.jobs me.index (suc (length s.jobs - round.number)) me.noted.jobs round.next)

@@ -22,7 +22,7 @@ returns-in_default-clause-does g c =
     let r = c.args.running.now in
     subst (λ x. DoesStep c.args.self.now.board.config r.job r.requests c.args.place c.args.noted.now.notes x (Err _)
     c.args.noted.now.notes c.args.task.now c.args.task.now) c.step-step.ensures.step
-    (rw (c.in-Free.is, c.in_default.is) (λ steps. ran_nothing _ refl c.requires.rests.quiet))
+    (rw (c.in-Free.is, c.in_default.is) (λ steps. ran_nothing _ refl c.requires.task.rest))
 
 pub returns-in_ok-release_latch-in-Free-clause-does : goal.returns-in_ok-release_latch-in-Free-clause-does
 returns-in_ok-release_latch-in-Free-clause-does g c =
@@ -77,11 +77,11 @@ returns-in-Abend-clause-does g c =
     let r = c.args.running.now in
     subst (λ x. DoesStep c.args.self.now.board.config r.job r.requests c.args.place c.args.noted.now.notes x
     (Ok (did.Ended c.in-Abend.code)) c.args.noted.now.notes c.args.task.now c.args.task.now) c.step-step.ensures.step
-    (rw c.in-Abend.is (λ steps. ran_nothing _ refl c.requires.rests.quiet))
+    (rw c.in-Abend.is (λ steps. ran_nothing _ refl c.requires.task.rest))
 
 pub returns-in-Return-clause-does : goal.returns-in-Return-clause-does
 returns-in-Return-clause-does g c =
     let r = c.args.running.now in
     subst (λ x. DoesStep c.args.self.now.board.config r.job r.requests c.args.place c.args.noted.now.notes x
     (Ok (did.Ended c.in-Return.code)) c.args.noted.now.notes c.args.task.now c.args.task.now) c.step-step.ensures.step
-    (rw c.in-Return.is (λ steps. ran_nothing _ refl c.requires.rests.quiet))
+    (rw c.in-Return.is (λ steps. ran_nothing _ refl c.requires.task.rest))

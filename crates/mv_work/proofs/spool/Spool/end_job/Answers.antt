@@ -27,11 +27,11 @@ begin_round-requires-clause-between g c =
       room = omega arith;
     })
 
-pub begin_round-requires-clause-rests : goal.begin_round-requires-clause-rests
-begin_round-requires-clause-rests g c =
+pub begin_round-requires-clause-task : goal.begin_round-requires-clause-task
+begin_round-requires-clause-task g c =
     let on = ap (λ (s : SpoolFace). s.board) c.self.view_is in
     let cost = c.done-done.ensures.cost in
-    rw c.after.ensures (rests_then (rw on at c.end_of_job.ensures.served) c.requires.rests (omega arith))
+    rw c.after.ensures (rests_then (rw on at c.end_of_job.ensures.served) c.requires.task (omega arith))
 
 pub returns-clause-comes : goal.returns-clause-comes
 returns-clause-comes g c =

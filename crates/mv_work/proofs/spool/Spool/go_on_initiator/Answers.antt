@@ -14,11 +14,11 @@ resume_initiator-next-requires-clause-answer g c =
     let told = subst (λ at. ToldAs c.args.self.now (role.Initiator c.args.me.now at) p.0 c.args.got c.args.task.now) c.in-Some.is p.1 in
     told.1.answers
 
-pub resume_initiator-next-requires-clause-rests : goal.resume_initiator-next-requires-clause-rests
-resume_initiator-next-requires-clause-rests g c =
+pub resume_initiator-next-requires-clause-task : goal.resume_initiator-next-requires-clause-task
+resume_initiator-next-requires-clause-task g c =
     let p = c.requires.told in
     let told = subst (λ at. ToldAs c.args.self.now (role.Initiator c.args.me.now at) p.0 c.args.got c.args.task.now) c.in-Some.is p.1 in
-    told.1.rests
+    told.1.task
 
 pub returns : goal.returns
 returns g c t was =

@@ -10,10 +10,10 @@ resume_scheduler-next-requires-clause-answer g c =
     let p = c.requires.told in
     let told = subst (λ at. ToldAs c.args.self.now (role.Scheduler at) p.0 c.args.got c.args.task.now) c.in-Some.is p.1 in told.1.answers
 
-pub resume_scheduler-next-requires-clause-rests : goal.resume_scheduler-next-requires-clause-rests
-resume_scheduler-next-requires-clause-rests g c =
+pub resume_scheduler-next-requires-clause-task : goal.resume_scheduler-next-requires-clause-task
+resume_scheduler-next-requires-clause-task g c =
     let p = c.requires.told in
-    let told = subst (λ at. ToldAs c.args.self.now (role.Scheduler at) p.0 c.args.got c.args.task.now) c.in-Some.is p.1 in told.1.rests
+    let told = subst (λ at. ToldAs c.args.self.now (role.Scheduler at) p.0 c.args.got c.args.task.now) c.in-Some.is p.1 in told.1.task
 
 pub returns : goal.returns
 returns g c t was =

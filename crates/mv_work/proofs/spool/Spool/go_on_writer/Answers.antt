@@ -27,9 +27,9 @@ pub on_end-next-requires-clause-room : goal.on_end-next-requires-clause-room
 on_end-next-requires-clause-room g c =
     let p = c.requires.told in (told g (goal.at.on_end-next-requires-clause-room g c).In-Code p.0 p.1).1.answers.room
 
-pub on_end-next-requires-clause-rests : goal.on_end-next-requires-clause-rests
-on_end-next-requires-clause-rests g c =
-    let p = c.requires.told in (told g (goal.at.on_end-next-requires-clause-rests g c).In-Code p.0 p.1).1.rests
+pub on_end-next-requires-clause-task : goal.on_end-next-requires-clause-task
+on_end-next-requires-clause-task g c =
+    let p = c.requires.told in (told g (goal.at.on_end-next-requires-clause-task g c).In-Code p.0 p.1).1.task
 
 pub returns : goal.returns
 returns g c t was =

@@ -13,4 +13,4 @@ pub returns : goal.returns
 returns g c =
     let ran = c.in_ok-hand_over.ensures.ran in
     asks_come c.dismiss.ensures (leads_on _ (leads_all _ c.args.task.now) ran)
-    (rests_ran 2 ran c.in_ok-hand_over.ensures.few c.requires.rests (omega arith))
+    (rests_ran 2 ran c.in_ok-hand_over.ensures.few c.requires.task (omega arith))

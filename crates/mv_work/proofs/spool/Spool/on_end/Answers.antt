@@ -12,4 +12,4 @@ returns g c =
     let one = ap (λ (ends : List _). length ends) c.push_reserved.ensures.items ∙ length-append old.items (c.args.end ∷ []) in
     let room : length s.jobs - (c.args.job + 1) ≤ room_in new = omega arith in
     comes_as (ap (λ ends. ends_from s ends (c.args.job + 1)) (sym c.push_reserved.ensures.items))
-    (asks_first (c.write.ensures new room) c.requires.rests)
+    (asks_first (c.write.ensures new room) c.requires.task)

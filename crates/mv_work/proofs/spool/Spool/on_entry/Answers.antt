@@ -60,4 +60,4 @@ returns g c =
         omega arith,
       );
     } in
-    asks_first asks (rests_less c.requires.rests (omega arith))
+    asks_first asks (rests_less c.requires.task (omega arith))

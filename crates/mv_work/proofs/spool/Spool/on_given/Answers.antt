@@ -39,13 +39,13 @@ returns-in_err-named-clause-comes g c =
     let p = err_from_is_err_and c.from_residual-in_err-named.result c.from_residual-in_err-named.ensures.1 in
     rw p.1 (comes_nowhere c.args.task.now
     (unnamed c.args.self.now c.args.me.now c.args.round (gift_as c.args.given) c.if-given-eq-NO_JOB.false
-    (named_so c.args.given.code _ c.jobs-jobs.ensures.jobs c.in_err-named.ensures)) c.requires.rests.quiet)
+    (named_so c.args.given.code _ c.jobs-jobs.ensures.jobs c.in_err-named.ensures)) c.requires.task.rest)
 
 pub returns-then-round-jobs-clause-comes : goal.returns-then-round-jobs-clause-comes
 returns-then-round-jobs-clause-comes g c =
     comes_nowhere c.args.task.now
     (last_named c.args.self.now c.args.me.now c.args.round (gift_as c.args.given) c.if-given-eq-NO_JOB.false
-    (named_so c.args.given.code _ c.jobs-jobs.ensures.jobs c.in_ok-named.ensures) (omega arith)) c.requires.rests.quiet
+    (named_so c.args.given.code _ c.jobs-jobs.ensures.jobs c.in_ok-named.ensures) (omega arith)) c.requires.task.rest
 
 -- the job that a code names is one of the deck's
 place_of : (g : bound.Over) (c : After-index g) → c.in_ok-named.named.job < length c.args.self.now.jobs
@@ -83,7 +83,7 @@ left_one g c is f =
 pub returns-then-index-clause-comes : goal.returns-then-index-clause-comes
 returns-then-index-clause-comes g c =
     comes_nowhere c.args.task.now (left_is g (goal.at.returns-then-index-clause-comes g c).After-index true c.if-index.true)
-    c.requires.rests.quiet
+    c.requires.task.rest
 
 pub start_job-requires-clause-at : goal.start_job-requires-clause-at
 start_job-requires-clause-at g c =
@@ -103,11 +103,11 @@ start_job-requires-clause-at g c =
       room = omega arith;
     }
 
-pub start_job-requires-clause-rests : goal.start_job-requires-clause-rests
-start_job-requires-clause-rests g c =
+pub start_job-requires-clause-task : goal.start_job-requires-clause-task
+start_job-requires-clause-task g c =
     let within = c.requires.between.round in
-    let less = left_one g (goal.at.start_job-requires-clause-rests g c).After-index c.if-index.false (λ j. steps_events j.steps) in
-    rests_less c.requires.rests (omega arith)
+    let less = left_one g (goal.at.start_job-requires-clause-task g c).After-index c.if-index.false (λ j. steps_events j.steps) in
+    rests_less c.requires.task (omega arith)
 
 pub returns-clause-comes : goal.returns-clause-comes
 returns-clause-comes g c =

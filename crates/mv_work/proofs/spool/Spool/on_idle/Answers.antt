@@ -12,7 +12,7 @@ returns-in_err-found g c =
     let s = c.args.self.now in
     let handed = hand_over s.board.config (length s.jobs) (code_of c.args.job c.args.skipped) in
     let p = err_from_is_err_and c.from_residual.result c.from_residual.ensures.1 in
-    rw p.1 (comes_nowhere _ (found_is (slots_of c.args.slots.now) handed _ c.in_err-found.ensures.found) c.requires.rests.quiet)
+    rw p.1 (comes_nowhere _ (found_is (slots_of c.args.slots.now) handed _ c.in_err-found.ensures.found) c.requires.task.rest)
 
 pub returns-in_err-hand_over : goal.returns-in_err-hand_over
 returns-in_err-hand_over g c =
@@ -28,4 +28,4 @@ returns g c =
     let handed = hand_over s.board.config (length s.jobs) (code_of c.args.job c.args.skipped) in
     let ran = rw c.job_code-code.ensures.code at c.in_ok-hand_over.ensures.ran in
     asks_come c.schedule.ensures (found_done (slots_of c.args.slots.now) handed _ _ c.in_ok-found.ensures.found ran)
-    (rests_ran 2 ran c.in_ok-hand_over.ensures.few c.requires.rests (omega arith))
+    (rests_ran 2 ran c.in_ok-hand_over.ensures.few c.requires.task (omega arith))

@@ -38,7 +38,7 @@ loop-job-init g c =
     (for_each (range_with_len 0 (n - 0)) (λ j. post s.board.config (entered j) 0) (finished [])) t t =
     subst (λ m. Leads (reading s.board.config n) (for_each (range_with_len 0 m) (λ j. post s.board.config (entered j) 0) (finished [])) t t)
     (let e : n ≡ n - 0 = omega arith in e) (leads_all _ t) in
-    record { board = rests.board; quiet = rests.quiet; left = (let left = rests.left in omega arith); leads = leads }
+    record { board = rests.board; quiet = rests.rest; left = (let left = rests.left in omega arith); leads = leads }
 
 pub returns : goal.returns
 returns g c =

@@ -52,13 +52,13 @@ came_to s job tokens place notes did known after t u is x =
     subst (λ r. DoesStep s.board.config job tokens place notes (step_at s job place) r after t u) is x
 
 pub loop-place-init : goal.loop-place-init
-loop-place-init g c = record { rests = c.requires.rests; at = c.requires.running.at; leads = leads_all _ c.args.task.now; same = refl }
+loop-place-init g c = record { task = c.requires.task; at = c.requires.running.at; leads = leads_all _ c.args.task.now; same = refl }
 
-pub do_step-requires-clause-rests : goal.do_step-requires-clause-rests
-do_step-requires-clause-rests g c =
+pub do_step-requires-clause-task : goal.do_step-requires-clause-task
+do_step-requires-clause-task g c =
     let size = c.step_count-place-end.ensures in
     let next = is_next c.args.self.now c.args.running.job c.loop-place.place (omega arith) in
-    rests_less c.loop-place.invariant.rests (omega arith)
+    rests_less c.loop-place.invariant.task (omega arith)
 
 pub do_step-requires-clause-room : goal.do_step-requires-clause-room
 do_step-requires-clause-room g c =
@@ -77,7 +77,7 @@ loop-place-preserved g c =
     let does = came_to s r.job r.requests c.loop-place.place c.loop-place.me.noted.notes c.do_step.result (Ok did.Went)
     c.do_step.new.noted.notes c.loop-place.task c.do_step.new.task (c.in_ok-do_step.was ∙ ap (λ (d : Did). Ok d) c.in-Went.is) step.does in
     record {
-      rests = record { board = step.board; quiet = step.rest; left = (let left = since.rests.left in let few = step.few in omega arith) };
+      task = record { board = step.board; rest = step.rest; left = (let left = since.task.left in let few = step.few in omega arith) };
       at = still_at c.do_step.new.noted _ step.jobs (let few = step.room in omega arith) since.at;
       leads = rw step.jobs (leads_then (rw next.begins at since.leads) (leads_under _ (does _) step.rest));
       same = since.same;
@@ -90,19 +90,19 @@ end_job-requires-clause-at g c =
     let step = c.do_step.ensures in
     still_at c.do_step.new.noted 0 step.jobs (let marks = next.marks in let few = step.room in omega arith) c.loop-place.invariant.at
 
-pub end_job-requires-clause-rests : goal.end_job-requires-clause-rests
-end_job-requires-clause-rests g c =
+pub end_job-requires-clause-task : goal.end_job-requires-clause-task
+end_job-requires-clause-task g c =
     let size = c.step_count-place-end.ensures in
     let next = is_next c.args.self.now c.args.running.job c.loop-place.place (omega arith) in
     let step = c.do_step.ensures in
-    let left = c.loop-place.invariant.rests.left in
-    record { board = step.board; quiet = step.rest; left = (let few = step.few in omega arith) }
+    let left = c.loop-place.invariant.task.left in
+    record { board = step.board; rest = step.rest; left = (let few = step.few in omega arith) }
 
 pub end_job-requires-2-clause-at : goal.end_job-requires-2-clause-at
 end_job-requires-2-clause-at g c = still_at c.loop-place.me.noted 0 refl (omega arith) c.loop-place.invariant.at
 
-pub end_job-requires-2-clause-rests : goal.end_job-requires-2-clause-rests
-end_job-requires-2-clause-rests g c = rests_less c.loop-place.invariant.rests (omega arith)
+pub end_job-requires-2-clause-task : goal.end_job-requires-2-clause-task
+end_job-requires-2-clause-task g c = rests_less c.loop-place.invariant.task (omega arith)
 
 pub returns-in-Ended-clause-comes : goal.returns-in-Ended-clause-comes
 returns-in-Ended-clause-comes g c =
@@ -140,11 +140,11 @@ returns-in-Asks-clause-comes g c =
     (c.in_ok-do_step.was ∙ ap (λ (d : Did). Ok d) c.in-Asks.is) step.does in
     let costs = ap step_events does.0 in
     let same_left = ap (λ (u : CallerFace). u.left) does.2 in
-    let left = since.rests.left in
+    let left = since.task.left in
     let all = rw (next.begins, does.0) at since.leads in record {
       come = record {
-        same = same_then c.args.task.now c.loop-place.task c.do_step.new.task (leads_same since.leads since.rests.quiet) step.same;
-        rests = record { board = step.board; quiet = step.rest; left = omega arith };
+        same = same_then c.args.task.now c.loop-place.task c.do_step.new.task (leads_same since.leads since.task.rest) step.same;
+        task = record { board = step.board; rest = step.rest; left = omega arith };
         fits = (
           (
             record {

@@ -3,12 +3,12 @@ use Rattle.mv_plan.specs.Jobs.{job_at}
 use Rattle.mv_work.specs.Initiating.{IsAtJob, rounds_due, steps_events, steps_from, steps_marks}
 use Rattle.mv_work.specs.Ran.{Leads}
 use Rattle.mv_work.specs.Steps.{requests_of}
-use Rattle.mv_work.specs.Waiting.{IsResting}
+use Rattle.mv_wait.specs.Run.{MayCall}
 use Rattle.mv_work.proofs.spool.Spool.run_on.Given as goal
 
 abbrev pub invariant-loop-place : goal.invariant-loop-place
 invariant-loop-place g l = record {
-  rests : IsResting l.self.board (steps_events (drop l.place (job_at l.self.jobs l.fn.running.job).steps) + 4
+  task : MayCall l.self.board (steps_events (drop l.place (job_at l.self.jobs l.fn.running.job).steps) + 4
       + rounds_due l.self l.me (l.fn.running.round.number + 1)) l.task;
   at : IsAtJob l.self l.me l.fn.running.round.number l.fn.running.job
       (steps_marks (drop l.place (job_at l.self.jobs l.fn.running.job).steps));

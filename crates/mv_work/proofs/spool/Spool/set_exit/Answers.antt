@@ -56,4 +56,4 @@ returns g c =
     } in
     rw same (comes_as (exit_first s j c.args.skipped)
     (asks_come asks (leads_on _ (leads_all _ c.args.task.now) (served_as (rw c.done-done.ensures.block at served)))
-    (rests_then served c.requires.rests (omega arith))))
+    (rests_then served c.requires.task (omega arith))))
