@@ -27,8 +27,7 @@ use Rattle.mv_calls.specs.Keeping.{Kept}
 use Rattle.mv_calls.specs.LatchCalls.{obtain, obtain_refusal, obtained, confirmed}
 use Rattle.mv_calls.specs.Pauses.{allocate, open_lowest, lowest_free, opened, pause, paused, resumed, release, released}
 use Rattle.mv_calls.specs.Pauses.{is_others_token}
-use Rattle.mv_calls.specs.Posts.{Posting, post, post_within, posting, posted_next, each_posted}
-use Rattle.mv_calls.specs.Posts as came
+use Rattle.mv_calls.specs.Posts.{post, post_within, posting, posted_next, each_posted}
 use Rattle.mv_calls.specs.Program.{Program, Do, Done, Early, on_ecb, on_element, on_latch}
 use Rattle.mv_calls.specs.Refusal.{Refusal}
 use Rattle.mv_calls.specs.Refusal as refusal
@@ -100,17 +99,12 @@ module _ (P : Object → Op → Type 0) where
   always_within c zero code e none may = tt
   always_within c (suc depth) code e none may = (
     may,
-    λ h. always_ecb P h.entry.reply (posting (λ p. each_posted (post_within depth c code) (posted_next c p) p)) (λ x. on x),
+    λ h. always_ecb P h.entry.reply (λ r. posting (λ a. each_posted (post_within depth c code) (posted_next c r) a) r) (λ x. on x),
   ) where
-    next : (p : Posting) → Always P (each_posted (post_within depth c code) (posted_next c p) p)
-    next came.Posted = tt
-    next (came.Woke x) = rw (no_targets c x none) tt
-    next (came.Already d) = tt
-
-    on : (x : EcbReply) → Always P (posting (λ p. each_posted (post_within depth c code) (posted_next c p) p) x)
-    on ecb_reply.Posted = next came.Posted
-    on (ecb_reply.Woke x) = next (came.Woke x)
-    on (ecb_reply.Already d) = next (came.Already d)
+    on : (x : EcbReply) → Always P (posting (λ a. each_posted (post_within depth c code) (posted_next c x) a) x)
+    on ecb_reply.Posted = tt
+    on (ecb_reply.Woke x) = rw (no_targets c x none) tt
+    on (ecb_reply.Already d) = tt
     on x = tt
 
   -- a post is one, where the configuration has no exits

@@ -10,7 +10,7 @@ use Rattle.mv_machine.specs.declared.entry.VolumeOp.TheVariants as volume_op
 use Rattle.mv_machine.specs.declared.entry.VolumeReply.TheVariants as volume_reply
 use Rattle.mv_calls.specs.declared.table.TableRefusal.TheVariants as table_refused
 use Rattle.mv_calls.specs.Events.{EnteredAt, WasComplete}
-use Rattle.mv_calls.specs.Posts as posts
+use Rattle.mv_calls.specs.declared.outcomes.PostAnswer.TheVariants as answer
 use Rattle.mv_calls.specs.Refusal as refusal
 use Rattle.mv_calls.specs.Services.{Post, WriteVolume, PostEvent, NextEvent}
 use Rattle.mv_calls.specs.Table.{IsTableOf, table_refusal}
@@ -54,7 +54,7 @@ broken_and_strange : IsRow (one_task six_blocks []) 0
     (
     does (WriteVolume 0 3) 1 tt
     ∷ does (PostEvent three 1 5) 4 (Err (refusal.Broken 3))
-    ∷ does (Post 3 40) 1 posts.Posted
+    ∷ does (Post 3 40) 1 answer.Posted
     ∷ does (NextEvent three 0) 2 (Err (refusal.Strange 40))
     ∷ []
     )

@@ -17,7 +17,7 @@ use Rattle.mv_machine.specs.Legal.{Legal}
 use Rattle.mv_machine.specs.Setup.{Setup}
 use Rattle.mv_calls.specs.Keeping.{nothing_kept}
 use Rattle.mv_calls.specs.LatchCalls.{GrantedAs, PendingAs, Holds, Waits, IsOut, obtain}
-use Rattle.mv_calls.specs.Posts as posts
+use Rattle.mv_calls.specs.declared.outcomes.PostAnswer.TheVariants as answer
 use Rattle.mv_calls.specs.Program.{Early, Call, Says, left, accepted}
 use Rattle.mv_calls.specs.Refusal as refusal
 use Rattle.mv_calls.specs.Runs.{heard_in}
@@ -186,7 +186,7 @@ purged_by_another_of_0 = row refl refl
 
 purged_by_another_of_1 : IsRow (two_tasks (0 ∷ []) []) 1 purged_by_another_log
     (
-    does (Post 0 1) 1 posts.Posted
+    does (Post 0 1) 1 answer.Posted
     ∷ does (Obtain 0 9 Exclusive Waiting) 2 (Err refusal.Purged)
     ∷ does (Obtain 0 9 Exclusive (Posted 0)) 0 (Err refusal.NotOwner)
     ∷ []

@@ -32,6 +32,8 @@ use Rattle.mv_calls.specs.LatchCalls.{Counts}
 use Rattle.mv_calls.specs.Made.{told_with, told_by, HasItsWakes, HaveTheirWakes}
 use Rattle.mv_calls.specs.Pauses as pauses
 use Rattle.mv_calls.specs.Posts as posts
+use Rattle.mv_calls.specs.declared.outcomes.PostAnswer.{PostAnswer}
+use Rattle.mv_calls.specs.declared.outcomes.PostAnswer.TheVariants as answer
 use Rattle.mv_calls.specs.Program.{Program, Do, Done, Early, Wrong, Heard, Says, and_then, on_element}
 use Rattle.mv_calls.specs.Program.{entries}
 use Rattle.mv_calls.specs.Program.{on_latch, unless_refused, finished}
@@ -284,7 +286,7 @@ entered_asks c t index id k kept sound lt low =
     (follow_asks (IsHeard c) 1 (1 + release_cost c) (waits.write_volume t.volume (k + 1)) _ kept
     (once_asks (IsHeard c) _ (write_volume_once t.volume (k + 1) kept))
     (λ stored now. follow_asks (IsHeard c) 1 (release_cost c) (posts.post c (slot_block t k) index) _ now
-    (alone_asks c (slot_block t k) index now (sound.alone k lt).1) (λ posting later. freed_asks c t id _ later low)))
+    (alone_asks c (slot_block t k) index now (sound.alone k lt).1) (λ posted later. freed_asks c t id _ later low)))
 
 -- an event that was counted
 counted_asks : (c : Setup) (t : Table) (index id k : ℕ) (kept : Kept) → IsSoundTable c t → release_cost c ≤ 524287
@@ -296,15 +298,15 @@ counted_asks c t index id k kept sound low = go (nat_lt k t.size) refl where
   go false is = wider (IsHeard c) (release_cost c) (2 + release_cost c) _ (omega arith) (freed_asks c t id _ kept low)
 
 -- what follows the post of an event
-event_posted_asks : (c : Setup) (t : Table) (index id : ℕ) (p : posts.Posting) (kept : Kept) → IsSoundTable c t → release_cost c ≤ 524287
+event_posted_asks : (c : Setup) (t : Table) (index id : ℕ) (p : PostAnswer) (kept : Kept) → IsSoundTable c t → release_cost c ≤ 524287
     → Asks (IsHeard c) (3 + release_cost c) (events.event_posted c t index id p kept)
-event_posted_asks c t index id (posts.Already code) kept sound low =
+event_posted_asks c t index id (answer.Already code) kept sound low =
     wider (IsHeard c) (release_cost c) (3 + release_cost c) _ (omega arith) (freed_asks c t id _ kept low)
-event_posted_asks c t index id posts.Posted kept sound low =
+event_posted_asks c t index id answer.Posted kept sound low =
     wider (IsHeard c) (1 + (2 + release_cost c)) (3 + release_cost c) _ (omega arith)
     (follow_asks (IsHeard c) 1 (2 + release_cost c) (waits.read_volume t.volume) (events.counted c t index id) kept
     (once_asks (IsHeard c) _ (read_volume_once t.volume kept)) (λ k now. counted_asks c t index id k now sound low))
-event_posted_asks c t index id (posts.Woke x) kept sound low =
+event_posted_asks c t index id answer.Woke kept sound low =
     wider (IsHeard c) (1 + (2 + release_cost c)) (3 + release_cost c) _ (omega arith)
     (follow_asks (IsHeard c) 1 (2 + release_cost c) (waits.read_volume t.volume) (events.counted c t index id) kept
     (once_asks (IsHeard c) _ (read_volume_once t.volume kept)) (λ k now. counted_asks c t index id k now sound low))

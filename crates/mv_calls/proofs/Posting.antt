@@ -24,12 +24,13 @@ use Rattle.mv_machine.specs.Setup.{Setup, SetupExit, owner_of, is_exit_of, start
 use Rattle.mv_machine.proofs.Lists.{all_front, all_back}
 use Rattle.mv_machine.proofs.EntryRuns.{entry_of}
 use Rattle.mv_machine.proofs.Reaches.{all_lead_up, reach_is}
+use Rattle.mv_calls.specs.declared.outcomes.PostAnswer.{PostAnswer}
+use Rattle.mv_calls.specs.declared.outcomes.PostAnswer.TheVariants as answer
 use Rattle.mv_calls.specs.Exits.{NamesOwnExit}
 use Rattle.mv_calls.specs.Keeping.{Kept, kept_after, nothing_kept}
 use Rattle.mv_calls.specs.Known.{BlockAgrees}
-use Rattle.mv_calls.specs.Posts.{Posting, posting, posted_next, each_posted, post_within, post}
+use Rattle.mv_calls.specs.Posts.{posting, posted_next, each_posted, post_within, post}
 use Rattle.mv_calls.specs.Posts.{wake_posted, wakes_posted}
-use Rattle.mv_calls.specs.Posts as came
 use Rattle.mv_calls.specs.Program.{Program, Do, Done, Early, Wrong, Heard, Call, asks, Says, and_then, on_ecb, going_on, followed}
 use Rattle.mv_machine.specs.Waking.{blocks_of}
 use Rattle.mv_calls.proofs.Blocks.{block_agrees}
@@ -161,13 +162,13 @@ none_asks P most Early none (h ∷ hs) each s = absurd (cc s.0)
 none_asks P most Wrong none (h ∷ hs) each s = absurd (cc s.0)
 
 -- ---- posts one after the other
-each_asks : (c : Setup) (cost : ℕ → ℕ) (one : ℕ → Program Posting) → ((e : ℕ) → cost e ≤ 524287 → AsksAtMost c (cost e) (one e))
-    → (es : List ℕ) (answer : Posting) → total cost es ≤ 524287
-    → AsksAtMost c (total cost es) (each_posted one es answer)
-each_asks c cost one each [] answer le = none_asks (HasOwnExit c) 0 (Done answer) tt
-each_asks c cost one each (e ∷ es) answer le =
-    both_ask (HasOwnExit c) (cost e) (total cost es) (one e) (λ p. each_posted one es answer) (each e (omega arith))
-    (λ p. each_asks c cost one each es answer (omega arith))
+each_asks : (c : Setup) (cost : ℕ → ℕ) (one : ℕ → Program PostAnswer) → ((e : ℕ) → cost e ≤ 524287 → AsksAtMost c (cost e) (one e))
+    → (es : List ℕ) (a : PostAnswer) → total cost es ≤ 524287
+    → AsksAtMost c (total cost es) (each_posted one es a)
+each_asks c cost one each [] a le = none_asks (HasOwnExit c) 0 (Done a) tt
+each_asks c cost one each (e ∷ es) a le =
+    both_ask (HasOwnExit c) (cost e) (total cost es) (one e) (λ b. each_posted one es a) (each e (omega arith))
+    (λ b. each_asks c cost one each es a (omega arith))
 
 -- ---- a block's exits
 
@@ -215,7 +216,7 @@ module _ (c : Setup) (code : ℕ) where
   -- after its own event
   abbrev Follows : ℕ → ℕ → Reply → Type 0
   Follows depth e r = AsksAtMost c (greatest (map (λ (y : SetupExit). total (reach_within depth c) y.targets) (exits_of e c.exits)))
-      (on_ecb r (posting (λ p. each_posted (post_within depth c code) (posted_next c p) p)))
+      (on_ecb r (λ x. posting (λ a. each_posted (post_within depth c code) (posted_next c x) a) x))
 
   follows : (depth e : ℕ) (r : Reply) → ((t : ℕ) → reach_within depth c t ≤ 524287
       → AsksAtMost c (reach_within depth c t) (post_within depth c code t)) → NamesOwnExit c (Ecb e) r
@@ -227,7 +228,7 @@ module _ (c : Setup) (code : ℕ) where
       omega (
         arith,
         costs,
-        each_asks c (reach_within depth c) (post_within depth c code) each (targets_of c (suc x)) (came.Woke (suc x))
+        each_asks c (reach_within depth c) (post_within depth c code) each (targets_of c (suc x)) answer.Woke
             (omega arith) hs names s,
       )
   follows depth e (reply_of.Ecb (ecb_reply.Woke zero)) each own le hs names s = none_asks (HasOwnExit c) _ _ tt hs names s
@@ -236,7 +237,7 @@ module _ (c : Setup) (code : ℕ) where
   follows depth e r each own le hs names s = none_asks (HasOwnExit c) _ _ tt hs names s
 
   -- a post and what it is followed by
-  abbrev asking : ℕ → Op → Program Posting
+  abbrev asking : ℕ → Op → Program PostAnswer
   asking e x = Do (Ecb e) x (λ h. Wrong)
 
   object_is : (e : ℕ) (o : Object) (op x : Op) → asks (asking e x) ≡ Some (o, op) → Ecb e ≡ o

@@ -11,8 +11,8 @@ use Rattle.mv_machine.specs.Legal.{Legal, after}
 use Rattle.mv_machine.specs.Packing.{word_at}
 use Rattle.mv_machine.specs.Setup.{Setup}
 use Rattle.mv_calls.specs.Keeping.{nothing_kept, kept_of}
-use Rattle.mv_calls.specs.Posts as posts
-use Rattle.mv_calls.specs.Posts.{Posting}
+use Rattle.mv_calls.specs.declared.outcomes.PostAnswer.TheVariants as answer
+use Rattle.mv_calls.specs.declared.outcomes.PostAnswer.{PostAnswer}
 use Rattle.mv_calls.specs.Program.{Early, Wrong, IsDoneOn, asks, left, noted}
 use Rattle.mv_calls.specs.Refusal as refusal
 use Rattle.mv_calls.specs.Runs.{heard_in}
@@ -23,8 +23,8 @@ use Rattle.mv_calls.proofs.Computed.{does, IsRow, row, legal_by, one_task, two_t
 -- Two blocks are posted before the wait that is for two of three, and the third is not waited for any more then.
 posted_before : IsRow (one_task (0 ∷ 0 ∷ 0 ∷ []) []) 0 examples.posted_before
     (
-    does (Post 0 7) 1 posts.Posted
-    ∷ does (Post 2 9) 1 posts.Posted
+    does (Post 0 7) 1 answer.Posted
+    ∷ does (Post 2 9) 1 answer.Posted
     ∷ does (Wait 2 (0 ∷ 1 ∷ 2 ∷ [])) 6 (Ok (Some 7 ∷ None ∷ Some 9 ∷ []))
     ∷ does (TestEcb 1) 1 0
     ∷ []
@@ -44,10 +44,10 @@ refused_waits = row refl refl
 -- A post that starts an exit posts its two targets; the second was complete before. A wait for an extended block is refused.
 exits_posted : IsRow examples.one_exit 0 examples.exit_posts
     (
-    does (Post 2 3) 1 posts.Posted
+    does (Post 2 3) 1 answer.Posted
     ∷ does (Extend 0 1) 1 (Ok tt)
     ∷ does (Wait 1 (0 ∷ [])) 0 (Err (refusal.ExtendedAt 0))
-    ∷ does (Post 0 8) 3 (posts.Woke 1)
+    ∷ does (Post 0 8) 3 answer.Woke
     ∷ does (TestEcb 1) 1 1073741832
     ∷ does (TestEcb 2) 1 1073741827
     ∷ []
@@ -77,13 +77,13 @@ exits_in_exits : IsRow
     ∷ does (Extend 0 1) 0 (Err refusal.Extended)
     ∷ does (Extend 1 1) 0 (Err refusal.BadExit)
     ∷ does (Extend 1 2) 1 (Ok tt)
-    ∷ does (Post 0 8) 4 (posts.Woke 1)
+    ∷ does (Post 0 8) 4 answer.Woke
     ∷ does (Clear 0) 1 (Ok 1073741832)
     ∷ does (Extend 0 1) 1 (Ok tt)
     ∷ does (Clear 0) 1 (Ok 2147483649)
     ∷ does (Extend 2 7) 0 (Err refusal.BadExit)
     ∷ does (Clear 1) 1 (Ok 1073741832)
-    ∷ does (Post 1 5) 1 posts.Posted
+    ∷ does (Post 1 5) 1 answer.Posted
     ∷ does (Extend 1 2) 1 (Err (refusal.Complete 5))
     ∷ []
     )
@@ -92,7 +92,7 @@ exits_in_exits = row refl refl
 -- A post by one exchange of the word that was expected.
 tried_post : IsRow (one_task (0 ∷ []) []) 0 examples.one_post
     (
-    does (TryPost 0 0 5) 1 posts.Posted
+    does (TryPost 0 0 5) 1 answer.Posted
     ∷ []
     )
 tried_post = row refl refl
@@ -121,7 +121,7 @@ woken_of_0 = row refl refl
 
 woken_of_1 : IsRow (two_tasks (0 ∷ []) []) 1 examples.post_wakes
     (
-    does (Post 0 3) 1 (posts.Woke 0)
+    does (Post 0 3) 1 answer.Woke
     ∷ does (Clear 0) 0 (Err refusal.NotOwner)
     ∷ does (Wait 1 (0 ∷ [])) 0 (Err (refusal.NotOwnerAt 0))
     ∷ does (Extend 0 1) 0 (Err refusal.NotOwner)
@@ -146,7 +146,7 @@ posted_first_of_0 = row refl refl
 
 posted_first_of_1 : IsRow (two_tasks (0 ∷ []) []) 1 posted_first_log
     (
-    does (Post 0 3) 1 posts.Posted
+    does (Post 0 3) 1 answer.Posted
     ∷ []
     )
 posted_first_of_1 = row refl refl
@@ -183,9 +183,9 @@ exit_left_out : Legal examples.one_exit unposted_log
 exit_left_out = (legal_by examples.one_exit unposted_log refl, refl)
 
 -- so it has no answer
-no_answer : (answer : Posting)
-    → IsDoneOn (program examples.one_exit (Post 0 8) (kept_of 0 (take 1 unposted_log))) (noted (drop 1 unposted_log) []) answer → ⊥
-no_answer answer d = absurd (cc d.done)
+no_answer : (a : PostAnswer)
+    → IsDoneOn (program examples.one_exit (Post 0 8) (kept_of 0 (take 1 unposted_log))) (noted (drop 1 unposted_log) []) a → ⊥
+no_answer a d = absurd (cc d.done)
 
 -- a second try with the word from before meets this word, and has no event; one that was answered all the same would be Wrong
 moved_word : word_at (after (one_task (0 ∷ []) []) examples.one_post) (Ecb 0) ≡ 35185445830661

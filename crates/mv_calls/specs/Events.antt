@@ -4,10 +4,12 @@ use Rattle.mv_latch.specs.declared.request.LatchForm.TheVariants.{Waiting}
 use Rattle.mv_latch.specs.declared.request.Mode.TheVariants.{Exclusive}
 use Rattle.mv_machine.specs.Check.{or_else}
 use Rattle.mv_machine.specs.Setup.{Setup}
+use Rattle.mv_calls.specs.declared.outcomes.PostAnswer.{PostAnswer}
+use Rattle.mv_calls.specs.declared.outcomes.PostAnswer.TheVariants.{Already}
 use Rattle.mv_calls.specs.declared.table.Table.{Table}
 use Rattle.mv_calls.specs.Keeping.{Kept}
 use Rattle.mv_calls.specs.LatchCalls.{Requested, GrantedAs, PendingAs, obtain, release_latch}
-use Rattle.mv_calls.specs.Posts.{Posting, Already, post}
+use Rattle.mv_calls.specs.Posts.{post}
 use Rattle.mv_calls.specs.Program.{Call, followed, finished, wrong, unless_refused}
 use Rattle.mv_calls.specs.Refusal.{Refusal}
 use Rattle.mv_calls.specs.Refusal as refusal
@@ -43,7 +45,7 @@ freed c t id answer = followed (release_latch c t.latch id false) (λ released. 
 abbrev pub entered : Setup → Table → ℕ → ℕ → ℕ → Call (Result Entering Refusal)
 entered c t index id k =
     followed (write_volume t.volume (k + 1)) (λ stored.
-    followed (post c (slot_block t k) index) (λ posting.
+    followed (post c (slot_block t k) index) (λ posted.
     freed c t id (Ok (EnteredAt k))))
 
 -- the table has counted k events before this one, which gets slot k if the table has that slot
@@ -51,9 +53,9 @@ abbrev pub counted : Setup → Table → ℕ → ℕ → ℕ → Call (Result En
 counted c t index id k = if nat_lt k t.size then entered c t index id k else freed c t id (Err (refusal.Broken k))
 
 -- the event's block was posted: an event that was complete before is not counted again
-abbrev pub event_posted : Setup → Table → ℕ → ℕ → Posting → Call (Result Entering Refusal)
+abbrev pub event_posted : Setup → Table → ℕ → ℕ → PostAnswer → Call (Result Entering Refusal)
 event_posted c t index id (Already code) = freed c t id (Ok (WasComplete code))
-event_posted c t index id posting = followed (read_volume t.volume) (counted c t index id)
+event_posted c t index id other = followed (read_volume t.volume) (counted c t index id)
 
 -- with the latch the event's block is posted; without it nothing is
 abbrev pub with_latch : Setup → Table → ℕ → ℕ → Result Requested Refusal → Call (Result Entering Refusal)

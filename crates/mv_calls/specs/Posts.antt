@@ -13,43 +13,38 @@ use Rattle.mv_machine.specs.declared.entry.Reply.{Reply}
 use Rattle.mv_machine.specs.declared.entry.Reply.TheVariants as reply_of
 use Rattle.mv_machine.specs.Packing.{unpack, reply_in}
 use Rattle.mv_machine.specs.Setup.{Setup, targets_of}
+use Rattle.mv_calls.specs.declared.outcomes.PostAnswer.{PostAnswer}
+use Rattle.mv_calls.specs.declared.outcomes.PostAnswer.TheVariants as answer
 use Rattle.mv_calls.specs.Keeping.{Kept}
 use Rattle.mv_calls.specs.Program.{Program, Do, Done, Wrong, Call, and_then, on_ecb}
 
--- the outcome of a post: no task waited; it woke a waiting task, or started the exit of this number if that is not 0; or the
--- block was complete with this code before
-pub data Posting : Type 0 where
-  Posted : Posting
-  Woke : (exit : ℕ) → Posting
-  Already : (code : ℕ) → Posting
-
 -- the rest of a program after the reply to a post
-abbrev pub posting : {A : Type 0} → (Posting → Program A) → EcbReply → Program A
-posting f ecb_reply.Posted = f Posted
-posting f (ecb_reply.Woke x) = f (Woke x)
-posting f (ecb_reply.Already c) = f (Already c)
+abbrev pub posting : {A : Type 0} → (PostAnswer → Program A) → EcbReply → Program A
+posting f ecb_reply.Posted = f answer.Posted
+posting f (ecb_reply.Woke x) = f answer.Woke
+posting f (ecb_reply.Already c) = f (answer.Already c)
 posting f reply = Wrong
 
 -- the blocks that are posted after a first post: the targets of the exit that it started
-abbrev pub posted_next : Setup → Posting → List ℕ
-posted_next c (Woke x) = targets_of c x
-posted_next c p = []
+abbrev pub posted_next : Setup → EcbReply → List ℕ
+posted_next c (ecb_reply.Woke x) = targets_of c x
+posted_next c reply = []
 
 -- these blocks are posted in order, and then the program is done with this answer
-abbrev pub each_posted : (ℕ → Program Posting) → List ℕ → Posting → Program Posting
-each_posted post [] answer = Done answer
-each_posted post (e ∷ es) answer = and_then (post e) (λ p. each_posted post es answer)
+abbrev pub each_posted : (ℕ → Program PostAnswer) → List ℕ → PostAnswer → Program PostAnswer
+each_posted post [] a = Done a
+each_posted post (e ∷ es) a = and_then (post e) (λ b. each_posted post es a)
 
 -- a post, with exits followed this deep: depth first, each target with its own exit before the next target
-abbrev pub post_within : ℕ → Setup → ℕ → ℕ → Program Posting
+abbrev pub post_within : ℕ → Setup → ℕ → ℕ → Program PostAnswer
 post_within zero c code e = Wrong
 post_within (suc depth) c code e =
     Do (Ecb e) (op_on.Ecb (ecb_op.Post code))
-    (λ h. on_ecb h.entry.reply (posting (λ p. each_posted (post_within depth c code) (posted_next c p) p)))
+    (λ h. on_ecb h.entry.reply (λ r. posting (λ a. each_posted (post_within depth c code) (posted_next c r) a) r))
 
 -- post: the answer is the outcome at the block itself. Exits lead to higher blocks, so no chain of exits is deeper than there
 -- are blocks
-abbrev pub post : Setup → ℕ → ℕ → Call Posting
+abbrev pub post : Setup → ℕ → ℕ → Call PostAnswer
 post c e code kept = post_within (length c.owners) c code e
 
 -- ---- what a word lets a caller expect
@@ -81,9 +76,9 @@ tried same o op expected f =
     Do o op (λ h. if is_expected same (expected_of o op expected) h.entry.place h.entry.reply then f h.entry.reply else Wrong)
 
 -- try post: makes one post, which has to find the block as expected
-abbrev pub try_post : ℕ → ℕ → ℕ → Call Posting
+abbrev pub try_post : ℕ → ℕ → ℕ → Call PostAnswer
 try_post e expected code kept =
-    tried same_post_reply (Ecb e) (op_on.Ecb (ecb_op.Post code)) expected (λ r. on_ecb r (posting (λ p. Done p)))
+    tried same_post_reply (Ecb e) (op_on.Ecb (ecb_op.Post code)) expected (λ r. on_ecb r (posting (λ a. Done a)))
 
 -- ---- posts that wakes ask for
 

@@ -7,6 +7,7 @@ use Rattle.mv_latch.specs.declared.request.LatchForm.TheVariants as form_of
 use Rattle.mv_latch.specs.declared.request.Mode.{Mode}
 use Rattle.mv_machine.specs.Reach.{reach, release_cost}
 use Rattle.mv_machine.specs.Setup.{Setup}
+use Rattle.mv_calls.specs.declared.outcomes.PostAnswer.{PostAnswer}
 use Rattle.mv_calls.specs.declared.table.Table.{Table}
 use Rattle.mv_calls.specs.Endings as endings
 use Rattle.mv_calls.specs.Events as events
@@ -17,7 +18,6 @@ use Rattle.mv_calls.specs.LatchCalls.{Requested, RequestState, Counts}
 use Rattle.mv_calls.specs.Pauses as pauses
 use Rattle.mv_calls.specs.Pauses.{Gift, Reached}
 use Rattle.mv_calls.specs.Posts as posts
-use Rattle.mv_calls.specs.Posts.{Posting}
 use Rattle.mv_calls.specs.Program.{Call}
 use Rattle.mv_calls.specs.Refusal.{Refusal}
 use Rattle.mv_calls.specs.Table.{IsSoundTable}
@@ -52,8 +52,8 @@ pub data Service : Type 0 where
 -- the type of a call's answer
 abbrev pub Answer : Service → Type 0
 Answer (Wait count blocks) = Result (List (Option ℕ)) Refusal
-Answer (Post block code) = Posting
-Answer (TryPost block expected code) = Posting
+Answer (Post block code) = PostAnswer
+Answer (TryPost block expected code) = PostAnswer
 Answer (Clear block) = Result ℕ Refusal
 Answer (Extend block exit) = Result (Unit {0}) Refusal
 Answer (TestEcb block) = ℕ

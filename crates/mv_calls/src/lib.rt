@@ -10,6 +10,7 @@ mod judge;
 mod keeping_laws;
 mod latch_laws;
 mod numbering;
+mod outcomes;
 mod section_laws;
 mod table;
 
@@ -26,5 +27,6 @@ pub use latch_laws::{
     wakes_are_in_range,
 };
 pub use numbering::number_calls;
+pub use outcomes::PostAnswer;
 pub use section_laws::{holders_exclude, sections_are_undisturbed};
 pub use table::{TABLE_LIMIT, Table, TableRefusal, ValidTable};

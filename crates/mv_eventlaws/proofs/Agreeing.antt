@@ -28,7 +28,8 @@ use Rattle.mv_calls.specs.Keeping.{Kept, kept_after}
 use Rattle.mv_calls.specs.LatchCalls as latches
 use Rattle.mv_calls.specs.LatchCalls.{Requested, GrantedAs, PendingAs}
 use Rattle.mv_calls.specs.Posts as posts
-use Rattle.mv_calls.specs.Posts.{Posting}
+use Rattle.mv_calls.specs.declared.outcomes.PostAnswer.{PostAnswer}
+use Rattle.mv_calls.specs.declared.outcomes.PostAnswer.TheVariants as post_answer
 use Rattle.mv_calls.specs.Program.{Program, Do, Done, Early, Wrong, Call, Heard, IsDoneOn, entries, on_ecb, on_latch, on_volume, and_then}
 use Rattle.mv_calls.specs.Program.{unless_refused, going_on, followed, finished}
 use Rattle.mv_calls.specs.Refusal.{Refusal}
@@ -89,13 +90,13 @@ blind_unless (Some why) p w = tt
 -- ---- posts
 
 module _ (c : Setup) (code : ℕ) where
-  blind_posting : (f : Posting → Program Posting) (x : EcbReply) → ((p : Posting) → Blind (f p)) → Blind (posts.posting f x)
-  blind_posting f ecb_reply.Posted g = g posts.Posted
-  blind_posting f (ecb_reply.Woke x) g = g (posts.Woke x)
-  blind_posting f (ecb_reply.Already d) g = g (posts.Already d)
+  blind_posting : (f : PostAnswer → Program PostAnswer) (x : EcbReply) → ((a : PostAnswer) → Blind (f a)) → Blind (posts.posting f x)
+  blind_posting f ecb_reply.Posted g = g post_answer.Posted
+  blind_posting f (ecb_reply.Woke x) g = g post_answer.Woke
+  blind_posting f (ecb_reply.Already d) g = g (post_answer.Already d)
   blind_posting f x g = tt
 
-  blind_each : (post : ℕ → Program Posting) (es : List ℕ) (answer : Posting) → ((e : ℕ) → Blind (post e))
+  blind_each : (post : ℕ → Program PostAnswer) (es : List ℕ) (answer : PostAnswer) → ((e : ℕ) → Blind (post e))
       → Blind (posts.each_posted post es answer)
   blind_each post [] answer g = tt
   blind_each post (e ∷ es) answer g =
@@ -104,9 +105,9 @@ module _ (c : Setup) (code : ℕ) where
   blind_within : (depth e : ℕ) → Blind (posts.post_within depth c code e)
   blind_within zero e = tt
   blind_within (suc depth) e = by_reply (Ecb e) (op_on.Ecb (ecb_op.Post code))
-      (λ r. on_ecb r (posts.posting (λ p. posts.each_posted (posts.post_within depth c code) (posts.posted_next c p) p)))
-      (λ r. blind_ecb r _ (λ x. blind_posting _ x
-      (λ p. blind_each (posts.post_within depth c code) (posts.posted_next c p) p (λ b. blind_within depth b))))
+      (λ r. on_ecb r (λ x. posts.posting (λ a. posts.each_posted (posts.post_within depth c code) (posts.posted_next c x) a) x))
+      (λ r. blind_ecb r _ (λ x. blind_posting (λ a. posts.each_posted (posts.post_within depth c code) (posts.posted_next c x) a) x
+      (λ a. blind_each (posts.post_within depth c code) (posts.posted_next c x) a (λ b. blind_within depth b))))
 
 -- ---- a next event
 
@@ -287,12 +288,12 @@ module _ (c : Setup) (t : Table) where
       (λ r. blind_volume r waits.the_value blind_value))
       (agree_counted index id) i j
 
-  agree_posted : (index id : ℕ) (p : Posting) (i j : Kept) → Agree Same (event_posted c t index id p i) (event_posted c t index id p j)
-  agree_posted index id (posts.Already code) i j =
+  agree_posted : (index id : ℕ) (p : PostAnswer) (i j : Kept) → Agree Same (event_posted c t index id p i) (event_posted c t index id p j)
+  agree_posted index id (post_answer.Already code) i j =
       agree_answers (Ok (WasComplete code)) (freed c t id (Ok (WasComplete code)) i) (freed c t id (Ok (WasComplete code)) j)
       (freed_answers id (Ok (WasComplete code)) i) (freed_answers id (Ok (WasComplete code)) j)
-  agree_posted index id posts.Posted i j = agree_reading index id i j
-  agree_posted index id (posts.Woke x) i j = agree_reading index id i j
+  agree_posted index id post_answer.Posted i j = agree_reading index id i j
+  agree_posted index id post_answer.Woke i j = agree_reading index id i j
 
   -- what the law says of the answer of one, it says of that of the other
   module _ (some : 1 ≤ length c.owners) (done : List Completion) (index code as_index as_code : ℕ) where

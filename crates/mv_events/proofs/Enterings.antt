@@ -13,17 +13,15 @@ use Rattle.mv_calls.specs.Events.{Entering, EnteredAt, WasComplete, event_reques
 use Rattle.mv_calls.specs.Events.{post_event}
 use Rattle.mv_calls.specs.Keeping.{nothing_kept}
 use Rattle.mv_calls.specs.LatchCalls.{Requested, GrantedAs, obtain, release_latch}
-use Rattle.mv_calls.specs.Posts.{Posting, post}
-use Rattle.mv_calls.specs.Posts as posting
+use Rattle.mv_calls.specs.Posts.{post}
 use Rattle.mv_calls.specs.Program.{Program, Done, Call, followed}
 use Rattle.mv_calls.specs.Refusal.{Refusal, Broken}
 use Rattle.mv_calls.specs.Table.{IsSoundTable, event_block, slot_block}
 use Rattle.mv_calls.specs.Waits.{read_volume, write_volume}
 use Rattle.mv_calls.proofs.Making.{kept_caller}
 use Rattle.mv_calls.proofs.TableFacts.{reaches_itself}
-use Rattle.mv_wait.specs.declared.posting.PostAnswer.{PostAnswer}
-use Rattle.mv_wait.specs.declared.posting.PostAnswer.TheVariants as answer
-use Rattle.mv_wait.specs.Answers.{post_answer}
+use Rattle.mv_calls.specs.declared.outcomes.PostAnswer.{PostAnswer}
+use Rattle.mv_calls.specs.declared.outcomes.PostAnswer.TheVariants as answer
 use Rattle.mv_wait.specs.Run.{Runs, IsServed, keeps}
 use Rattle.mv_wait.proofs.Runs.{runs_none, runs_then, runs_within, serves}
 use Rattle.mv_events.specs.Entering.{LeadsTo, Enters, CountsEvent}
@@ -51,17 +49,11 @@ IsCodeTaken answer.Posted = Unit {0}
 IsCodeTaken answer.Woke = Unit {0}
 IsCodeTaken (answer.Already first) = ⊥
 
--- a post's answer of a block that was complete
-pub was_complete : (p : Posting) (first : ℕ) → post_answer p ≡ answer.Already first → p ≡ posting.Already first
-was_complete posting.Posted first e = absurd (cc e)
-was_complete (posting.Woke x) first e = absurd (cc e)
-was_complete (posting.Already d) first e = let same : d ≡ first = cc e in ap (λ n. posting.Already n) same
-
 -- ---- an event that is counted
 
 module _ (c : Setup) (t : Table) (index : ℕ) where
   -- with the position that was read
-  pub counts_entered : (k : ℕ) (IsWritten : Unit {0} → Type 0) (IsPosted : Posting → Type 0) (f g h j : CallerFace) → IsSoundTable c t
+  pub counts_entered : (k : ℕ) (IsWritten : Unit {0} → Type 0) (IsPosted : PostAnswer → Type 0) (f g h j : CallerFace) → IsSoundTable c t
       → k < t.size → IsServed 1 (read_volume t.volume) (λ a. a ≡ k) f g → IsServed 1 (write_volume t.volume (k + 1)) IsWritten g h
       → IsServed (reach c (slot_block t k)) (post c (slot_block t k) index) IsPosted h j
       → CountsEvent c t index f (Ok (EnteredAt k)) j
@@ -99,36 +91,36 @@ module _ (c : Setup) (t : Table) (index : ℕ) where
 
   -- an event that was complete
   pub enters_already : (code first : ℕ) (f g : CallerFace) → IsSoundTable c t → index < t.size
-      → IsServed (reach c (event_block t index)) (post c (event_block t index) code) (λ p. post_answer p ≡ answer.Already first) f g
+      → IsServed (reach c (event_block t index)) (post c (event_block t index) code) (λ a. a ≡ answer.Already first) f g
       → Enters c t index code f (Ok (WasComplete first)) g
   enters_already code first f g checked lt posted = λ id.
       let one = event_reach c t index checked lt in
       let last = freed c t id (Ok (WasComplete first)) (keeps g) in
       let was : event_posted c t index id posted.answer (keeps g) ≡ last =
-      ap (λ p. event_posted c t index id p (keeps g)) (was_complete posted.answer first posted.is) in
+      ap (λ p. event_posted c t index id p (keeps g)) posted.is in
       runs_within (reach c (event_block t index) + 0) 4 (with_latch c t index code (Ok (GrantedAs id)) (keeps f)) last f g (omega arith)
       (served_first (reach c (event_block t index)) 0 (post c (event_block t index) code) (event_posted c t index id)
-      (λ p. post_answer p ≡ answer.Already first) last f g g posted
+      (λ a. a ≡ answer.Already first) last f g g posted
       (subst (λ q. Runs 0 q last g g) (sym was) (runs_none last g)))
 
-  goes_on : (p : Posting) (id most : ℕ) (g h : CallerFace) (a : Result Entering Refusal) → IsCodeTaken (post_answer p)
+  goes_on : (p : PostAnswer) (id most : ℕ) (g h : CallerFace) (a : Result Entering Refusal) → IsCodeTaken p
       → LeadsTo most c t id (followed (read_volume t.volume) (counted c t index id)) g a h
       → LeadsTo most c t id (event_posted c t index id p) g a h
-  goes_on posting.Posted id most g h a taken leads = leads
-  goes_on (posting.Woke x) id most g h a taken leads = leads
-  goes_on (posting.Already d) id most g h a taken leads = absurd taken
+  goes_on answer.Posted id most g h a taken leads = leads
+  goes_on answer.Woke id most g h a taken leads = leads
+  goes_on (answer.Already d) id most g h a taken leads = absurd taken
 
   -- an event that was not
   pub enters_counted : (code : ℕ) (came : PostAnswer) (a : Result Entering Refusal) (f g h : CallerFace) → IsSoundTable c t → index < t.size
       → IsCodeTaken came
-      → IsServed (reach c (event_block t index)) (post c (event_block t index) code) (λ p. post_answer p ≡ came) f g
+      → IsServed (reach c (event_block t index)) (post c (event_block t index) code) (λ p. p ≡ came) f g
       → CountsEvent c t index g a h → Enters c t index code f a h
   enters_counted code came a f g h checked lt taken posted counts = λ id.
       let one = event_reach c t index checked lt in
       let last = freed c t id a (keeps h) in
       runs_within (reach c (event_block t index) + 3) 4 (with_latch c t index code (Ok (GrantedAs id)) (keeps f)) last f h (omega arith)
       (served_first (reach c (event_block t index)) 3 (post c (event_block t index) code) (event_posted c t index id)
-      (λ p. post_answer p ≡ came) last f g h posted
+      (λ p. p ≡ came) last f g h posted
       (goes_on posted.answer id 3 g h a (subst IsCodeTaken (sym posted.is) taken) (counts id)))
 
   -- ---- the whole post

@@ -8,7 +8,8 @@ use Rattle.mv_machine.specs.declared.entry.Op.TheVariants as op_on
 use Rattle.mv_machine.specs.Setup.{Setup, owner_of}
 use Rattle.mv_board.specs.Faces.{BoardFace, CallerFace, IsOf}
 use Rattle.mv_calls.specs.Keeping.{Kept, kept_from, kept_of, nothing_kept}
-use Rattle.mv_calls.specs.Posts.{Posting, post}
+use Rattle.mv_calls.specs.declared.outcomes.PostAnswer.{PostAnswer}
+use Rattle.mv_calls.specs.Posts.{post}
 use Rattle.mv_calls.specs.Program.{Program, Do, Done, Heard, on_ecb, unless_refused}
 use Rattle.mv_calls.specs.Refusal.{Refusal}
 use Rattle.mv_calls.specs.Refusal as refusal
@@ -46,7 +47,7 @@ still_ready b k t u es r task rest added keeps = record {
 
 -- ---- a post
 
-pub put_made : (n ecb code : ℕ) (Is : Posting → Type 0) (t u : CallerFace) → IsServed 1 (post (slots_setup n) ecb code) Is t u
+pub put_made : (n ecb code : ℕ) (Is : PostAnswer → Type 0) (t u : CallerFace) → IsServed 1 (post (slots_setup n) ecb code) Is t u
     → Put ecb code t u
 put_made n ecb code Is t u s =
     let one = served_once 1 (post (slots_setup n) ecb code) Is (Ecb ecb) (op_on.Ecb (Post code)) _ t u s (omega arith) refl in record {
@@ -55,7 +56,7 @@ put_made n ecb code Is t u s =
       post = record { object = one.object; makes = one.makes };
     }
 
-pub put_ready : (b : BoardFace) (k n ecb code : ℕ) (Is : Posting → Type 0) (t u : CallerFace)
+pub put_ready : (b : BoardFace) (k n ecb code : ℕ) (Is : PostAnswer → Type 0) (t u : CallerFace)
     → IsServed 1 (post (slots_setup n) ecb code) Is t u → CanHandOver b k t → Put ecb code t u → CanHandOver b k u
 put_ready b k n ecb code Is t u s r p =
     still_ready b k t u (p.entry ∷ []) r (s.same.table ∙ r.task.0, s.same.about ∙ r.task.1) s.made.rest p.added

@@ -11,7 +11,8 @@ use Rattle.mv_machine.specs.Setup.{Setup}
 use Rattle.mv_machine.specs.Waking.{IsFairWake, blocks_of}
 use Rattle.mv_board.specs.Faces.{CallerFace}
 use Rattle.mv_calls.specs.Keeping.{Kept, nothing_kept}
-use Rattle.mv_calls.specs.Posts.{Posting, post, wake_posted, wakes_posted}
+use Rattle.mv_calls.specs.declared.outcomes.PostAnswer.{PostAnswer}
+use Rattle.mv_calls.specs.Posts.{post, wake_posted, wakes_posted}
 use Rattle.mv_calls.specs.Program.{Program, Do, Done, Early, Wrong, and_then}
 use Rattle.mv_wait.specs.Run.{Runs, IsServed}
 use Rattle.mv_wait.proofs.Compose.{runs_and_then, post_within_call}
@@ -53,7 +54,7 @@ posts_then c ws kept last t u made =
 -- ---- one wake
 
 -- a wake with one posts it
-pub posts_one : (c : Setup) (w : Wake) (e : ℕ) (Is : Posting → Type 0) (t u : CallerFace) → w.ecb ≡ Some e
+pub posts_one : (c : Setup) (w : Wake) (e : ℕ) (Is : PostAnswer → Type 0) (t u : CallerFace) → w.ecb ≡ Some e
     → IsServed (reach c e) (post c e w.code) Is t u → PostsWakes c (w ∷ []) t u
 posts_one c w e Is t u is served = λ kept. subst
     (λ o. Runs (total (reach c) (blocks_of (record w { ecb = o } ∷ []))) (wake_posted c o w.code kept all_posted) all_posted t u)

@@ -16,7 +16,8 @@ use Rattle.mv_calls.specs.LatchCalls.{Requested, obtain, release_latch, let_go}
 use Rattle.mv_calls.specs.Program.{Program, Call, Heard, on_latch}
 use Rattle.mv_calls.specs.Refusal.{Refusal}
 use Rattle.mv_calls.specs.Exits.{StartsExit}
-use Rattle.mv_calls.specs.Posts.{Posting, post}
+use Rattle.mv_calls.specs.declared.outcomes.PostAnswer.{PostAnswer}
+use Rattle.mv_calls.specs.Posts.{post}
 use Rattle.mv_calls.specs.Waits.{wait, clear, read_volume, write_volume}
 use Rattle.mv_wait.specs.Run.{IsServed}
 use Rattle.mv_wait.proofs.Compose.{still_served}
@@ -86,7 +87,7 @@ pub clear_has : (c : Setup) (e most : ℕ) (Is : Result ℕ Refusal → Type 0) 
 clear_has c e most Is t u s =
     same_held most (clear c e) Is t u s (always_clear (λ o op. IsNoLatchOp op) c e (kept_of t.number t.log) tt)
 
-pub post_quiet : (c : Setup) (e code most : ℕ) (Is : Posting → Type 0) (t u : CallerFace) → c.exits ≡ []
+pub post_quiet : (c : Setup) (e code most : ℕ) (Is : PostAnswer → Type 0) (t u : CallerFace) → c.exits ≡ []
     → IsServed most (post c e code) Is t u → IsQuiet t u
 post_quiet c e code most Is t u none s = record {
   grown = served_grown IsCalm most (post c e code) Is t u s (always_post IsCalm c e code (kept_of t.number t.log) none tt);
@@ -94,7 +95,7 @@ post_quiet c e code most Is t u none s = record {
       (always_post (λ o op. IsPlain op) c e code (kept_of t.number t.log) none tt);
 }
 
-pub post_has : (c : Setup) (e code most : ℕ) (Is : Posting → Type 0) (t u : CallerFace) → c.exits ≡ [] → IsServed most (post c e code) Is t u
+pub post_has : (c : Setup) (e code most : ℕ) (Is : PostAnswer → Type 0) (t u : CallerFace) → c.exits ≡ [] → IsServed most (post c e code) Is t u
     → held u.log ≡ held t.log
 post_has c e code most Is t u none s =
     same_held most (post c e code) Is t u s (always_post (λ o op. IsNoLatchOp op) c e code (kept_of t.number t.log) none tt)

@@ -65,7 +65,9 @@ pub use Rattle.mv_calls.specs.Program.{unless_refused, on_element, on_latch, Ear
 pub use Rattle.mv_latch.specs.declared.operation.Wake.{Wake}
 pub use Rattle.mv_calls.specs.LatchCalls.{obtained, Counts}
 pub use Rattle.mv_calls.specs.Pauses.{token_of, pause, closed, deallocate, release}
-pub use Rattle.mv_calls.specs.Posts.{Woke, each_posted, posted_next, post_within, wake_posted, Posting, post}
+pub use Rattle.mv_calls.specs.declared.outcomes.PostAnswer.{PostAnswer}
+pub use Rattle.mv_calls.specs.declared.outcomes.PostAnswer.TheVariants.{Woke}
+pub use Rattle.mv_calls.specs.Posts.{each_posted, posted_next, post_within, wake_posted, post}
 pub use Rattle.mv_calls.specs.Refusal.{Refusal}
 pub use Rattle.mv_calls.proofs.Unrefused.{wait_unrefused}
 pub use Rattle.mv_latch.specs.declared.request.Request.{Request}

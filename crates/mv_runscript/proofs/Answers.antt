@@ -4,15 +4,15 @@ use Rattle.mv_calls.specs.declared.table.Table.{Table}
 use Rattle.mv_calls.specs.Events.{Entering, EnteredAt, WasComplete}
 use Rattle.mv_calls.specs.LatchCalls.{Requested, GrantedAs, PendingAs, RequestState, Holds, Waits, IsOut}
 use Rattle.mv_calls.specs.Pauses.{Gift, Reached, CameEarly, WokeIt}
-use Rattle.mv_calls.specs.Posts.{Posting}
-use Rattle.mv_calls.specs.Posts as posting
+use Rattle.mv_calls.specs.declared.outcomes.PostAnswer.{PostAnswer}
+use Rattle.mv_calls.specs.declared.outcomes.PostAnswer.TheVariants as post_answer
 use Rattle.mv_calls.specs.Refusal.{Refusal}
 use Rattle.mv_calls.specs.Refusal as refusal
 use Rattle.mv_calls.specs.Services.{Service}
 use Rattle.mv_calls.specs.Services as service
 use Rattle.mv_wait.specs.declared.waiting.WaitSlot.{WaitSlot}
 use Rattle.mv_wait.specs.declared.waiting.WaitSlot.TheVariants as slot
-use Rattle.mv_wait.specs.Answers.{post_answer, slots_of}
+use Rattle.mv_wait.specs.Answers.{slots_of}
 use Rattle.mv_script.specs.declared.answer.Answer.{Answer}
 use Rattle.mv_script.specs.declared.call.Call.{Call}
 use Rattle.mv_script.specs.declared.call.Call.TheVariants as call
@@ -22,19 +22,12 @@ use Rattle.mv_script.specs.Costs.{Asked, service_of}
 use Rattle.mv_script.specs.Run.{word_in}
 use Rattle.mv_script.specs.Script.{is_obtain}
 use Rattle.mv_script.specs.Tasks.{requests_with}
-use Rattle.mv_runscript.specs.Answered.{posted_as}
 
 -- slots are those that their codes are
 pub slots_again : (slots : List WaitSlot) → map slot_with (slots_of slots) ≡ slots
 slots_again [] = refl
 slots_again (slot.Complete code ∷ slots) = ap (λ rest. slot.Complete code ∷ rest) (slots_again slots)
 slots_again (slot.Open ∷ slots) = ap (λ rest. slot.Open ∷ rest) (slots_again slots)
-
--- a post's answer does not depend on the exit that it started
-pub posted_is : (p : Posting) → posted p ≡ posted_as (post_answer p)
-posted_is posting.Posted = refl
-posted_is (posting.Woke exit) = refl
-posted_is (posting.Already code) = refl
 
 -- ---- no word
 
@@ -66,10 +59,10 @@ done_none : {A : Type 0} (f : A → Answer) → ((a : A) → word_in (f a) ≡ N
 done_none f none (Ok a) = none a
 done_none f none (Err why) = refused_none why
 
-posted_none : (p : Posting) → word_in (posted p) ≡ None
-posted_none posting.Posted = refl
-posted_none (posting.Woke exit) = refl
-posted_none (posting.Already code) = refl
+posted_none : (p : PostAnswer) → word_in (posted p) ≡ None
+posted_none post_answer.Posted = refl
+posted_none post_answer.Woke = refl
+posted_none (post_answer.Already code) = refl
 
 paused_none : (gift : Option Gift) → word_in (given_if_paused gift) ≡ None
 paused_none None = refl

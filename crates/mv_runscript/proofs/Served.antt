@@ -5,13 +5,7 @@ use Rattle.mv_calls.specs.Keeping.{kept_of}
 use Rattle.mv_calls.specs.Program.{Done, Call, followed, finished}
 use Rattle.mv_calls.specs.Rest.{IsAtRest}
 use Rattle.mv_wait.specs.Run.{Runs, IsServed}
-use Rattle.mv_calls.specs.Posts.{Posting}
 use Rattle.mv_script.specs.declared.answer.Answer.{Answer}
-use Rattle.mv_script.specs.Answered.{posted}
-use Rattle.mv_wait.specs.declared.posting.PostAnswer.{PostAnswer}
-use Rattle.mv_wait.specs.Answers.{post_answer}
-use Rattle.mv_runscript.specs.Answered.{posted_as}
-use Rattle.mv_runscript.proofs.Answers.{posted_is}
 use Rattle.mv_wait.proofs.Compose.{runs_followed}
 use Rattle.mv_wait.proofs.Runs.{runs_none, runs_within, serves, served_runs}
 
@@ -52,11 +46,3 @@ pub served_with : {A : Type 0} {most : ℕ} {call : Call A} {f : A → Answer} {
     → IsServed most call (λ b. b ≡ a) t u → IsServed most call (λ b. f b ≡ reply) t u
 served_with {A} {most} {call} {f} {a} {reply} {t} {u} is s =
     served_so most most call (λ b. b ≡ a) (λ b. f b ≡ reply) t u (omega arith) (λ b same. ap f same ∙ sym is) s
-
--- a post, whichever exit it started
-pub served_post : {most : ℕ} {call : Call Posting} {outcome : PostAnswer} {reply : Answer} {t u : CallerFace}
-    → reply ≡ posted_as outcome → IsServed most call (λ p. post_answer p ≡ outcome) t u
-    → IsServed most call (λ p. posted p ≡ reply) t u
-served_post {most} {call} {outcome} {reply} {t} {u} is s =
-    served_so most most call (λ p. post_answer p ≡ outcome) (λ p. posted p ≡ reply) t u (omega arith)
-    (λ p same. posted_is p ∙ ap posted_as same ∙ sym is) s

@@ -1,5 +1,4 @@
--- the answer of a service as that of a call, and the services that a task has made
-pub mod Answered
+-- the services that a task has made
 pub mod Served
 -- one call, and all calls of a task
 pub mod Making

@@ -1,4 +1,4 @@
-//! The answers of calls, made of those of the services (`specs/Answered.antt`, and `Answered.antt` of mv_script).
+//! The answers of calls, made of those of the services (`Answered.antt` of mv_script).
 
 ghost use Rattle.std.specs.Prelude.{◌≡◌, map};
 ghost use Rattle.mv_latchset.specs.Answers.{obtain_answer, standing_as, freed_answer, counts_of};
@@ -6,9 +6,9 @@ ghost use Rattle.mv_pause.specs.Answers.{allocate_answer, pause_answer, release_
 ghost use Rattle.mv_wait.specs.Answers.{clear_answer, extend_answer, wait_answer};
 ghost use Rattle.mv_script.specs.declared.answer.Answer.TheVariants as answer;
 ghost use Rattle.mv_script.specs.Answered.{done_or, given as given_as, given_if_paused, reached, obtained as obtained_told};
-ghost use Rattle.mv_script.specs.Answered.{purged as purged_as, slot_with, standing as standing_of, entered as entered_as, found};
+ghost use Rattle.mv_script.specs.Answered.{posted as posted_as, purged as purged_as, slot_with, standing as standing_of};
+ghost use Rattle.mv_script.specs.Answered.{entered as entered_as, found};
 ghost use Rattle.mv_events.specs.Answers.{entering_answer, next_answer};
-ghost use Rattle.mv_runscript.specs.Answered.{posted_as};
 
 use mv_element::Token;
 use mv_events::{Event, EventAnswer, NextRefusal, PostEventRefusal};

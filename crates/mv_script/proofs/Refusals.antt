@@ -18,8 +18,9 @@ use Rattle.mv_calls.specs.Events.{Entering, Finding, EnteredAt, WasComplete, eve
 use Rattle.mv_calls.specs.Events.{with_latch, post_event, handed_out, indexed, slot_found, next_event}
 use Rattle.mv_calls.specs.Keeping.{Kept}
 use Rattle.mv_calls.specs.LatchCalls.{Requested, GrantedAs, PendingAs, confirmed, obtained, obtain, release_latch}
-use Rattle.mv_calls.specs.Posts.{Posting, post}
-use Rattle.mv_calls.specs.Posts as posting
+use Rattle.mv_calls.specs.declared.outcomes.PostAnswer.{PostAnswer}
+use Rattle.mv_calls.specs.declared.outcomes.PostAnswer.TheVariants as post_answer
+use Rattle.mv_calls.specs.Posts.{post}
 use Rattle.mv_calls.specs.Program.{Do, Done, Heard, IsDoneOn, on_latch, unless_refused, followed, finished}
 use Rattle.mv_calls.specs.Refusal.{Refusal}
 use Rattle.mv_calls.specs.Refusal as refusal
@@ -129,11 +130,11 @@ module _ (c : Setup) (t : Table) where
         let cut = cut_followed (read_volume t.volume) (counted c t index id) kept hs answer w in
         when_counted index id cut.first _ cut.later cut.goes_on
 
-    when_posted : (index id : ℕ) (p : Posting) (kept : Kept) (hs : List Heard) → IsDoneOn (event_posted c t index id p kept) hs answer
+    when_posted : (index id : ℕ) (p : PostAnswer) (kept : Kept) (hs : List Heard) → IsDoneOn (event_posted c t index id p kept) hs answer
         → IfRefused RefusesPost answer
-    when_posted index id (posting.Already code) kept hs w = when_freed id (Ok (WasComplete code)) kept hs w tt
-    when_posted index id posting.Posted kept hs w = when_read index id kept hs w
-    when_posted index id (posting.Woke exit) kept hs w = when_read index id kept hs w
+    when_posted index id (post_answer.Already code) kept hs w = when_freed id (Ok (WasComplete code)) kept hs w tt
+    when_posted index id post_answer.Posted kept hs w = when_read index id kept hs w
+    when_posted index id post_answer.Woke kept hs w = when_read index id kept hs w
 
     when_obtained : (index code : ℕ) (o : Result Requested Refusal) (kept : Kept) (hs : List Heard)
         → IsDoneOn (with_latch c t index code o kept) hs answer → IfRefused RefusesPost o → IfRefused RefusesPost answer

@@ -27,8 +27,9 @@ use Rattle.mv_machine.proofs.Words.{packed_unpacks}
 use Rattle.mv_calls.specs.declared.table.Table.{Table}
 use Rattle.mv_calls.specs.Keeping.{Kept, kept_after, nothing_kept}
 use Rattle.mv_calls.specs.Pauses.{Reached, CameEarly, released, same_release_reply, try_release}
-use Rattle.mv_calls.specs.Posts.{Posting, posting, expected_of, is_expected, same_post_reply, try_post}
-use Rattle.mv_calls.specs.Posts as posting_of
+use Rattle.mv_calls.specs.declared.outcomes.PostAnswer.{PostAnswer}
+use Rattle.mv_calls.specs.declared.outcomes.PostAnswer.TheVariants as post_answer
+use Rattle.mv_calls.specs.Posts.{posting, expected_of, is_expected, same_post_reply, try_post}
 use Rattle.mv_calls.specs.Program.{Program, Do, Done, Early, Wrong, Heard, left, going_on, followed, finished, on_ecb, on_element}
 use Rattle.mv_calls.specs.Program as program
 use Rattle.mv_calls.specs.Refusal.{Refusal}
@@ -95,11 +96,11 @@ parts kept Wrong f hs b e = absurd (never_done hs b e)
 -- ---- a try by its one event
 
 -- a post that was expected of a zero block is answered so
-post_as_expected : (is : Bool) (reply : Reply) (hs : List Heard) (a : Posting)
+post_as_expected : (is : Bool) (reply : Reply) (hs : List Heard) (a : PostAnswer)
     → left (if is && same_post_reply (reply_of.Ecb ecb_reply.Posted) reply then on_ecb reply (posting (λ p. Done p)) else Wrong) hs ≡ Done a
-    → a ≡ posting_of.Posted
+    → a ≡ post_answer.Posted
 post_as_expected false reply hs a e = absurd (never_done hs a e)
-post_as_expected true (reply_of.Ecb ecb_reply.Posted) hs a e = sym (done_is posting_of.Posted a hs e)
+post_as_expected true (reply_of.Ecb ecb_reply.Posted) hs a e = sym (done_is post_answer.Posted a hs e)
 post_as_expected true (reply_of.Ecb _) hs a e = absurd (never_done hs a e)
 post_as_expected true _ hs a e = absurd (never_done hs a e)
 
@@ -109,8 +110,8 @@ zero_expected e place code =
     ap (option_and_then (λ (u : ℕ × WordState). option_map (λ (r : Reply). (u.0, r)) (reply_in (op_on.Ecb (ecb_op.Post code)) u.1)))
     (packed_unpacks (Ecb e) place (state.Ecb Zero) tt)
 
-post_answers : (e place code : ℕ) (kept : Kept) (hs : List Heard) (a : Posting)
-    → left (try_post e (zero_at place) code kept) hs ≡ Done a → a ≡ posting_of.Posted
+post_answers : (e place code : ℕ) (kept : Kept) (hs : List Heard) (a : PostAnswer)
+    → left (try_post e (zero_at place) code kept) hs ≡ Done a → a ≡ post_answer.Posted
 post_answers e place code kept [] a is = absurd (cc is)
 post_answers e place code kept (h ∷ hs) a is =
     let r = h.entry.reply in
@@ -176,7 +177,7 @@ one_post c t None past ecb place code kept hs next e =
     let r = parts kept (service.program c s kept) (λ a. finished (served past s a)) hs next e in
     let is = post_answers ecb place code kept r.events r.answer r.done in
     ap (λ (p : Past). p.answers) (sym (done_is (served past s r.answer) next r.later r.more))
-    ∙ ap (λ (a : Posting). past.answers ++ answer_to s a ∷ []) is
+    ∙ ap (λ (a : PostAnswer). past.answers ++ answer_to s a ∷ []) is
 
 -- a TRYRELEASE
 one_release : (c : Setup) (table : Table) (m : Option ℕ) (past : Past) (t : Token) (place code : ℕ) (kept : Kept) (hs : List Heard)

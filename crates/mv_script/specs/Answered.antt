@@ -3,8 +3,8 @@ use Rattle.std.specs.Prelude.{ℕ, map, Option, Some, None, Result, Ok, Err}
 use Rattle.mv_calls.specs.Events.{Entering, EnteredAt, WasComplete, Finding}
 use Rattle.mv_calls.specs.LatchCalls.{Requested, GrantedAs, PendingAs, RequestState, Holds, Waits, IsOut, Counts}
 use Rattle.mv_calls.specs.Pauses.{Gift, Reached, CameEarly, WokeIt}
-use Rattle.mv_calls.specs.Posts.{Posting}
-use Rattle.mv_calls.specs.Posts as posting
+use Rattle.mv_calls.specs.declared.outcomes.PostAnswer.{PostAnswer}
+use Rattle.mv_calls.specs.declared.outcomes.PostAnswer.TheVariants as post_answer
 use Rattle.mv_calls.specs.Refusal.{Refusal}
 use Rattle.mv_calls.specs.Refusal as refusal
 use Rattle.mv_calls.specs.Services.{Service}
@@ -51,11 +51,11 @@ abbrev pub slot_with : Option ℕ → WaitSlot
 slot_with None = slot.Open
 slot_with (Some code) = slot.Complete code
 
--- the answer to a post, whichever exit it started
-abbrev pub posted : Posting → Answer
-posted posting.Posted = answer.Posted
-posted (posting.Woke exit) = answer.Woke
-posted (posting.Already code) = answer.AlreadyPosted code
+-- the answer to a post
+abbrev pub posted : PostAnswer → Answer
+posted post_answer.Posted = answer.Posted
+posted post_answer.Woke = answer.Woke
+posted (post_answer.Already code) = answer.AlreadyPosted code
 
 -- the answer to a pause that was given a code
 abbrev pub given : Gift → Answer

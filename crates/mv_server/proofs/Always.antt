@@ -8,7 +8,8 @@ use Rattle.mv_machine.proofs.Lists.{all_append}
 use Rattle.mv_board.specs.Faces.{BoardFace, CallerFace}
 use Rattle.mv_calls.specs.Keeping.{kept_of}
 use Rattle.mv_calls.specs.Pauses.{Gift, Reached, pause, release}
-use Rattle.mv_calls.specs.Posts.{Posting, post}
+use Rattle.mv_calls.specs.declared.outcomes.PostAnswer.{PostAnswer}
+use Rattle.mv_calls.specs.Posts.{post}
 use Rattle.mv_calls.specs.Program.{Call}
 use Rattle.mv_calls.specs.Refusal.{Refusal}
 use Rattle.mv_calls.specs.Waits.{clear}
@@ -62,7 +63,7 @@ stays_more b requests m most t u k le = record { ready = k.ready; number = k.num
 -- ---- the calls
 
 -- a worker's post of an answer's block with the answer, or a post of another block
-pub told : (b : BoardFace) (requests : List ℕ) (e code : ℕ) (Is : Posting → Type 0) (t u : CallerFace)
+pub told : (b : BoardFace) (requests : List ℕ) (e code : ℕ) (Is : PostAnswer → Type 0) (t u : CallerFace)
     → IsServed (reach b.config e) (post b.config e code) Is t u → CanServe b requests t
     → (workers ≤ e → (t.number < workers) × (code ≡ answer_at requests e)) → StaysReady b requests 1 t u
 told b requests e code Is t u s r right =
@@ -71,7 +72,7 @@ told b requests e code Is t u s r right =
     (always_post (IsRight requests t.number) b.config e code (kept_of t.number t.log) (ap (λ (c : Setup). c.exits) r.asked.config) right))
 
 -- a round of a worker begins: it tells that it is idle, and pauses
-pub begun_round : (b : BoardFace) (requests : List ℕ) (most idle code : ℕ) (token : Token) (IsPosted : Posting → Type 0)
+pub begun_round : (b : BoardFace) (requests : List ℕ) (most idle code : ℕ) (token : Token) (IsPosted : PostAnswer → Type 0)
     (IsPaused : Result Gift Refusal → Type 0) (t old mid new : CallerFace) → idle < workers
     → IsServed (reach b.config idle) (post b.config idle code) IsPosted old mid → IsServed 2 (pause b.config token) IsPaused mid new
     → StaysReady b requests most t old → StaysReady b requests (most + 3) t new

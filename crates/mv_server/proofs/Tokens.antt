@@ -20,7 +20,8 @@ use Rattle.mv_board.specs.Faces.{CallerFace}
 use Rattle.mv_calls.specs.Keeping.{Kept, kept_after, kept_from, kept_of, nothing_kept, generation_after}
 use Rattle.mv_calls.specs.Pauses.{Gift, gift_of, token_of, allocate, open_lowest, lowest_free, opened, pause, paused, resumed}
 use Rattle.mv_calls.specs.Pauses.{is_others_token}
-use Rattle.mv_calls.specs.Posts.{Posting, post, post_within}
+use Rattle.mv_calls.specs.declared.outcomes.PostAnswer.{PostAnswer}
+use Rattle.mv_calls.specs.Posts.{post, post_within}
 use Rattle.mv_calls.specs.Program.{Program, Call, Do, Done, Heard, Says, left, asks, heard, entries, on_element, unless_refused}
 use Rattle.mv_calls.specs.Refusal.{Refusal}
 use Rattle.mv_calls.specs.Refusal as refusal
@@ -92,7 +93,7 @@ posted_current (suc depth) c ecb code t kept (h ∷ []) says few now =
     }
 posted_current (suc depth) c ecb code t kept (h ∷ g ∷ hs) says few now = absurd (omega arith)
 
-pub may_pause_still : (c : Setup) (n ecb code : ℕ) (Is : Posting → Type 0) (token : Token) (t u : CallerFace) → c ≡ pool_setup n
+pub may_pause_still : (c : Setup) (n ecb code : ℕ) (Is : PostAnswer → Type 0) (token : Token) (t u : CallerFace) → c ≡ pool_setup n
     → IsServed (reach c ecb) (post c ecb code) Is t u → MayPause c t token → MayPause c u token
 may_pause_still c n ecb code Is token t u is s may = record {
   own = may.own ∙ sym s.same.number;

@@ -12,7 +12,8 @@ use Rattle.mv_board.specs.Faces.{BoardFace, CallerFace, IsOf}
 use Rattle.mv_calls.specs.Endings.{close_all, end_of_job, end_of_task, used_elements}
 use Rattle.mv_calls.specs.Keeping.{Kept, kept_of}
 use Rattle.mv_calls.specs.LatchCalls.{Counts, purge, purged}
-use Rattle.mv_calls.specs.Posts.{Posting, post, wake_posted, wakes_posted}
+use Rattle.mv_calls.specs.declared.outcomes.PostAnswer.{PostAnswer}
+use Rattle.mv_calls.specs.Posts.{post, wake_posted, wakes_posted}
 use Rattle.mv_calls.specs.Program.{Program, Do, Done, Wrong, and_then, on_latch}
 use Rattle.mv_calls.specs.Rest.{IsAtRest}
 use Rattle.mv_calls.specs.Services.{mother_events}
@@ -48,7 +49,7 @@ job_same c requestor e code kept other =
 
 -- ---- the end of a job
 
-pub job_served : (c : Setup) (requestor e code : ℕ) (Is : Counts → Type 0) (IsPost : Posting → Type 0) (t v u : CallerFace)
+pub job_served : (c : Setup) (requestor e code : ℕ) (Is : Counts → Type 0) (IsPost : PostAnswer → Type 0) (t v u : CallerFace)
     → IsServed (release_cost c) (purge c requestor) Is t v → IsServed (reach c e) (post c e code) IsPost v u
     → IsServed (release_cost c + reach c e) (end_of_job c requestor e code) Is t u
 job_served c requestor e code Is IsPost t v u x y =

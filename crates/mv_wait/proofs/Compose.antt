@@ -3,8 +3,9 @@ use Rattle.std.proofs.Common.{◌≡◌, ℕ, ◌+◌, ◌≤◌, ◌++◌, refl
 use Rattle.mv_board.specs.Faces.{BoardFace, CallerFace, IsOf, IsFresh}
 use Rattle.mv_machine.specs.Setup.{Setup}
 use Rattle.mv_machine.specs.Reach.{reach}
+use Rattle.mv_calls.specs.declared.outcomes.PostAnswer.{PostAnswer}
 use Rattle.mv_calls.specs.Keeping.{Kept, kept_from, kept_of, nothing_kept}
-use Rattle.mv_calls.specs.Posts.{Posting, post, wake_posted}
+use Rattle.mv_calls.specs.Posts.{post, wake_posted}
 use Rattle.mv_calls.specs.Program.{Program, Done, Call, Says, and_then, left, entries, followed}
 use Rattle.mv_calls.specs.Rest.{IsAtRest}
 use Rattle.mv_calls.proofs.Making.{kept_from-append}
@@ -43,7 +44,7 @@ runs_followed i j call f a q t u v x y = record {
       ∙ kept_from-append (nothing_kept t.number) t.log (entries x.events)
 
 -- a post that a wake or an end of a job asks for, and what follows it. The post looks at nothing that is kept
-pub post_within_call : {A : Type 0} (c : Setup) (e code n : ℕ) (kept : Kept) (Is : Posting → Type 0) (last q : Program A)
+pub post_within_call : {A : Type 0} (c : Setup) (e code n : ℕ) (kept : Kept) (Is : PostAnswer → Type 0) (last q : Program A)
     (t u v : CallerFace)
     → IsServed (reach c e) (post c e code) Is t u → Runs n last q u v → Runs (reach c e + n) (wake_posted c (Some e) code kept last) q t v
 post_within_call c e code n kept Is last q t u v s y =

@@ -1,12 +1,14 @@
 -- Exits: which a block can have, where they lead, and what they cost.
 use Rattle.std.proofs.Common.{◌≡◌, ℕ, zero, suc, ◌+◌, ◌-◌, ◌<◌, ◌≤◌, nat_lt, true, List, [], ◌∷◌}
-use Rattle.std.proofs.Common.{◌++◌, length, slice_get, refl, sym, subst, arith}
+use Rattle.std.proofs.Common.{◌++◌, length, slice_get, Some, refl, sym, subst, arith}
 use Rattle.std.proofs.lemmas.Bool.{eqb-true, and_parts}
 use Rattle.std.specs.List.{AllByRecursion}
 use Rattle.mv_ecb.specs.declared.operation.EcbOp.TheVariants.{Post}
+use Rattle.mv_ecb.specs.declared.operation.EcbReply.{EcbReply}
 use Rattle.mv_ecb.specs.declared.operation.EcbReply.TheVariants as ecb_reply
 use Rattle.mv_machine.specs.declared.entry.Object.TheVariants.{Ecb}
 use Rattle.mv_machine.specs.declared.entry.Op.TheVariants as op_on
+use Rattle.mv_machine.specs.declared.entry.Reply.{Reply}
 use Rattle.mv_machine.specs.declared.entry.Reply.TheVariants as reply_of
 use Rattle.mv_machine.specs.Check.{IsValid}
 use Rattle.mv_machine.specs.Limits.{events_limit}
@@ -17,9 +19,9 @@ use Rattle.mv_machine.proofs.Lists.{all_got, all_map}
 use Rattle.mv_calls.proofs.Posting.{exits_are_own, greatest_member, starts}
 use Rattle.mv_machine.proofs.Reaches.{all_lead_up, next_reach, LeadsUp}
 use Rattle.mv_board.specs.Faces.{CallerFace, Happened}
-use Rattle.mv_calls.specs.Posts.{Posting, posted_next}
-use Rattle.mv_calls.specs.Posts as came
-use Rattle.mv_wait.specs.Posted.{Leads, exit_run, reply_to_post}
+use Rattle.mv_calls.specs.declared.outcomes.PostAnswer.{PostAnswer}
+use Rattle.mv_calls.specs.Posts.{posted_next}
+use Rattle.mv_wait.specs.Posted.{Leads, answer_in, exit_in}
 use Rattle.mv_wait.proofs.Answering.{made_behind}
 use Rattle.mv_wait.proofs.Runs.{entry_of}
 
@@ -55,19 +57,22 @@ exit_leads c x e v there is =
 pub no_exit_leads : (c : Setup) (e : ℕ) → IsValid c → e < length c.owners → Leads c e []
 no_exit_leads c e v there = record { up = tt; cost = λ exact. one_at_least c e v there }
 
-pub next_is : (c : Setup) (p : Posting) → posted_next c p ≡ targets_of c (exit_run p)
-next_is c came.Posted = refl
-next_is c (came.Woke exit) = refl
-next_is c (came.Already d) = refl
+pub next_is : (c : Setup) (r : EcbReply) → posted_next c r ≡ targets_of c (exit_in (reply_of.Ecb r))
+next_is c (ecb_reply.Woke exit) = refl
+next_is c r = refl
+
+-- a reply that gives an answer to a post is one of a block
+pub posted_reply : (reply : Reply) (a : PostAnswer) → answer_in reply ≡ Some a → (r : EcbReply) × (reply ≡ reply_of.Ecb r)
+posted_reply (reply_of.Ecb r) a is = (r, refl)
+posted_reply r a is = absurd (cc is)
 
 -- what a post leads to
-pub came_leads : (c : Setup) (t u : CallerFace) (e d : ℕ) (p : Posting) → IsValid c → e < length c.owners
-    → Happened t (Ecb e) (op_on.Ecb (Post d)) (reply_of.Ecb (reply_to_post p)) u → IsPossible c u.number u.log u.told
-    → Leads c e (posted_next c p)
-came_leads c t u e d came.Posted v there h q = no_exit_leads c e v there
-came_leads c t u e d (came.Already k) v there h q = no_exit_leads c e v there
-came_leads c t u e d (came.Woke zero) v there h q = no_exit_leads c e v there
-came_leads c t u e d (came.Woke (suc x)) v there h q = exit_leads c x e v there (exit_known c t u e d x h q)
+pub came_leads : (c : Setup) (t u : CallerFace) (e d : ℕ) (r : EcbReply) → IsValid c → e < length c.owners
+    → Happened t (Ecb e) (op_on.Ecb (Post d)) (reply_of.Ecb r) u → IsPossible c u.number u.log u.told
+    → Leads c e (posted_next c r)
+came_leads c t u e d (ecb_reply.Woke zero) v there h q = no_exit_leads c e v there
+came_leads c t u e d (ecb_reply.Woke (suc x)) v there h q = exit_leads c x e v there (exit_known c t u e d x h q)
+came_leads c t u e d r v there h q = no_exit_leads c e v there
 
 pub total-append : (f : ℕ → ℕ) (xs ys : List ℕ) → total f (xs ++ ys) ≡ total f xs + total f ys
 total-append f [] ys = omega arith

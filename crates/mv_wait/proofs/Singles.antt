@@ -4,6 +4,7 @@ use Rattle.std.proofs.Common.{Option, Some, None, Result, Ok, Err, cond, option_
 use Rattle.std.proofs.Common.{arith}
 use Rattle.std.proofs.lemmas.Bool.{false≢true, eqb-true, eq-eqb, lt-ltb}
 use Rattle.mv_ecb.specs.declared.operation.EcbOp.TheVariants.{Clear, Extend, Post}
+use Rattle.mv_ecb.specs.declared.operation.EcbReply.TheVariants as ecb_reply
 use Rattle.mv_ecb.specs.Table.{ecb_step}
 use Rattle.mv_ecb.specs.Word.{EcbState, Zero, Waiting, Extended, Complete}
 use Rattle.mv_machine.specs.Check.{or_else}
@@ -18,17 +19,16 @@ use Rattle.mv_machine.specs.Kept.{allowed}
 use Rattle.mv_machine.specs.Parts.{IsPossible}
 use Rattle.mv_machine.specs.Setup.{Setup, owner_of, is_exit_of}
 use Rattle.mv_board.specs.Faces.{CallerFace, Happened, Exchanged}
+use Rattle.mv_calls.specs.declared.outcomes.PostAnswer.{PostAnswer}
 use Rattle.mv_calls.specs.Keeping.{Kept, kept_of, nothing_kept}
 use Rattle.mv_calls.proofs.Making.{kept_caller}
-use Rattle.mv_calls.specs.Posts.{Posting, posting, try_post, expected_of, is_expected, same_post_reply}
-use Rattle.mv_calls.specs.Posts as came
+use Rattle.mv_calls.specs.Posts.{posting, try_post, expected_of, is_expected, same_post_reply}
 use Rattle.mv_calls.specs.Program.{Program, Do, Done, Wrong, Heard, on_ecb, unless_refused}
 use Rattle.mv_calls.specs.Refusal.{Refusal}
 use Rattle.mv_calls.specs.Refusal as refusal
 use Rattle.mv_calls.specs.Rest.{IsAtRest}
 use Rattle.mv_calls.specs.Waits.{refused_if, is_others_block, clear, the_word, extend, extend_refusal, extended}
-use Rattle.mv_wait.specs.Answers.{post_answer}
-use Rattle.mv_wait.specs.Posted.{reply_to_post}
+use Rattle.mv_wait.specs.Posted.{answer_in}
 use Rattle.mv_wait.specs.Run.{IsServed}
 use Rattle.mv_wait.specs.Says.{SaysExtended}
 use Rattle.mv_wait.specs.Single.{extend_reply}
@@ -95,21 +95,22 @@ allowed_extend c k e exit log lt there own few starts =
 
 -- ---- a post by an exchange
 
-same_twice : (p : Posting) → same_post_reply (reply_of.Ecb (reply_to_post p)) (reply_of.Ecb (reply_to_post p)) ≡ true
-same_twice came.Posted = refl
-same_twice (came.Woke x) = eq-eqb x x refl
-same_twice (came.Already c) = eq-eqb c c refl
+same_twice : (reply : Reply) (a : PostAnswer) → answer_in reply ≡ Some a → same_post_reply reply reply ≡ true
+same_twice (reply_of.Ecb ecb_reply.Posted) a is = refl
+same_twice (reply_of.Ecb (ecb_reply.Woke x)) a is = eq-eqb x x refl
+same_twice (reply_of.Ecb (ecb_reply.Already c)) a is = eq-eqb c c refl
+same_twice reply a is = absurd (cc is)
 
-answered : (p : Posting) → on_ecb (reply_of.Ecb (reply_to_post p)) (posting (λ q. Done q)) ≡ Done p
-answered came.Posted = refl
-answered (came.Woke x) = refl
-answered (came.Already c) = refl
+answered : (reply : Reply) (a : PostAnswer) → answer_in reply ≡ Some a → on_ecb reply (posting (λ b. Done b)) ≡ Done a
+answered (reply_of.Ecb ecb_reply.Posted) a is = cc is
+answered (reply_of.Ecb (ecb_reply.Woke x)) a is = cc is
+answered (reply_of.Ecb (ecb_reply.Already c)) a is = cc is
+answered reply a is = absurd (cc is)
 
-pub try_post_served : (c : Setup) (e expected code : ℕ) (p : Posting) (t u : CallerFace)
-    → Exchanged t (Ecb e) (op_on.Ecb (Post code)) expected (reply_of.Ecb (reply_to_post p)) u → IsAtRest t.log
-    → IsServed 1 (try_post e expected code) (λ q. post_answer q ≡ post_answer p) t u
-try_post_served c e expected code p t u x rest =
-    let reply : Reply = reply_of.Ecb (reply_to_post p) in
+pub try_post_served : (c : Setup) (e expected code : ℕ) (reply : Reply) (a : PostAnswer) (t u : CallerFace)
+    → Exchanged t (Ecb e) (op_on.Ecb (Post code)) expected reply u → answer_in reply ≡ Some a → IsAtRest t.log
+    → IsServed 1 (try_post e expected code) (λ b. b ≡ a) t u
+try_post_served c e expected code reply a t u x is rest =
     let o : Object = Ecb e in
     let op : Op = op_on.Ecb (Post code) in
     let h = heard_of t o x.place op reply in
@@ -117,14 +118,14 @@ try_post_served c e expected code p t u x rest =
     ap (λ z. option_and_then (λ v. option_map (λ r. (v.0, r)) (Rattle.mv_machine.specs.Packing.reply_in op v.1)) z) x.unpacks
     ∙ ap (λ z. option_map (λ r. (x.place, r)) z) x.replies in
     let same : is_expected same_post_reply (expected_of o op expected) x.place reply ≡ true =
-    ap (λ z. is_expected same_post_reply z x.place reply) known ∙ (λ i. (eq-eqb x.place x.place refl i) && (same_twice p i)) in
-    serves 1 (try_post e expected code) (λ q. post_answer q ≡ post_answer p) t u p rest refl
+    ap (λ z. is_expected same_post_reply z x.place reply) known ∙ (λ i. (eq-eqb x.place x.place refl i) && (same_twice reply a is i)) in
+    serves 1 (try_post e expected code) (λ b. b ≡ a) t u a rest refl
     (record {
       events = h ∷ [];
       went = went_word t o x.place op reply u tt x.happened;
       few = omega arith;
       says = (refl, tt);
-      leaves = ap (λ b. cond b (on_ecb reply (posting (λ q. Done q))) Wrong) same ∙ answered p;
+      leaves = ap (λ b. cond b (on_ecb reply (posting (λ b. Done b))) Wrong) same ∙ answered reply a is;
     })
     (still_at_rest t u o op reply (x.place, x.happened) (λ w. refl) rest)
 

@@ -1,11 +1,7 @@
 -- How the values that the calls return correspond to the answers of their programs.
 use Rattle.std.specs.Prelude.{ℕ, List, map, Option, Some, None, Result, Ok, Err}
-use Rattle.mv_calls.specs.Posts.{Posting}
-use Rattle.mv_calls.specs.Posts as posting
 use Rattle.mv_calls.specs.Refusal.{Refusal}
 use Rattle.mv_calls.specs.Refusal as refusal
-use Rattle.mv_wait.specs.declared.posting.PostAnswer.{PostAnswer}
-use Rattle.mv_wait.specs.declared.posting.PostAnswer.TheVariants as answer
 use Rattle.mv_wait.specs.declared.single.NotOwner.{NotOwner}
 use Rattle.mv_wait.specs.declared.single.ExtendRefusal.{ExtendRefusal}
 use Rattle.mv_wait.specs.declared.single.ExtendRefusal.TheVariants as extend_refusal
@@ -13,12 +9,6 @@ use Rattle.mv_wait.specs.declared.waiting.WaitRefusal.{WaitRefusal}
 use Rattle.mv_wait.specs.declared.waiting.WaitRefusal.TheVariants as wait_refusal
 use Rattle.mv_wait.specs.declared.waiting.WaitSlot.{WaitSlot}
 use Rattle.mv_wait.specs.declared.waiting.WaitSlot.TheVariants as slot
-
--- the answer for the outcome of a post: it says whether a task was woken or an exit run, but not which exit
-abbrev pub post_answer : Posting → PostAnswer
-post_answer posting.Posted = answer.Posted
-post_answer (posting.Woke exit) = answer.Woke
-post_answer (posting.Already code) = answer.Already code
 
 -- the code in a slot: that of a complete block, none if the block is open
 abbrev pub slot_of : WaitSlot → Option ℕ

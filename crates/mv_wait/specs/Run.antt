@@ -45,3 +45,7 @@ pub record IsServed {A : Type 0} (most : ℕ) (call : Call A) (Is : A → Type 0
   pub same : IsSame t u
   pub left : u.left + length made.events ≡ t.left
   pub met : (more : List Sight) × (u.met ≡ t.met ++ more)
+
+-- the call was made so, and returned this answer
+abbrev pub Serves : {A : Type 0} → ℕ → Call A → A → CallerFace → CallerFace → Type 0
+Serves most call answer t u = IsServed most call (λ a. a ≡ answer) t u

@@ -7,7 +7,7 @@ ghost use Rattle.mv_calls.specs.Keeping.{kept_of};
 ghost use Rattle.mv_calls.specs.Exits.{StartsExit};
 ghost use Rattle.mv_calls.specs.Waits.{wait};
 ghost use Rattle.mv_wait.specs.OneBlock.{WaitedFor};
-ghost use Rattle.mv_wait.specs.Run.{IsServed, MayCall};
+ghost use Rattle.mv_wait.specs.Run.{Serves, MayCall};
 
 use crate::station::Station;
 use crate::task::Task;
@@ -33,7 +33,7 @@ impl Station {
         requires block { ecb < length self.now.config.owners }
         requires own { owner_of self.now.config ecb ≡ task.old.number }
         requires plain { StartsExit self.now.config ecb → (kept_of task.old.number task.old.log).extended ecb ≡ false }
-        ensures served { IsServed 2 (wait self.now.config 1 (ecb ∷ [])) (λ a. a ≡ Ok (Some result ∷ [])) task.old task.new }
+        ensures served { Serves 2 (wait self.now.config 1 (ecb ∷ [])) (Ok (Some result ∷ [])) task.old task.new }
         ensures waited { WaitedFor ecb result task.old task.new }
         ensures code { result < code_limit }
     {

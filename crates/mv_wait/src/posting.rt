@@ -7,9 +7,8 @@ ghost use Rattle.mv_ecb.specs.Table.{code_limit};
 ghost use Rattle.mv_machine.specs.Reach.{reach, total};
 ghost use Rattle.mv_board.specs.Faces.{IsOf};
 ghost use Rattle.mv_calls.specs.Posts.{post};
-ghost use Rattle.mv_wait.specs.Answers.{post_answer};
 ghost use Rattle.mv_wait.specs.Posted.{PostedOne};
-ghost use Rattle.mv_wait.specs.Run.{IsServed, MayCall};
+ghost use Rattle.mv_wait.specs.Run.{Serves, MayCall};
 ghost use Rattle.mv_wait.specs.Task.{IsRecorded};
 
 use crate::keep::Keep;
@@ -17,20 +16,10 @@ use crate::replies::posted;
 use crate::station::Station;
 use crate::task::Task;
 use mv_board::Caller;
+use mv_calls::PostAnswer;
 use mv_ecb::EcbOp;
 use mv_machine::{Object, Op};
 use std::sync::Wait;
-
-/// The outcome of a post.
-#[derive(Clone, Copy, Debug, PartialEq, Eq)]
-pub enum PostAnswer {
-    /// The block was posted, and no task waited for it.
-    Posted,
-    /// The block was posted, and its waiting task was woken or its exit was run.
-    Woke,
-    /// The block was complete before with this code, which it keeps; the new code is dropped.
-    Already(u32),
-}
 
 impl Station {
     /// Posts a block with a code of 30 bits. If that runs an exit, it posts the exit's targets with the same code, each with its
@@ -49,8 +38,7 @@ impl Station {
         requires task { MayCall self.now (reach self.now.config ecb) task.old }
         requires block { ecb < length self.now.config.owners }
         requires code { code < code_limit }
-        ensures served { IsServed (reach self.now.config ecb) (post self.now.config ecb code)
-            (λ p. post_answer p ≡ result) task.old task.new }
+        ensures served { Serves (reach self.now.config ecb) (post self.now.config ecb code) result task.old task.new }
         ensures told { task.new.told ≡ task.old.told }
     {
         let answer = self.post_one(
@@ -99,12 +87,11 @@ impl Station {
         let op = Op::Ecb(EcbOp::Post(code));
         let reply = self.board.event(rt, caller, Object::Ecb(ecb), op);
         keep.follow(Object::Ecb(ecb), op, reply);
-        let came = posted(reply);
-        let answer = came.answer();
+        let (answer, exit) = posted(reply);
         if answer == PostAnswer::Woke {
             self.wake(self.config().ecb_owner(ecb));
         }
-        note(pending, self.board.config().targets(came.exit()));
+        note(pending, self.board.config().targets(exit));
         answer
     }
 }

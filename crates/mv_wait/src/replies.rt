@@ -1,18 +1,17 @@
 //! What a reply says, if its kind is known. Clauses cite `specs/Says.antt`, `specs/Posted.antt`, `specs/Single.antt` and
 //! `specs/Waiting.antt`.
 
-ghost use Rattle.std.specs.Prelude.{◌≡◌};
+ghost use Rattle.std.specs.Prelude.{◌≡◌, Some};
 ghost use Rattle.mv_ecb.specs.declared.operation.EcbReply.TheVariants as ecb_reply;
 ghost use Rattle.mv_machine.specs.declared.entry.Reply.TheVariants as reply_of;
 ghost use Rattle.mv_machine.specs.declared.entry.VolumeReply.TheVariants as volume_reply;
-ghost use Rattle.mv_wait.specs.Answers.{post_answer};
-ghost use Rattle.mv_wait.specs.Posted.{reply_to_post, exit_run, posting_of};
+ghost use Rattle.mv_wait.specs.Posted.{answer_in, exit_in};
 ghost use Rattle.mv_wait.specs.Says.{SaysSettled, SaysWord, SaysValue, SaysPosted, SaysExtended};
 ghost use Rattle.mv_wait.specs.Single.{extend_reply};
 ghost use Rattle.mv_wait.specs.Waiting.{settle_reply};
 
-use crate::posting::PostAnswer;
 use crate::waiting::WaitSlot;
+use mv_calls::PostAnswer;
 use mv_ecb::EcbReply;
 use mv_machine::{Reply, VolumeReply};
 
@@ -62,46 +61,16 @@ pub(crate) fn value(reply: Reply) -> u32
     }
 }
 
-/// The outcome of one post, with the exit to run in `Woke` (0 for none).
-#[derive(Clone, Copy)]
-pub(crate) enum Came {
-    Posted,
-    Woke(u32),
-    Already(u32),
-}
-
-/// Returns the outcome that the reply to a Post says.
-pub(crate) fn posted(reply: Reply) -> Came
+/// Returns the outcome that the reply to a post gives, with the exit that it runs, or 0.
+pub(crate) fn posted(reply: Reply) -> (PostAnswer, u32)
     requires { SaysPosted reply }
-    ensures { reply ≡ reply_of.Ecb (reply_to_post (posting_of result)) }
+    ensures answer { answer_in reply ≡ Some result.0 }
+    ensures exit { exit_in reply ≡ result.1 }
 {
     match reply {
-        Reply::Ecb(EcbReply::Posted) => Came::Posted,
-        Reply::Ecb(EcbReply::Already(code)) => Came::Already(code),
-        Reply::Ecb(EcbReply::Woke(exit)) => Came::Woke(exit),
+        Reply::Ecb(EcbReply::Posted) => (PostAnswer::Posted, 0),
+        Reply::Ecb(EcbReply::Already(code)) => (PostAnswer::Already(code), 0),
+        Reply::Ecb(EcbReply::Woke(exit)) => (PostAnswer::Woke, exit),
         _ => unreachable!(),
-    }
-}
-
-impl Came {
-    /// Returns the answer of the call `post`.
-    pub(crate) fn answer(self) -> PostAnswer
-        ensures { result ≡ post_answer (posting_of self) }
-    {
-        match self {
-            Came::Posted => PostAnswer::Posted,
-            Came::Woke(_) => PostAnswer::Woke,
-            Came::Already(code) => PostAnswer::Already(code),
-        }
-    }
-
-    /// Returns the exit that is to run, or 0.
-    pub(crate) fn exit(self) -> u32
-        ensures { result ≡ exit_run (posting_of self) }
-    {
-        match self {
-            Came::Woke(exit) => exit,
-            _ => 0,
-        }
     }
 }

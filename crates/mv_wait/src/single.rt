@@ -10,15 +10,15 @@ ghost use Rattle.mv_calls.specs.Keeping.{kept_of};
 ghost use Rattle.mv_calls.specs.Posts.{try_post};
 ghost use Rattle.mv_calls.specs.Rest.{IsAtRest};
 ghost use Rattle.mv_calls.specs.Waits.{clear, extend, extend_refusal, is_others_block, test_ecb, read_volume, write_volume};
-ghost use Rattle.mv_wait.specs.Answers.{clear_answer, extend_answer, extend_refused, post_answer};
-ghost use Rattle.mv_wait.specs.Run.{IsServed, MayCall};
+ghost use Rattle.mv_wait.specs.Answers.{clear_answer, extend_answer, extend_refused};
+ghost use Rattle.mv_wait.specs.Run.{Serves, MayCall};
 ghost use Rattle.mv_wait.specs.Single.{IsExtendCause, HasNoWaitBit};
 
-use crate::posting::PostAnswer;
 use crate::replies::{posted, taken, value, word};
 use crate::station::Station;
 use crate::task::Task;
 use mv_board::Moved;
+use mv_calls::PostAnswer;
 use mv_ecb::EcbOp;
 use mv_machine::{Object, Op, VolumeOp};
 use std::sync::Wait;
@@ -58,7 +58,7 @@ impl Station {
     pub fn clear<R: Wait>(&self, rt: &R, task: &mut Task, ecb: u32) -> Result<u32, NotOwner>
         requires task { MayCall self.now 1 task.old }
         requires block { ecb < length self.now.config.owners }
-        ensures served { IsServed 1 (clear self.now.config ecb) (λ a. a ≡ clear_answer result) task.old task.new }
+        ensures served { Serves 1 (clear self.now.config ecb) (clear_answer result) task.old task.new }
         ensures causes { MatchResult result
             (λ _. is_others_block self.now.config (kept_of task.old.number task.old.log) ecb ≡ false)
             (λ _. (is_others_block self.now.config (kept_of task.old.number task.old.log) ecb ≡ true) × (task.new ≡ task.old)) }
@@ -88,7 +88,7 @@ impl Station {
     ) -> Result<(), ExtendRefusal>
         requires task { MayCall self.now 1 task.old }
         requires block { ecb < length self.now.config.owners }
-        ensures served { IsServed 1 (extend self.now.config ecb exit) (λ a. a ≡ extend_answer result) task.old task.new }
+        ensures served { Serves 1 (extend self.now.config ecb exit) (extend_answer result) task.old task.new }
         ensures causes { MatchResult result
             (λ _. extend_refusal self.now.config ecb exit (kept_of task.old.number task.old.log) ≡ None)
             (λ why. IsExtendCause self.now.config ecb exit task.old why task.new) }
@@ -151,12 +151,12 @@ impl Station {
         requires code { code < code_limit }
         requires unwaited { HasNoWaitBit expected }
         ensures answer { MatchResult result
-            (λ answer. IsServed 1 (try_post ecb expected code) (λ p. post_answer p ≡ answer) task.old task.new)
+            (λ answer. Serves 1 (try_post ecb expected code) answer task.old task.new)
             (λ moved. Missed task.old (object.Ecb ecb) expected moved task.new) }
         ensures rest { IsAtRest task.new.log }
     {
         let reply = self.try_event(task, Object::Ecb(ecb), Op::Ecb(EcbOp::Post(code)), expected)?;
-        Ok(posted(reply).answer())
+        Ok(posted(reply).0)
     }
 
     /// Returns the fullword of a block of any caller: wait bit 2^31, completion bit 2^30, and the code or the exit below.
@@ -165,7 +165,7 @@ impl Station {
     pub fn test_ecb(&self, task: &mut Task, ecb: u32) -> u32
         requires task { MayCall self.now 1 task.old }
         requires block { ecb < length self.now.config.owners }
-        ensures served { IsServed 1 (test_ecb ecb) (λ a. a ≡ result) task.old task.new }
+        ensures served { Serves 1 (test_ecb ecb) result task.old task.new }
     {
         let reply = self.test(task, Object::Ecb(ecb));
         word(reply)
@@ -177,7 +177,7 @@ impl Station {
     pub fn read_volume(&self, task: &mut Task, volume: u32) -> u32
         requires task { MayCall self.now 1 task.old }
         requires volume { volume < self.now.config.volumes }
-        ensures served { IsServed 1 (read_volume volume) (λ a. a ≡ result) task.old task.new }
+        ensures served { Serves 1 (read_volume volume) result task.old task.new }
     {
         let reply = self.test(task, Object::Volume(volume));
         value(reply)
@@ -190,7 +190,7 @@ impl Station {
     pub fn write_volume<R: Wait>(&self, rt: &R, task: &mut Task, volume: u32, number: u32)
         requires task { MayCall self.now 1 task.old }
         requires volume { volume < self.now.config.volumes }
-        ensures served { IsServed 1 (write_volume volume number) (λ a. a ≡ tt) task.old task.new }
+        ensures served { Serves 1 (write_volume volume number) tt task.old task.new }
     {
         self.event(
             rt,

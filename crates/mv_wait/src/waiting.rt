@@ -12,7 +12,7 @@ ghost use Rattle.mv_calls.specs.Waits.{wait, wait_refusal, complete_count, doubl
 ghost use Rattle.mv_calls.specs.Refusal.{Doubled, NotOwnerAt};
 ghost use Rattle.mv_wait.specs.Answers.{wait_answer, wait_refused, slots_of};
 ghost use Rattle.mv_wait.specs.Listed.{is_listed, listed_count, AreSeenBut};
-ghost use Rattle.mv_wait.specs.Run.{Went, IsServed, MayCall};
+ghost use Rattle.mv_wait.specs.Run.{Went, Serves, MayCall};
 ghost use Rattle.mv_wait.specs.Waiting.{IsArmed, IsArmedFor, ArePlain, AreOwn, AreOwnUpTo, ArmsAll, SettlesEnough, IsBlockSettled};
 ghost use Rattle.mv_wait.specs.Waiting.{IsComplete, NamesSource, HasLowCode};
 
@@ -87,8 +87,8 @@ impl Station {
         requires task { MayCall self.now (2 * length ecbs.now) task.old }
         requires blocks { AllByRecursion (λ e. e < length self.now.config.owners) ecbs.now }
         requires out { length out.old ≡ length ecbs.now }
-        ensures served { IsServed (2 * length ecbs.now) (wait self.now.config count ecbs.now)
-            (λ a. a ≡ wait_answer result out.new) task.old task.new }
+        ensures served { Serves (2 * length ecbs.now) (wait self.now.config count ecbs.now)
+            (wait_answer result out.new) task.old task.new }
         ensures causes { MatchResult result
             (λ _. wait_refusal self.now.config count ecbs.now (kept_of task.old.number task.old.log) ≡ None)
             (λ why. (wait_refusal self.now.config count ecbs.now (kept_of task.old.number task.old.log) ≡ Some (wait_refused why))

@@ -13,7 +13,7 @@ use Rattle.mv_machine.specs.Legal.{Legal}
 use Rattle.mv_machine.specs.Setup.{Setup}
 use Rattle.mv_machine.specs.System.{opening}
 use Rattle.mv_calls.specs.Program.{Heard}
-use Rattle.mv_calls.specs.Posts.{Woke}
+use Rattle.mv_calls.specs.declared.outcomes.PostAnswer.TheVariants.{Woke}
 use Rattle.mv_calls.specs.Runs.{heard_in}
 use Rattle.mv_calls.specs.Numbers.{calls}
 use Rattle.mv_calls.specs.OneCall.{IsOneCall}
@@ -78,7 +78,7 @@ post_is_one_call = record {
   rest = record { armed = λ n. refl; parked = λ n. refl; queued = λ latch id. refl };
   service = Post 0 8;
   single = tt;
-  answer = Woke 1;
+  answer = Woke;
   done = record { says = (refl, (refl, (refl, tt))); done = refl };
 }
 

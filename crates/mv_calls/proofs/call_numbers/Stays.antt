@@ -12,8 +12,10 @@ use Rattle.mv_machine.specs.declared.entry.Reply.{Reply}
 use Rattle.mv_machine.specs.declared.entry.Reply.TheVariants as reply_of
 use Rattle.mv_machine.specs.Setup.{Setup, targets_of}
 use Rattle.mv_calls.specs.Keeping.{Kept}
-use Rattle.mv_calls.specs.Posts.{Posting, Woke, posting, posted_next, each_posted, post_within, wake_posted}
+use Rattle.mv_calls.specs.Posts.{posting, posted_next, each_posted, post_within, wake_posted}
 use Rattle.mv_calls.specs.Posts.{wakes_posted}
+use Rattle.mv_calls.specs.declared.outcomes.PostAnswer.{PostAnswer}
+use Rattle.mv_calls.specs.declared.outcomes.PostAnswer.TheVariants as answer
 use Rattle.mv_calls.specs.Program.{Program, Do, Done, Early, Wrong, Heard, and_then, on_ecb}
 use Rattle.mv_calls.specs.declared.counting.Last.{Last}
 use Rattle.mv_calls.specs.Numbers.{Numbering, numbered, group_after, continues, kept_pending}
@@ -86,9 +88,9 @@ first_is_taken code e below t p = ap (λ ps. kept_pending ps (Ecb e) (op_on.Ecb 
     (eq-eqb e e refl)
 
 -- posts in order, where each post takes its block off
-each_stays : (c : Setup) (post : ℕ → Program Posting)
+each_stays : (c : Setup) (post : ℕ → Program PostAnswer)
     (one : (e : ℕ) (below : List ℕ) (t : Numbering) → t.pending ≡ e ∷ below → StaysTo c (IsPending below) t (post e))
-    (es below : List ℕ) (t : Numbering) (a : Posting) → t.pending ≡ es ++ below → StaysTo c (IsPending below) t (each_posted post es a)
+    (es below : List ℕ) (t : Numbering) (a : PostAnswer) → t.pending ≡ es ++ below → StaysTo c (IsPending below) t (each_posted post es a)
 each_stays c post one [] below t a p = p
 each_stays c post one (e ∷ es) below t a p =
     stays_then c (IsPending (es ++ below)) (IsPending below) t (post e) (λ q. each_posted post es a) (one e (es ++ below) t p)
@@ -100,11 +102,11 @@ one_post : (c : Setup) (depth code e : ℕ) (one : (n : ℕ) (below : List ℕ) 
     (below : List ℕ) (t : Numbering) → kept_pending t.pending (Ecb e) (op_on.Ecb (ecb_op.Post code)) ≡ below
     → (k place : ℕ) (reply : Reply) (ws : List Wake)
     → StaysTo c (IsPending below) (then_numbered c t (event k (Ecb e) place (op_on.Ecb (ecb_op.Post code)) reply ws))
-    (on_ecb reply (posting (λ p. each_posted (post_within depth c code) (posted_next c p) p)))
+    (on_ecb reply (λ r. posting (λ a. each_posted (post_within depth c code) (posted_next c r) a) r))
 one_post c depth code e one below t taken k place (reply_of.Ecb ecb_reply.Posted) ws = taken
 one_post c depth code e one below t taken k place (reply_of.Ecb (ecb_reply.Woke x)) ws =
     each_stays c (post_within depth c code) one (targets_of c x) below
-    (then_numbered c t (event k (Ecb e) place (op_on.Ecb (ecb_op.Post code)) (reply_of.Ecb (ecb_reply.Woke x)) ws)) (Woke x)
+    (then_numbered c t (event k (Ecb e) place (op_on.Ecb (ecb_op.Post code)) (reply_of.Ecb (ecb_reply.Woke x)) ws)) answer.Woke
     (ap (λ ps. targets_of c x ++ ps) taken)
 one_post c depth code e one below t taken k place (reply_of.Ecb (ecb_reply.Already d)) ws = taken
 one_post c depth code e one below t taken k place r ws = tt
@@ -163,7 +165,7 @@ begins_post c zero code e = tt
 begins_post c (suc depth) code e = λ t k place reply ws.
     stays_weaker c (IsPending (kept_pending t.pending (Ecb e) (op_on.Ecb (ecb_op.Post code)))) Anything
     (then_numbered c t (event k (Ecb e) place (op_on.Ecb (ecb_op.Post code)) reply ws))
-    (on_ecb reply (posting (λ p. each_posted (post_within depth c code) (posted_next c p) p)))
+    (on_ecb reply (λ r. posting (λ a. each_posted (post_within depth c code) (posted_next c r) a) r))
     (one_post c depth code e (post_stays c depth code)
     (kept_pending t.pending (Ecb e) (op_on.Ecb (ecb_op.Post code))) t refl k place reply ws)
     (λ u q. tt)

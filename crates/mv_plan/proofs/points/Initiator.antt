@@ -511,13 +511,13 @@ module _ (c : Setup) (deck : List JobData) (initiators i : ℕ) (facts : Facts c
           counts : Counts
           counts = record { removed = removed; granted = granted }
     goes (InJob run (Ending OfJob code counts)) (Reply.Ecb (EcbReply.Woke (suc x))) s f =
-        ap (λ m. after (length c.owners - 1) (posted_next c (Woke m)) m) f
-        ∙ ap (λ es. after (length c.owners - 1) es (run.job + 1)) (facts.targets run.job s.0.round.job)
-        ∙ ap (λ d. after d (end_for_scheduler (length deck) run.job ∷ end_for_writer (length deck) run.job ∷ []) (run.job + 1))
+        ap (λ m. after (length c.owners - 1) (posted_next c (EcbReply.Woke m))) f
+        ∙ ap (λ es. after (length c.owners - 1) es) (facts.targets run.job s.0.round.job)
+        ∙ ap (λ d. after d (end_for_scheduler (length deck) run.job ∷ end_for_writer (length deck) run.job ∷ []))
         (deeper run s.0.round.job) where
-          after : ℕ → List ℕ → ℕ → Program (List ℕ)
-          after depth es m = ending c deck i run (kept_by kept (InJob run (Ending OfJob code counts)) (Reply.Ecb (EcbReply.Woke (suc x))))
-              (and_then (each_posted (post_within depth c code) es (Woke m)) (λ p. Done counts))
+          after : ℕ → List ℕ → Program (List ℕ)
+          after depth es = ending c deck i run (kept_by kept (InJob run (Ending OfJob code counts)) (Reply.Ecb (EcbReply.Woke (suc x))))
+              (and_then (each_posted (post_within depth c code) es Woke) (λ p. Done counts))
     goes (InJob run (Ending post code counts)) r s f = grind (arith, common_steps, rounds_after_enter)
     goes (Closing g) (Reply.Element ElementReply.Closed) s f = refl
     goes x r s f = refl

@@ -3,7 +3,7 @@
 -- these two may stand, and what the writer keeps. Used by Following.
 use Rattle.mv_plan.proofs.Words.{ℕ, suc, ◌+◌, ◌-◌, List, [], ◌∷◌, ◌++◌, length, map, false, Option, Some, Result, Ok, ◌==◌, if◌then◌else◌}
 use Rattle.mv_plan.proofs.Words.{range_with_len, Ecb, Element, Volume, Latches, Setup, with_at, JobData, Step, Kept, Counts, obtained}
-use Rattle.mv_plan.proofs.Words.{token_of, closed, release, deallocate, pause, Posting, Woke, post, post_within, each_posted, wake_posted}
+use Rattle.mv_plan.proofs.Words.{token_of, closed, release, deallocate, pause, PostAnswer, Woke, post, post_within, each_posted, wake_posted}
 use Rattle.mv_plan.proofs.Words.{Program, Do, Done, Early, Wrong, Call, and_then, going_on, unrefused, finished, on_ecb, on_element}
 use Rattle.mv_plan.proofs.Words.{on_latch, followed, accepted, Refusal, entered, end_for_scheduler, end_for_writer, idle, initiator, lowest}
 use Rattle.mv_plan.proofs.Words.{some_end_above, ends_awaited, hand_over, code_of, granted_as, named_by, run_job, rounds, job_named}
@@ -34,10 +34,10 @@ program_at f TooSoon = Early
 program_at f Astray = Wrong
 
 -- a post, and one that an exit asks for
-abbrev pub posting_now : Setup → ℕ → ℕ → Program Posting
+abbrev pub posting_now : Setup → ℕ → ℕ → Program PostAnswer
 posting_now c e code = post_within (suc (length c.owners - 1)) c code e
 
-abbrev pub posting_next : Setup → ℕ → ℕ → Program Posting
+abbrev pub posting_next : Setup → ℕ → ℕ → Program PostAnswer
 posting_next c code e = post_within (suc (length c.owners - 2)) c code e
 
 -- ---- the reader, for any number of jobs
@@ -180,11 +180,11 @@ initiator_program c deck i kept (InJob run (Ending OfJob code counts)) =
     ending c deck i run kept (and_then (posting_now c (done (length deck) run.job) code) (λ p. Done counts))
 initiator_program c deck i kept (InJob run (Ending ForScheduler code counts)) = ending c deck i run kept (and_then (and_then
     (posting_next c code (end_for_scheduler (length deck) run.job))
-    (λ p. each_posted (posting_next c code) (end_for_writer (length deck) run.job ∷ []) (Woke (run.job + 1))))
+    (λ p. each_posted (posting_next c code) (end_for_writer (length deck) run.job ∷ []) Woke))
     (λ p. Done counts))
 initiator_program c deck i kept (InJob run (Ending ForWriter code counts)) = ending c deck i run kept (and_then (and_then
     (posting_next c code (end_for_writer (length deck) run.job))
-    (λ p. each_posted (posting_next c code) [] (Woke (run.job + 1))))
+    (λ p. each_posted (posting_next c code) [] Woke))
     (λ p. Done counts))
 initiator_program c deck i kept (Closing g) = going_on kept
     (Do (Element (initiator i)) (Op.Element (ElementOp.Close g)) (λ h. on_element h.entry.reply closed))
@@ -202,10 +202,10 @@ IsPlainPost (Reply.Ecb (EcbReply.Woke (suc x))) = ⊥
 IsPlainPost r = Unit {0}
 
 -- what a reply to a plain post leads to, where g is what goes on
-posted_goes : {X : Type 0} (c : Setup) (each : ℕ → Program Posting) (g : Program Posting → Program (List ℕ))
+posted_goes : {X : Type 0} (c : Setup) (each : ℕ → Program PostAnswer) (g : Program PostAnswer → Program (List ℕ))
     (f : X → Program (List ℕ)) (pt : Point X) (r : Reply)
-    → ((p : Posting) → g (Done p) ≡ program_at f pt) → g Wrong ≡ Wrong → IsPlainPost r
-    → g (on_ecb r (posting (λ p. each_posted each (posted_next c p) p))) ≡ program_at f (on_posted pt r)
+    → ((a : PostAnswer) → g (Done a) ≡ program_at f pt) → g Wrong ≡ Wrong → IsPlainPost r
+    → g (on_ecb r (λ x. posting (λ a. each_posted each (posted_next c x) a) x)) ≡ program_at f (on_posted pt r)
 posted_goes c each g f pt r done lost plain = grind (arith, common_steps)
 
 -- what a reply to an arm leads to

@@ -1,6 +1,7 @@
 -- Calls that neither pause nor resume: what they say of elements gives no code.
 use Rattle.std.proofs.Common.{ℕ, zero, suc, false, List, [], ◌∷◌, length, Option, Some, None}
 use Rattle.std.proofs.Common.{Result}
+use Rattle.mv_ecb.specs.declared.operation.EcbReply.{EcbReply}
 use Rattle.mv_ecb.specs.declared.operation.EcbReply.TheVariants as ecb_reply
 use Rattle.mv_element.specs.declared.element.Token.{Token}
 use Rattle.mv_element.specs.declared.operation.ElementReply.TheVariants as element_reply
@@ -22,7 +23,9 @@ use Rattle.mv_calls.specs.Endings.{end_of_job}
 use Rattle.mv_calls.specs.Keeping.{Kept}
 use Rattle.mv_calls.specs.LatchCalls.{Requested, obtain, obtain_refusal, obtained, confirmed, release_latch, let_go, purge, purged}
 use Rattle.mv_calls.specs.Pauses.{allocate, open_lowest, lowest_free, opened, deallocate, closed, is_others_token}
-use Rattle.mv_calls.specs.Posts.{Posting, Posted, Woke, Already, posting, posted_next, each_posted, post_within, post, wake_posted}
+use Rattle.mv_calls.specs.declared.outcomes.PostAnswer.{PostAnswer}
+use Rattle.mv_calls.specs.declared.outcomes.PostAnswer.TheVariants.{Posted, Woke, Already}
+use Rattle.mv_calls.specs.Posts.{posting, posted_next, each_posted, post_within, post, wake_posted}
 use Rattle.mv_calls.specs.Posts.{wakes_posted}
 use Rattle.mv_calls.specs.Program.{Program, Do, Done, Early, Wrong, Heard, on_ecb, on_element, on_volume, on_latch}
 use Rattle.mv_calls.specs.Program.{and_then, unless_refused}
@@ -51,24 +54,25 @@ quiet_unless (Some why) p q = tt
 
 -- ---- posts
 
-each_quiet : (post : ℕ → Program Posting) (es : List ℕ) (answer : Posting) → ((e : ℕ) → Quiet (post e))
+each_quiet : (post : ℕ → Program PostAnswer) (es : List ℕ) (answer : PostAnswer) → ((e : ℕ) → Quiet (post e))
     → Quiet (each_posted post es answer)
 each_quiet post [] answer each = tt
 each_quiet post (e ∷ es) answer each = quiet_and_then (post e) (λ p. each_posted post es answer) (each e)
     (λ p. each_quiet post es answer each)
 
-by_posting : (f : Posting → Program Posting) → ((p : Posting) → Quiet (f p)) → (r : Reply) → Quiet (on_ecb r (posting f))
-by_posting f each (reply_of.Ecb ecb_reply.Posted) = each Posted
-by_posting f each (reply_of.Ecb (ecb_reply.Woke x)) = each (Woke x)
-by_posting f each (reply_of.Ecb (ecb_reply.Already code)) = each (Already code)
+by_posting : (f : EcbReply → PostAnswer → Program PostAnswer) → ((x : EcbReply) (a : PostAnswer) → Quiet (f x a)) → (r : Reply)
+    → Quiet (on_ecb r (λ x. posting (f x) x))
+by_posting f each (reply_of.Ecb ecb_reply.Posted) = each ecb_reply.Posted Posted
+by_posting f each (reply_of.Ecb (ecb_reply.Woke x)) = each (ecb_reply.Woke x) Woke
+by_posting f each (reply_of.Ecb (ecb_reply.Already code)) = each (ecb_reply.Already code) (Already code)
 by_posting f each r = tt
 
 within_quiet : (depth : ℕ) (c : Setup) (code e : ℕ) → Quiet (post_within depth c code e)
 within_quiet zero c code e = tt
 within_quiet (suc depth) c code e = (
   tt,
-  λ h. by_posting (λ p. each_posted (post_within depth c code) (posted_next c p) p)
-      (λ p. each_quiet (post_within depth c code) (posted_next c p) p (λ e. within_quiet depth c code e)) h.entry.reply,
+  λ h. by_posting (λ x a. each_posted (post_within depth c code) (posted_next c x) a)
+      (λ x a. each_quiet (post_within depth c code) (posted_next c x) a (λ e. within_quiet depth c code e)) h.entry.reply,
 )
 
 pub post_quiet : (c : Setup) (e code : ℕ) (kept : Kept) → Quiet (post c e code kept)

@@ -2,7 +2,6 @@ use Rattle.std.proofs.Common.{◌≡◌, ◌<◌, ◌≤◌, length, sym, subst}
 use Rattle.mv_calls.specs.Posts.{post}
 use Rattle.mv_machine.specs.Reach.{reach}
 use Rattle.mv_machine.specs.Setup.{Setup}
-use Rattle.mv_wait.specs.Answers.{post_answer}
 use Rattle.mv_wait.specs.Run.{IsServed}
 use Rattle.mv_handover.proofs.Calls.{put_made, put_ready}
 use Rattle.mv_handover.proofs.handover.put.Goals as goal
@@ -23,10 +22,10 @@ pub returns : goal.returns
 returns g c =
     let t = c.args.task.now in
     let config = c.requires.ready.config in
-    let served = subst (λ (s : Setup). IsServed (reach s c.args.ecb) (post s c.args.ecb c.args.code) (λ p. post_answer p ≡ c.post.result) t
+    let served = subst (λ (s : Setup). IsServed (reach s c.args.ecb) (post s c.args.ecb c.args.code) (λ a. a ≡ c.post.result) t
     c.post.new.task) config.1 c.post.ensures.served in
-    let put = put_made config.0 c.args.ecb c.args.code (λ p. post_answer p ≡ c.post.result) t c.post.new.task served in record {
+    let put = put_made config.0 c.args.ecb c.args.code (λ a. a ≡ c.post.result) t c.post.new.task served in record {
       put = put;
-      ready = put_ready c.args.station.now t.number config.0 c.args.ecb c.args.code (λ p. post_answer p ≡ c.post.result) t
+      ready = put_ready c.args.station.now t.number config.0 c.args.ecb c.args.code (λ a. a ≡ c.post.result) t
           c.post.new.task served c.requires.ready put;
     }

@@ -4,7 +4,7 @@ use Rattle.mv_script.specs.declared.call.Call.TheVariants as call
 use Rattle.mv_script.specs.Costs.{no_table, nothing_asked}
 use Rattle.mv_script.proofs.Suffices.{suffices}
 use Rattle.mv_runscript.proofs.Makes.{may_paid, plain_makes}
-use Rattle.mv_runscript.proofs.Served.{served_with, served_post}
+use Rattle.mv_runscript.proofs.Served.{served_with}
 use Rattle.mv_runscript.proofs.serving.serve.Goals as goal
 
 -- what each asks of the task
@@ -81,7 +81,7 @@ end_of_task-requires-clause-task g c =
 pub returns-in-Post : goal.returns-in-Post
 returns-in-Post g c =
     plain_makes (call.Post c.in-Post.ecb c.in-Post.code) c.in-Post.is refl refl
-    (served_post c.posted.ensures c.post.ensures.served)
+    (served_with c.posted.ensures c.post.ensures.served)
 
 pub returns-in-Clear : goal.returns-in-Clear
 returns-in-Clear g c =

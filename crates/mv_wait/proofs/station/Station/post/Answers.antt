@@ -18,23 +18,21 @@ loop-next-init g c =
     let one = c.post_one-answer.ensures.posted in
     let t = c.task.inside.caller in
     let u = c.post_one-answer.new.caller in
+    let a = c.post_one-answer.result in
     let less = one.event.1.left in
     let room = c.task.invariant.room in
     let same = c.post_one-answer.ensures.capacity in
     let config = c.args.self.now.config in
     let view = c.task.view_is in
-    let work : reverse c.post_one-answer.new.pending.items ≡ posted_next config one.posted =
-    ap reverse (one.pending ∙ ap (λ xs. xs ++ reverse (posted_next config one.posted)) c.task.invariant.idle)
-    ∙ reverse-reverse (posted_next config one.posted) in record {
-      underway = (
-        one.posted,
-        one.answer,
-        subst (λ (d : CallerFace). Underway config c.args.code c.args.ecb d one.posted u (reverse c.post_one-answer.new.pending.items)) view
-            (subst (λ ns. Underway config c.args.code c.args.ecb t one.posted u ns) (sym work)
-            (begun config c.args.code t u c.args.ecb one.posted c.requires.block one.event one.leads
-            (subst (λ (d : CallerFace). reach config c.args.ecb ≤ d.left) (sym view) c.requires.task.left) one.few
-            (subst (λ (d : CallerFace). IsAtRest d.log) (sym view) c.requires.task.rest))),
-      );
+    let work : reverse c.post_one-answer.new.pending.items ≡ posted_next config one.reply =
+    ap reverse (one.pending ∙ ap (λ xs. xs ++ reverse (posted_next config one.reply)) c.task.invariant.idle)
+    ∙ reverse-reverse (posted_next config one.reply) in record {
+      underway =
+          subst (λ (d : CallerFace). Underway config c.args.code c.args.ecb d a u (reverse c.post_one-answer.new.pending.items)) view
+          (subst (λ ns. Underway config c.args.code c.args.ecb t a u ns) (sym work)
+          (begun config c.args.code t u c.args.ecb one.reply a c.requires.block one.answer one.event one.leads
+          (subst (λ (d : CallerFace). reach config c.args.ecb ≤ d.left) (sym view) c.requires.task.left) one.few
+          (subst (λ (d : CallerFace). IsAtRest d.log) (sym view) c.requires.task.rest)));
       told = one.event.1.shown.0 ∙ ap (λ (d : CallerFace). d.told) view;
       recorded = c.post_one-answer.ensures.recorded;
       room = omega arith;
@@ -53,7 +51,7 @@ next_first pending later n is = ap reverse is ∙ reverse-append later (n ∷ []
 are_blocks : (g : bound.Over) (c : In-Some g)
     → AllByRecursion (λ e. e < length c.args.self.now.config.owners) (c.in-Some.next ∷ reverse c.pop.new.self.items)
 are_blocks g c =
-    let w = c.loop-next.invariant.underway.2 in
+    let w = c.loop-next.invariant.underway in
     let config = c.args.self.now.config in
     let work = next_first c.loop-next.task-inside.pending.items c.pop.new.self.items c.in-Some.next c.in-Some.ensures.items in
     subst (AllByRecursion (λ e. e < length config.owners)) (w.flat_is ∙ work) (all_below config c.args.code w.frames w.deep)
@@ -73,19 +71,16 @@ loop-next-preserved g c =
     let room = c.loop-next.invariant.room in
     let later = c.pop.new.self.items in
     let work = next_first c.loop-next.task-inside.pending.items later c.in-Some.next c.in-Some.ensures.items in
-    let w = subst (Underway config c.args.code c.args.ecb c.args.task.now u.0 c.loop-next.task-inside.caller) work u.2 in
-    let more : posted_next config one.posted ++ reverse later ≡ reverse c.post_one.new.pending.items =
+    let a = c.post_one-answer.result in
+    let w = subst (Underway config c.args.code c.args.ecb c.args.task.now a c.loop-next.task-inside.caller) work u in
+    let more : posted_next config one.reply ++ reverse later ≡ reverse c.post_one.new.pending.items =
     sym (ap reverse one.pending
-    ∙ (reverse-append later (reverse (posted_next config one.posted))
-    ∙ ap (λ xs. xs ++ reverse later) (reverse-reverse (posted_next config one.posted)))) in record {
-      underway = (
-        u.0,
-        u.1,
-        subst (Underway config c.args.code c.args.ecb c.args.task.now u.0 c.post_one.new.caller) more
-            (going config c.args.code c.args.ecb c.args.task.now u.0 c.loop-next.task-inside.caller c.in-Some.next (reverse later)
-            c.post_one.new.caller
-            one.posted w one.event one.leads one.few),
-      );
+    ∙ (reverse-append later (reverse (posted_next config one.reply))
+    ∙ ap (λ xs. xs ++ reverse later) (reverse-reverse (posted_next config one.reply)))) in record {
+      underway = subst (Underway config c.args.code c.args.ecb c.args.task.now a c.post_one.new.caller) more
+          (going config c.args.code c.args.ecb c.args.task.now a c.loop-next.task-inside.caller c.in-Some.next (reverse later)
+          c.post_one.new.caller
+          one.reply c.post_one.result w one.answer one.event one.leads one.few);
       told = one.event.1.shown.0 ∙ c.loop-next.invariant.told;
       recorded = c.post_one.ensures.recorded;
       room = (let same = c.post_one.ensures.capacity ∙ c.in-Some.ensures.capacity in omega arith);
@@ -98,8 +93,9 @@ returns-clause-served g c =
     let config = c.args.self.now.config in
     let none : c.loop-next.task-inside.pending.items ≡ [] =
     length_zero c.loop-next.task-inside.pending.items (let n = c.in_default.ensures.cases.0 in omega arith) in
-    ended config c.args.code c.args.ecb c.args.task.now u.0 c.loop-next.task-inside.caller c.post_one-answer.result u.1 c.requires.task.rest
-    (subst (λ ns. Underway config c.args.code c.args.ecb c.args.task.now u.0 c.loop-next.task-inside.caller (reverse ns)) none u.2)
+    let a = c.post_one-answer.result in
+    ended config c.args.code c.args.ecb c.args.task.now a c.loop-next.task-inside.caller c.requires.task.rest
+    (subst (λ ns. Underway config c.args.code c.args.ecb c.args.task.now a c.loop-next.task-inside.caller (reverse ns)) none u)
 
 pub invariant_of-task : goal.invariant_of-task
 invariant_of-task g c = record {
@@ -130,10 +126,10 @@ post_one-answer-requires-clause-left g c =
 pub post_one-requires-clause-task : goal.post_one-requires-clause-task
 post_one-requires-clause-task g c =
     still_of c.args.self.now c.args.self.now c.args.task.now c.loop-next.task-inside.caller
-    c.loop-next.invariant.underway.2.runs.went.same c.requires.task.board refl
+    c.loop-next.invariant.underway.runs.went.same c.requires.task.board refl
 
 pub post_one-requires-clause-left : goal.post_one-requires-clause-left
 post_one-requires-clause-left g c =
     let work = next_first c.loop-next.task-inside.pending.items c.pop.new.self.items c.in-Some.next c.in-Some.ensures.items in
     subst (λ (ns : List ℕ). total (reach c.args.self.now.config) ns ≤ c.loop-next.task-inside.caller.left) work
-    c.loop-next.invariant.underway.2.left
+    c.loop-next.invariant.underway.left

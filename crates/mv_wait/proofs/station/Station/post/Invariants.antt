@@ -1,14 +1,11 @@
 use Rattle.std.proofs.Common.{◌≡◌, ◌≤◌, reverse, vec_capacity, vec_len}
-use Rattle.mv_calls.specs.Posts.{Posting}
-use Rattle.mv_wait.specs.Answers.{post_answer}
 use Rattle.mv_wait.specs.Task.{IsRecorded, blocks_in}
 use Rattle.mv_wait.proofs.Posts.{Underway}
 use Rattle.mv_wait.proofs.station.Station.post.Given as goal
 
 abbrev pub invariant-loop-next : goal.invariant-loop-next
 invariant-loop-next g l = record {
-  underway : (a : Posting) × (post_answer a ≡ l.answer)
-      × Underway l.self.config l.code l.ecb l.fn.task a l.task-inside.caller (reverse l.task-inside.pending.items);
+  underway : Underway l.self.config l.code l.ecb l.fn.task l.answer l.task-inside.caller (reverse l.task-inside.pending.items);
   told : l.task-inside.caller.told ≡ l.fn.task.told;
   recorded : IsRecorded l.task-inside.caller l.task-inside.keep;
   room : l.task-inside.caller.left ≤ vec_capacity l.task-inside.pending;
