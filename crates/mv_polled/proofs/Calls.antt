@@ -1,6 +1,5 @@
 -- The call of a need, from its first poll to its answer.
-use Rattle.std.proofs.Common.{◌≡◌, ℕ, length, take, refl, sym, ap, subst, arith}
-use Rattle.std.proofs.lemmas.List.{length-take-le}
+use Rattle.std.proofs.Common.{◌≡◌, ℕ, refl, sym, ap, subst}
 use Rattle.mv_board.specs.Faces.{BoardFace, CallerFace}
 use Rattle.mv_machine.specs.Setup.{Setup}
 use Rattle.mv_polled.specs.Waiting.{WaitFace, IsWaitAt}
@@ -18,23 +17,20 @@ use Rattle.mv_wait.specs.Run.{MayCall}
 
 -- a need that can be met fits a meeting
 pub need_fits : (c : Setup) (k : ℕ) (n : Need) → MayMeet c k n → IsNeed n
-need_fits c k (need.Blocks b) may = (may.0, may.1)
+need_fits c k (need.Blocks b) may = may.0
 need_fits c k (need.Block e) may = tt
 need_fits c k (need.Pause token) may = tt
 need_fits c k (need.Latch latch requestor mode) may = tt
 
 taken_meets : (b : BoardFace) (n : Need) (k : Call) (w : WaitFace) (u : CallerFace) → MayCall b (need_events n) u
     → MayMeet b.config u.number n → IsTaken n k w → IsCallOf b.config n k w u u
-taken_meets b (need.Blocks bl) call.Wait w u rests may is =
-    let len : length (take bl.len bl.of) ≡ bl.len = length-take-le bl.len bl.of (let few = may.0 in let room = may.1 in omega arith) in
-    let left = rests.left in (
-      ap (λ (f : WaitFace). f.count) is,
-      ap (λ (f : WaitFace). f.ecbs) is,
-      may.0,
-      may.1,
-      subst (λ (f : WaitFace). IsWaitAt b.config f u u) (sym is)
-          (refl, record { rest = rests.rest; blocks = may.2; left = omega arith }),
-    )
+taken_meets b (need.Blocks bl) call.Wait w u rests may is = (
+  ap (λ (f : WaitFace). f.count) is,
+  ap (λ (f : WaitFace). f.ecbs) is,
+  may.0,
+  subst (λ (f : WaitFace). IsWaitAt b.config f u u) (sym is)
+      (refl, record { rest = rests.rest; blocks = may.1; left = rests.left }),
+)
 taken_meets b (need.Block e) call.Block w u rests may is = (
   ap (λ (f : WaitFace). f.count) is,
   ap (λ (f : WaitFace). f.ecbs) is,

@@ -1,5 +1,5 @@
 -- The polled call of what a task waits for. Here u is the task before the call's first poll, and v the task now.
-use Rattle.std.specs.Prelude.{◌≡◌, ℕ, ◌≤◌, [], ◌∷◌, length, take}
+use Rattle.std.specs.Prelude.{◌≡◌, ℕ, ◌≤◌, [], ◌∷◌, length}
 use Rattle.mv_board.specs.Faces.{CallerFace}
 use Rattle.mv_element.specs.declared.element.Token.{Token}
 use Rattle.mv_latch.specs.declared.request.Mode.{Mode}
@@ -21,14 +21,14 @@ HasRoom m = m.wait.room ≡ most_blocks
 
 -- the need is for no more blocks than a task may wait for
 abbrev pub IsNeed : Need → Type 0
-IsNeed (need.Blocks b) = (b.len ≤ most_blocks) × (length b.of ≡ most_blocks)
+IsNeed (need.Blocks b) = length b.ecbs.items ≤ most_blocks
 IsNeed (need.Block e) = Unit {0}
 IsNeed (need.Pause token) = Unit {0}
 IsNeed (need.Latch latch requestor mode) = Unit {0}
 
 -- the call for this need was taken up, and was not polled yet
 abbrev pub IsTaken : Need → Call → WaitFace → Type 0
-IsTaken (need.Blocks b) call.Wait w = w ≡ new_wait most_blocks b.count (take b.len b.of)
+IsTaken (need.Blocks b) call.Wait w = w ≡ new_wait most_blocks b.count b.ecbs.items
 IsTaken (need.Block e) call.Block w = w ≡ new_wait most_blocks 1 (e ∷ [])
 IsTaken (need.Pause token) (call.Pause p) w = p ≡ new_pause token
 IsTaken (need.Latch latch requestor mode) (call.Obtain q) w = q ≡ new_obtain latch requestor mode
@@ -41,7 +41,7 @@ IsTakenUp n m = IsTaken n m.call m.wait
 -- the call is a wait for these blocks, and may be polled
 abbrev pub IsWaitFor : Setup → Blocks → WaitFace → CallerFace → CallerFace → Type 0
 IsWaitFor c b w u v =
-    (w.count ≡ b.count) × (w.ecbs ≡ take b.len b.of) × (b.len ≤ most_blocks) × (length b.of ≡ most_blocks) × IsWaitAt c w u v
+    (w.count ≡ b.count) × (w.ecbs ≡ b.ecbs.items) × (length b.ecbs.items ≤ most_blocks) × IsWaitAt c w u v
 
 -- the call is a wait for this block, and may be polled
 abbrev pub IsBlockFor : Setup → ℕ → WaitFace → CallerFace → CallerFace → Type 0

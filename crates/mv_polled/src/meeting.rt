@@ -16,10 +16,11 @@ ghost use Rattle.mv_work.specs.declared.need.Need.{Need as NeedValue};
 ghost use Rattle.mv_work.specs.declared.need.Need.TheVariants as need;
 
 use crate::{ObtainCall, PauseCall, Turn, WaitCall};
+use arrayvec::ArrayVec;
 use mv_io::NoMemory;
 use mv_latchset::Obtained;
 use mv_wait::{Station, Task, WaitSlot};
-use mv_work::{Got, Lost, MOST_BLOCKS, Need, slots_in};
+use mv_work::{Got, Lost, MOST_BLOCKS, Need};
 use std::alloc::Global;
 use std::sync::Wait;
 
@@ -66,7 +67,7 @@ impl Meeting {
     {
         match need {
             Need::Blocks(blocks) => {
-                self.wait.renew(blocks.count, &blocks.of[..blocks.len]);
+                self.wait.renew(blocks.count, &blocks.ecbs);
                 self.call = Call::Wait;
             }
             Need::Block(ecb) => {
@@ -123,7 +124,11 @@ fn await_blocks<R: Wait>(
 {
     match call.poll(station, rt, task) {
         Turn::Pending => Turn::Pending,
-        Turn::Ready(Ok(())) => Turn::Ready(Ok(Got::Slots(slots_in(call.slots())))),
+        Turn::Ready(Ok(())) => {
+            let mut found = ArrayVec::new();
+            let _fits = found.try_extend_from_slice(call.slots());
+            Turn::Ready(Ok(Got::Slots(found)))
+        }
         Turn::Ready(Err(_)) => Turn::Ready(Err(Lost)),
     }
 }

@@ -4,10 +4,11 @@ ghost use Rattle.mv_work.specs.Meeting.{IsMet, MayMeet};
 ghost use Rattle.mv_work.specs.Needs.{need_events};
 ghost use Rattle.mv_wait.specs.Run.{MayCall};
 
+use arrayvec::ArrayVec;
 use mv_latchset::{LatchForm, Obtained, obtain};
 use mv_pause::pause;
 use mv_wait::{Station, Task, WaitSlot};
-use mv_work::{Got, Lost, MOST_BLOCKS, Need, slots_in};
+use mv_work::{Got, Lost, MOST_BLOCKS, Need};
 use std::sync::Wait;
 use std::time::Clock;
 
@@ -28,10 +29,10 @@ pub(crate) fn meet<R: Wait + Clock>(
 {
     match need {
         Need::Blocks(blocks) => {
-            let mut slots = [WaitSlot::Open; MOST_BLOCKS];
-            let found = &mut slots[..blocks.len];
-            match station.wait(rt, task, blocks.count, &blocks.of[..blocks.len], found) {
-                Ok(()) => Ok(Got::Slots(slots_in(found))),
+            let mut found = ArrayVec::from([WaitSlot::Open; MOST_BLOCKS]);
+            found.truncate(blocks.ecbs.len());
+            match station.wait(rt, task, blocks.count, &blocks.ecbs, &mut found) {
+                Ok(()) => Ok(Got::Slots(found)),
                 Err(_) => Err(Lost),
             }
         }

@@ -28,11 +28,12 @@ use std::time::Clock;
 use thiserror::Error;
 
 /// What a wait found of one of its blocks.
-#[derive(Clone, Copy, Debug, PartialEq, Eq)]
+#[derive(Clone, Copy, Debug, Default, PartialEq, Eq)]
 pub enum WaitSlot {
     /// The block is complete with this code.
     Complete(u32),
     /// The block is not complete.
+    #[default]
     Open,
 }
 

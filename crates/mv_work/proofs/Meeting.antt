@@ -31,14 +31,12 @@ use Rattle.mv_work.proofs.Waits.{rests_less, told_answer}
 
 -- ---- a need was met
 
-slots_are : (c : Setup) (k : ℕ) (count : Option ℕ) (n : Need) (g : Got) → IsAnswerTo n g → AreBlocks count n → MayMeet c k n
-    → AreSlots count g
-slots_are c k None (need.Block e) (got.Code code) is fits may = tt
-slots_are c k None (need.Block e) g is fits may = absurd is
-slots_are c k (Some count) (need.Blocks b) (got.Slots s) is fits may =
-    (is ∙ fits, (let e : s.len ≡ b.len = is in let few = may.0 in omega arith))
-slots_are c k (Some count) (need.Blocks b) g is fits may = absurd is
-slots_are c k count n g is fits may = absurd fits
+slots_are : (count : Option ℕ) (n : Need) (g : Got) → IsAnswerTo n g → AreBlocks count n → AreSlots count g
+slots_are None (need.Block e) (got.Code code) is fits = tt
+slots_are None (need.Block e) g is fits = absurd is
+slots_are (Some count) (need.Blocks b) (got.Slots found) is fits = is ∙ fits
+slots_are (Some count) (need.Blocks b) g is fits = absurd is
+slots_are count n g is fits = absurd fits
 
 initiator_is : (sp : SpoolFace) (me : Initiator) (s : InitiatorStage) (n : Need) (g : Got) → IsAnswerTo n g → IsInitiatorNeed sp me s n
     → IsInitiatorAnswer sp me s g
@@ -93,7 +91,7 @@ module _ (sp : SpoolFace) (t : CallerFace) (n : Need) (u : CallerFace) where
   waits_ready (role.Scheduler None) is at = absurd at
   waits_ready (role.Scheduler (Some s)) is at =
       ready [] (role.Scheduler (Some s)) scheduler at.0 at.1 (λ fits. fits.may)
-      (λ g to fits. record { numbers = fits.numbers; slots = slots_are sp.board.config scheduler _ n g to fits.blocks fits.may })
+      (λ g to fits. record { numbers = fits.numbers; slots = slots_are _ n g to fits.blocks })
       (λ g v x. (at.0, x))
       (λ v same x. (same, (at.0, x)))
   waits_ready (role.Initiator me None) is at = absurd at
@@ -107,7 +105,7 @@ module _ (sp : SpoolFace) (t : CallerFace) (n : Need) (u : CallerFace) where
       (λ g to fits. record {
         number = fits.number;
         room = fits.room;
-        slot = slots_are sp.board.config (writer sp.initiators) None n g to fits.block fits.may;
+        slot = slots_are None n g to fits.block;
       })
       (λ g v x. (at.0, x))
       (λ v same x. (same, (at.0, x)))

@@ -1,5 +1,5 @@
 -- What meets a need: whoever runs a task shows that its waits are so.
-use Rattle.std.specs.Prelude.{◌≡◌, ℕ, ◌<◌, ◌≤◌, ◌+◌, length, take, Result, MatchResult}
+use Rattle.std.specs.Prelude.{◌≡◌, ℕ, ◌<◌, ◌≤◌, ◌+◌, length, Result, MatchResult}
 use Rattle.std.specs.List.{AllByRecursion}
 use Rattle.mv_board.specs.Faces.{CallerFace}
 use Rattle.mv_machine.specs.Limits.{highest_generation}
@@ -16,7 +16,7 @@ use Rattle.mv_work.specs.Ran.{Ran}
 
 -- an answer to this need: as many slots as blocks, a code for one block, the next token of the same element, a request for the latch
 abbrev pub IsAnswerTo : Need → Got → Type 0
-IsAnswerTo (need.Blocks b) (got.Slots s) = s.len ≡ b.len
+IsAnswerTo (need.Blocks b) (got.Slots found) = length found.items ≡ length b.ecbs.items
 IsAnswerTo (need.Block e) (got.Code code) = Unit {0}
 IsAnswerTo (need.Pause token) (got.Given given) =
     (given.next.element ≡ token.element) × (given.next.generation ≤ highest_generation)
@@ -32,7 +32,7 @@ IsMet c n t r u = MatchResult r
 -- what a need of task k asks of the configuration
 abbrev pub MayMeet : Setup → ℕ → Need → Type 0
 MayMeet c k (need.Blocks b) =
-    (b.len ≤ most_blocks) × (length b.of ≡ most_blocks) × AllByRecursion (λ e. e < length c.owners) (take b.len b.of)
+    (length b.ecbs.items ≤ most_blocks) × AllByRecursion (λ e. e < length c.owners) b.ecbs.items
 MayMeet c k (need.Block e) = (e < length c.owners) × (owner_of c e ≡ k) × (StartsExit c e → ⊥)
 MayMeet c k (need.Pause token) = token.element < element_count c
 MayMeet c k (need.Latch latch requestor mode) = Unit {0}

@@ -1,5 +1,5 @@
 -- What a task waits for, as a call, and the answer to it.
-use Rattle.std.specs.Prelude.{◌≡◌, ℕ, ◌*◌, List, [], ◌∷◌, Option, Some, length, take}
+use Rattle.std.specs.Prelude.{◌≡◌, ℕ, ◌*◌, List, [], ◌∷◌, Option, Some, length}
 use Rattle.mv_latch.specs.declared.request.LatchForm.TheVariants.{Waiting}
 use Rattle.mv_machine.specs.Setup.{Setup}
 use Rattle.mv_calls.specs.LatchCalls.{obtain}
@@ -28,13 +28,11 @@ pub data Answer : Type 0 where
 -- a wait until n of these blocks are complete
 pub record IsWaitFor (n : ℕ) (es : List ℕ) (b : Blocks) : Type 0 where
   pub count : b.count ≡ n
-  pub len : b.len ≡ length es
-  pub blocks : take b.len b.of ≡ es
-  pub room : length b.of ≡ most_blocks
+  pub blocks : b.ecbs.items ≡ es
 
 -- the call that a need is. It is not to be refused
 abbrev pub need_call : Setup → Need → Call Answer
-need_call c (need.Blocks b) = accepted (wait c b.count (take b.len b.of)) (λ slots. finished (Slots slots))
+need_call c (need.Blocks b) = accepted (wait c b.count b.ecbs.items) (λ slots. finished (Slots slots))
 need_call c (need.Block e) = accepted (wait c 1 (e ∷ [])) (λ slots. finished (Slots slots))
 need_call c (need.Pause token) = accepted (pause c token) (λ gift. finished (Gave gift))
 need_call c (need.Latch latch requestor mode) =
@@ -42,14 +40,14 @@ need_call c (need.Latch latch requestor mode) =
 
 -- the events that it may need
 abbrev pub need_events : Need → ℕ
-need_events (need.Blocks b) = 2 * b.len
+need_events (need.Blocks b) = 2 * length b.ecbs.items
 need_events (need.Block e) = 2
 need_events (need.Pause token) = 2
 need_events (need.Latch latch requestor mode) = 2
 
 -- the answer, as the program of the task reads it
 abbrev pub answer_of : Got → Answer
-answer_of (got.Slots s) = Slots (slots_of (take s.len s.of))
+answer_of (got.Slots found) = Slots (slots_of found.items)
 answer_of (got.Code code) = Slots (Some code ∷ [])
 answer_of (got.Given given) = Gave (gift_as given)
 answer_of (got.Granted token) = Holds token.id

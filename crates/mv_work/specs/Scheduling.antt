@@ -17,7 +17,7 @@ use Rattle.mv_work.specs.declared.need.Need.TheVariants as need
 use Rattle.mv_work.specs.declared.stage.SchedulerStage.{SchedulerStage}
 use Rattle.mv_work.specs.declared.stage.SchedulerStage.TheVariants.{Entry, Ends, Idle, Dismissal}
 use Rattle.mv_work.specs.Meeting.{MayMeet}
-use Rattle.mv_work.specs.Needs.{Answer, most_blocks, on_slots}
+use Rattle.mv_work.specs.Needs.{Answer, on_slots}
 use Rattle.mv_work.specs.Spool.{SpoolFace}
 use Rattle.mv_work.specs.Waiting.{Asks, Comes, Stages}
 
@@ -95,13 +95,13 @@ block_count s (Dismissal m) = None
 -- the task waits for this many blocks, or for one
 abbrev pub AreBlocks : Option ℕ → Need → Type 0
 AreBlocks None (need.Block e) = Unit {0}
-AreBlocks (Some count) (need.Blocks b) = b.len ≡ count
+AreBlocks (Some count) (need.Blocks b) = length b.ecbs.items ≡ count
 AreBlocks count n = ⊥
 
 -- this many blocks were found, or the code of one
 abbrev pub AreSlots : Option ℕ → Got → Type 0
 AreSlots None (got.Code code) = Unit {0}
-AreSlots (Some count) (got.Slots s) = (s.len ≡ count) × (s.len ≤ most_blocks)
+AreSlots (Some count) (got.Slots found) = length found.items ≡ count
 AreSlots count g = ⊥
 
 -- the scheduler waits for what its stage says

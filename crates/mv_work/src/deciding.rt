@@ -6,7 +6,7 @@
 //!   the initiators ───────────── idle_blocks ─> a wait ── first_in (finding.rt) ──> the initiator that is given the code
 //! ```
 
-ghost use Rattle.std.specs.Prelude.{◌≡◌, ◌<◌, ◌≤◌, length, map, take};
+ghost use Rattle.std.specs.Prelude.{◌≡◌, ◌<◌, ◌≤◌, length, map};
 ghost use Rattle.std.specs.List.{AllByRecursion, range_with_len};
 ghost use Rattle.mv_element.specs.Table.{release_limit};
 ghost use Rattle.mv_deck.specs.Operand.{most_after};
@@ -14,25 +14,24 @@ ghost use Rattle.mv_deck.specs.Weight.{most_initiators};
 ghost use Rattle.mv_plan.specs.SpoolSetup.{jobs_limit, idle};
 ghost use Rattle.mv_plan.specs.SpoolTasks.{code_of, ends_of, some_end_above};
 ghost use Rattle.mv_wait.specs.Answers.{slot_of, slots_of};
-ghost use Rattle.mv_work.specs.Needs.{most_blocks};
 ghost use Rattle.mv_work.specs.Parts.{is_end_above};
 
 use crate::initiator::NOT_TO_RUN;
 use crate::need::MOST_BLOCKS;
+use arrayvec::ArrayVec;
 use mv_deck::After;
 use mv_plan::{end_for_scheduler, idle};
 use mv_wait::WaitSlot;
 
 /// The scheduler's blocks with the ends of these jobs.
-pub(crate) fn end_blocks(jobs: u32, after: &[After]) -> [u32; MOST_BLOCKS]
+pub(crate) fn end_blocks(jobs: u32, after: &[After]) -> ArrayVec<u32, MOST_BLOCKS>
     requires jobs { (jobs ≤ jobs_limit) × (length after.now ≤ most_after) }
     requires earlier { AllByRecursion (λ part. part.job < jobs) after.now }
-    ensures blocks { take (length after.now) result ≡ ends_of jobs after.now }
-    ensures room { length result ≡ most_blocks }
+    ensures { result.items ≡ ends_of jobs after.now }
 {
-    let mut blocks = [0; MOST_BLOCKS];
+    let mut blocks = ArrayVec::new();
     for k in 0..after.len() {
-        blocks[k] = end_for_scheduler(jobs, after[k].job);
+        blocks.push(end_for_scheduler(jobs, after[k].job));
     }
     blocks
 }
@@ -74,14 +73,13 @@ pub(crate) fn job_code(job: u32, skipped: bool) -> u32
 }
 
 /// The blocks that initiators post when they are idle.
-pub(crate) fn idle_blocks(jobs: u32, initiators: u32) -> [u32; MOST_BLOCKS]
+pub(crate) fn idle_blocks(jobs: u32, initiators: u32) -> ArrayVec<u32, MOST_BLOCKS>
     requires { (jobs ≤ jobs_limit) × (initiators ≤ most_initiators) }
-    ensures blocks { take initiators result ≡ map (idle jobs) (range_with_len 0 initiators) }
-    ensures room { length result ≡ most_blocks }
+    ensures { result.items ≡ map (idle jobs) (range_with_len 0 initiators) }
 {
-    let mut blocks = [0; MOST_BLOCKS];
+    let mut blocks = ArrayVec::new();
     for i in 0..initiators {
-        blocks[i as usize] = idle(jobs, i);
+        blocks.push(idle(jobs, i));
     }
     blocks
 }

@@ -23,7 +23,7 @@ mod writer;
 pub use closing::{SpoolRun, spool_run};
 pub use laws::{initiators_note_what_they_do, records_give_the_lines, runs_record_each_job};
 pub use lost::Lost;
-pub use need::{Blocks, Got, MOST_BLOCKS, Need, Slots, slots_in};
+pub use need::{Blocks, Got, MOST_BLOCKS, Need};
 pub use records::{InitiatorRecord, Noted};
 pub use reporting::lines_recorded;
 pub use results::{RunResults, results_of};

@@ -4,9 +4,7 @@
 //!   Blocks ──> Slots      Block ──> Code      Pause ──> Given      Latch ──> Granted
 //! ```
 
-ghost use Rattle.std.specs.Prelude.{◌≡◌, ◌≤◌, take, length};
-ghost use Rattle.mv_work.specs.Needs.{most_blocks};
-
+use arrayvec::ArrayVec;
 use mv_element::Token;
 use mv_latch::Mode;
 use mv_latchset::LatchToken;
@@ -16,16 +14,15 @@ use mv_wait::WaitSlot;
 /// How many blocks a task waits for at once, at most.
 pub const MOST_BLOCKS: usize = 8;
 
-/// Blocks to wait for, the first `len`, until `count` of them are complete.
-#[derive(Clone, Copy)]
+/// Blocks to wait for, until `count` of them are complete.
+#[derive(Drop)]
 pub struct Blocks {
     pub count: u32,
-    pub len: usize,
-    pub of: [u32; MOST_BLOCKS],
+    pub ecbs: ArrayVec<u32, MOST_BLOCKS>,
 }
 
 /// What a task waits for. Its wait is not refused in any run.
-#[derive(Clone, Copy)]
+#[derive(Drop)]
 pub enum Need {
     /// Some of these blocks are complete.
     Blocks(Blocks),
@@ -37,35 +34,15 @@ pub enum Need {
     Latch(u32, u64, Mode),
 }
 
-/// How the blocks were found, the first `len`.
-#[derive(Clone, Copy)]
-pub struct Slots {
-    pub len: usize,
-    pub of: [WaitSlot; MOST_BLOCKS],
-}
-
 /// The answer to a wait, with which the task is resumed.
-#[derive(Clone, Copy)]
+#[derive(Drop)]
 pub enum Got {
-    Slots(Slots),
+    /// How the blocks were found, in their order.
+    Slots(ArrayVec<WaitSlot, MOST_BLOCKS>),
     /// The code of the block.
     Code(u32),
+    /// The code that the release gave, and the token of the next pause.
     Given(Given),
+    /// The request that was granted.
     Granted(LatchToken),
-}
-
-/// These slots, `MOST_BLOCKS` at most, as an answer.
-pub fn slots_in(slots: &[WaitSlot]) -> Slots
-    requires { length slots.now ≤ most_blocks }
-    ensures len { result.len ≡ length slots.now }
-    ensures slots { take (length slots.now) result.of ≡ slots.now }
-{
-    let mut of = [WaitSlot::Open; MOST_BLOCKS];
-    for k in 0..slots.len() {
-        of[k] = slots[k];
-    }
-    Slots {
-        len: slots.len(),
-        of,
-    }
 }

@@ -13,7 +13,7 @@ use crate::lost::Lost;
 use crate::need::Need;
 
 /// What a task does next: it waits at a stage for what it needs, or its program is done.
-#[derive(Clone, Copy)]
+#[derive(Drop)]
 pub(crate) enum Next<S> {
     Wait(S, Need),
     Done,

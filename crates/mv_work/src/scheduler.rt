@@ -91,10 +91,10 @@ impl<G: Gate> Spool<'_, G> {
         match (stage, got) {
             (SchedulerStage::Entry(job), Got::Code(_)) => self.on_entry(rt, task, job),
             (SchedulerStage::Ends(job), Got::Slots(slots)) => {
-                self.on_ends(rt, task, job, &slots.of[..slots.len])
+                self.on_ends(rt, task, job, &slots)
             }
             (SchedulerStage::Idle(job, skipped), Got::Slots(slots)) => {
-                self.on_idle(rt, task, job, skipped, &slots.of[..slots.len])
+                self.on_idle(rt, task, job, skipped, &slots)
             }
             (SchedulerStage::Dismissal(index), Got::Code(generation)) => {
                 self.on_dismissal(rt, task, index, generation)
@@ -133,8 +133,7 @@ impl<G: Gate> Spool<'_, G> {
             SchedulerStage::Ends(job),
             Need::Blocks(Blocks {
                 count: after.len() as u32,
-                len: after.len(),
-                of: end_blocks(self.jobs(), after),
+                ecbs: end_blocks(self.jobs(), after),
             }),
         ))
     }
@@ -174,8 +173,7 @@ impl<G: Gate> Spool<'_, G> {
             SchedulerStage::Idle(job, skipped),
             Need::Blocks(Blocks {
                 count: 1,
-                len: self.initiators as usize,
-                of: idle_blocks(self.jobs(), self.initiators),
+                ecbs: idle_blocks(self.jobs(), self.initiators),
             }),
         ))
     }

@@ -1,5 +1,4 @@
-use Rattle.std.proofs.Common.{ℕ, List, length, take, refl, sym, ap, ◌∙◌, subst, arith}
-use Rattle.std.proofs.lemmas.List.{length-take-le}
+use Rattle.std.proofs.Common.{◌≡◌, ℕ, List, length, refl, sym, ap, ◌∙◌, subst, arith}
 use Rattle.mv_calls.specs.Program.{Done}
 use Rattle.mv_work.specs.declared.need.Need.TheVariants as need
 use Rattle.mv_work.specs.Needs.{Slots, need_call}
@@ -14,28 +13,23 @@ pub returns-in-Ready-Ok-clause-turn : goal.returns-in-Ready-Ok-clause-turn
 returns-in-Ready-Ok-clause-turn g c b t does =
     let config = c.args.station.now.config in
     let u = c.poll.new.task in
-    let w = c.poll.new.self in
     let call = c.poll.ensures.call in
-    let waited = rw c.in-Ready-Ok.field-0-is at c.in-Ready-Ok.ensures.turn t does.4 in
+    let waited = rw c.in-Ready-Ok.field-0-is at c.in-Ready-Ok.ensures.turn t does.3 in
     let es = call.1 ∙ does.1 in
     let slots = c.slots.ensures in
+    let size = ap (λ (xs : List WaitSlot). length xs) slots ∙ waited.causes.2 ∙ ap (λ (xs : List ℕ). length xs) es in
     let few = does.2 in
-    let room = does.3 in
-    let size = ap (λ (xs : List WaitSlot). length xs) slots ∙ waited.causes.2 ∙ ap (λ (xs : List ℕ). length xs) es
-    ∙ length-take-le b.len b.of (omega arith) in
-    let told = c.slots_in.ensures.slots in
-    let served = rw (call.0 ∙ does.0, es) at waited.served in
-    let fits = served_few served in
-    let len = length-take-le b.len b.of (omega arith) in (
-      c.slots_in.ensures.len ∙ size,
+    let none = ap (λ (xs : List WaitSlot). length xs) c.new-found.ensures in
+    let found : c.try_extend_from_slice.new.self.items ≡ c.slots.result.now = search rules in
+    let served = rw (call.0 ∙ does.0, es) at waited.served in (
+      ap (λ (xs : List WaitSlot). length xs) found ∙ size,
       subst (λ (xs : List WaitSlot). Ran (need_call config (need.Blocks b)) (Done (Slots (slots_of xs))) t u)
-          (sym slots ∙ sym told ∙ ap (λ k. take k c.slots_in.result.of) (sym c.slots_in.ensures.len))
-          (met _ served refl),
-      omega arith,
+          (sym slots ∙ sym found) (met _ served refl),
+      served_few served,
     )
 
 pub returns-in-Ready-Err-clause-turn : goal.returns-in-Ready-Err-clause-turn
 returns-in-Ready-Err-clause-turn g c b t does =
     let call = c.poll.ensures.call in
-    let waited = rw c.in-Ready-Err.field-0-is at c.in-Ready-Err.ensures.turn t does.4 in
+    let waited = rw c.in-Ready-Err.field-0-is at c.in-Ready-Err.ensures.turn t does.3 in
     met _ (rw (call.0 ∙ does.0, call.1 ∙ does.1) at waited.served) refl

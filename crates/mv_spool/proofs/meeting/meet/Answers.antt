@@ -1,35 +1,51 @@
-use Rattle.std.proofs.Common.{List, take, refl, sym, ap, ◌∙◌, subst, arith}
-use Rattle.std.proofs.lemmas.List.{length-take-le}
-use Rattle.mv_calls.specs.Program.{Done}
-use Rattle.mv_wait.specs.Answers.{slots_of}
+use Rattle.std.proofs.Common.{◌≡◌, ℕ, ◌<◌, ◌≤◌, List, length, refl, sym, ap, ◌∙◌, subst, arith}
+use Rattle.std.specs.List.{AllByRecursion}
+use Rattle.arrayvec.proofs.ArrayVecLemmas.{items-with_items}
 use Rattle.mv_wait.specs.declared.waiting.WaitSlot.{WaitSlot}
-use Rattle.mv_work.specs.declared.need.Need.TheVariants as need
-use Rattle.mv_work.specs.Needs.{Slots, need_call}
-use Rattle.mv_work.specs.Ran.{Ran}
+use Rattle.mv_work.specs.declared.need.Need.{Need}
+use Rattle.mv_work.specs.Needs.{need_events}
 use Rattle.mv_work.proofs.Meeting.{met}
 use Rattle.mv_work.proofs.Runs.{served_few}
 use Rattle.mv_spool.proofs.meeting.meet.Goals as goal
 
-pub returns-in-Ok : goal.returns-in-Ok
-returns-in-Ok g c =
-    let config = c.args.station.now.config in
-    let b = c.in-Blocks.blocks in
+pub wait-requires-clause-blocks : goal.wait-requires-clause-blocks
+wait-requires-clause-blocks g c =
+    let may = rw c.in-Blocks.is at c.requires.need in
+    subst (AllByRecursion (λ e. e < length c.args.station.now.config.owners)) (sym c.deref.ensures.0) may.1
+
+pub wait-requires-clause-out : goal.wait-requires-clause-out
+wait-requires-clause-out g c =
     let may = rw c.in-Blocks.is at c.requires.need in
     let few = may.0 in
-    let room = may.1 in
-    let len = length-take-le b.len b.of (omega arith) in
-    let size = c.wait.auto.out in
-    let s = c.in-Ok.ensures.served in
-    let fits = served_few s in
-    let told = c.slots_in.ensures.len in
-    rw c.in-Blocks.is (record {
-      met = (
-        told ∙ size ∙ length-take-le b.len _ few,
-        subst (λ (xs : List WaitSlot). Ran (need_call config (need.Blocks b)) (Done (Slots (slots_of xs))) c.args.task.now c.wait.new.task)
-            (sym c.slots_in.ensures.slots ∙ ap (λ k. take k c.slots_in.result.of) (sym told)) (met _ s refl),
-        omega arith,
-      );
-    })
+    let all = c.from-found.ensures.1 in
+    let cut = c.truncate.ensures.len in
+    let count = c.len.ensures.value in
+    let here = ap (λ (xs : List WaitSlot). length xs) c.deref_mut.ensures.value in
+    let there = ap (λ (xs : List ℕ). length xs) c.deref.ensures.0 in
+    omega arith
+
+pub wait-requires-clause-left : goal.wait-requires-clause-left
+wait-requires-clause-left g c =
+    let left = subst (λ (n : Need). need_events n ≤ c.args.task.now.left) c.in-Blocks.is c.requires.rests.left in
+    let there = ap (λ (xs : List ℕ). length xs) c.deref.ensures.0 in
+    omega arith
+
+pub returns-in-Ok : goal.returns-in-Ok
+returns-in-Ok g c =
+    let found = c.truncate.new.self in
+    let out = c.wait.new.out in
+    let size : length out ≡ length found.items = c.wait.auto.out ∙ ap (λ (xs : List WaitSlot). length xs) c.deref_mut.ensures.value in
+    let all = c.from-found.ensures.1 in
+    let cut = c.truncate.ensures.len in
+    let count = c.len.ensures.value in
+    let may = rw c.in-Blocks.is at c.requires.need in
+    let few = may.0 in
+    let long : length out ≡ length c.in-Blocks.blocks.ecbs.items = omega arith in
+    let s = rw c.deref.ensures.0 at c.in-Ok.ensures.served in
+    rw c.in-Blocks.is (record { met = rw (items-with_items found out size) (long, met _ s refl, served_few s) })
+
+pub returns-in-Err : goal.returns-in-Err
+returns-in-Err g c = rw c.in-Blocks.is (record { met = met _ (rw c.deref.ensures.0 at c.in-Err.ensures.served) refl })
 
 pub wait_one-requires-clause-plain : goal.wait_one-requires-clause-plain
 wait_one-requires-clause-plain g c = λ starts.

@@ -1,4 +1,4 @@
-use Rattle.std.proofs.Common.{◌+◌, ◌*◌, ◌-◌, ◌<◌, List, length, sym, ap, ◌∙◌, arith}
+use Rattle.std.proofs.Common.{ℕ, ◌+◌, ◌*◌, ◌-◌, ◌<◌, List, length, sym, ap, ◌∙◌, arith}
 use Rattle.std.proofs.lemmas.List.{length-map}
 use Rattle.mv_deck.specs.declared.deck.After.{After}
 use Rattle.mv_plan.specs.Jobs.{job_at}
@@ -39,13 +39,13 @@ returns g c =
     let some : 0 < length after = rw (← c.after_of-after.ensures.parts) (is_some (length read) c.if-is_empty.ensures) in
     let size = ap (λ (parts : List After). length parts) c.after_of-after.ensures.parts in
     let last = block_there spool (4 * n - 1) (omega arith) in
-    let blocks : Blocks = record { count = length read; len = length read; of = c.end_blocks.result } in
+    let blocks : Blocks = record { count = length read; ecbs = c.end_blocks.result } in
+    let all = length-map after (λ (part : After). end_for_scheduler n part.job) in
     let is : IsWaitFor (length after) (ends_of n after) blocks = record {
       count = size;
-      len = size ∙ sym (length-map after (λ (part : After). end_for_scheduler n part.job));
-      blocks = c.end_blocks.ensures.blocks ∙ ap (λ n. ends_of n read) c.jobs.ensures.jobs ∙ ap (ends_of n) c.after_of-after.ensures.parts;
-      room = c.end_blocks.ensures.room;
+      blocks = c.end_blocks.ensures ∙ ap (λ n. ends_of n read) c.jobs.ensures.jobs ∙ ap (ends_of n) c.after_of-after.ensures.parts;
     } in
+    let long = ap (λ (es : List ℕ). length es) is.blocks ∙ all in
     let asks : SchedulerAsks s (then_jobs s j (ends_awaited s.board.config n after (exit_set s j)))
     (2 * length after + scheduler_due s (stage.Ends j))
     (next.Wait (stage.Ends j) (need.Blocks blocks)) = record {
@@ -53,7 +53,7 @@ returns g c =
         ends_asked s j some is,
         record {
           numbers = omega arith;
-          blocks = size;
+          blocks = long;
           may = blocks_fit s.board.config is scheduler (omega arith)
               (ends_exist n (length s.board.config.owners) after (omega arith) c.after_of-after.ensures.earlier);
         },
