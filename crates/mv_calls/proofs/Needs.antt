@@ -290,7 +290,7 @@ entered_asks c t index id k kept sound lt low =
 
 -- an event that was counted
 counted_asks : (c : Setup) (t : Table) (index id k : ℕ) (kept : Kept) → IsSoundTable c t → release_cost c ≤ 524287
-    → Asks (IsHeard c) (2 + release_cost c) (events.counted c t index id k kept)
+    → Asks (IsHeard c) (2 + release_cost c) (events.count_read c t index id k kept)
 counted_asks c t index id k kept sound low = go (nat_lt k t.size) refl where
   go : (b : Bool) → nat_lt k t.size ≡ b → Asks (IsHeard c) (2 + release_cost c)
       (cond b (events.entered c t index id k) (events.freed c t id (Err (Broken k))) kept)
@@ -304,11 +304,11 @@ event_posted_asks c t index id (answer.Already code) kept sound low =
     wider (IsHeard c) (release_cost c) (3 + release_cost c) _ (omega arith) (freed_asks c t id _ kept low)
 event_posted_asks c t index id answer.Posted kept sound low =
     wider (IsHeard c) (1 + (2 + release_cost c)) (3 + release_cost c) _ (omega arith)
-    (follow_asks (IsHeard c) 1 (2 + release_cost c) (waits.read_volume t.volume) (events.counted c t index id) kept
+    (follow_asks (IsHeard c) 1 (2 + release_cost c) (waits.read_volume t.volume) (events.count_read c t index id) kept
     (once_asks (IsHeard c) _ (read_volume_once t.volume kept)) (λ k now. counted_asks c t index id k now sound low))
 event_posted_asks c t index id answer.Woke kept sound low =
     wider (IsHeard c) (1 + (2 + release_cost c)) (3 + release_cost c) _ (omega arith)
-    (follow_asks (IsHeard c) 1 (2 + release_cost c) (waits.read_volume t.volume) (events.counted c t index id) kept
+    (follow_asks (IsHeard c) 1 (2 + release_cost c) (waits.read_volume t.volume) (events.count_read c t index id) kept
     (once_asks (IsHeard c) _ (read_volume_once t.volume kept)) (λ k now. counted_asks c t index id k now sound low))
 
 -- what follows the obtain

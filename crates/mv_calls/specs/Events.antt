@@ -48,14 +48,14 @@ entered c t index id k =
     followed (post c (slot_block t k) index) (λ posted.
     freed c t id (Ok (EnteredAt k))))
 
--- the table has counted k events before this one, which gets slot k if the table has that slot
-abbrev pub counted : Setup → Table → ℕ → ℕ → ℕ → Call (Result Entering Refusal)
-counted c t index id k = if nat_lt k t.size then entered c t index id k else freed c t id (Err (refusal.Broken k))
+-- the table's volume was read, and has counted k events: this one gets slot k if the table has that slot
+abbrev pub count_read : Setup → Table → ℕ → ℕ → ℕ → Call (Result Entering Refusal)
+count_read c t index id k = if nat_lt k t.size then entered c t index id k else freed c t id (Err (refusal.Broken k))
 
 -- the event's block was posted: an event that was complete before is not counted again
 abbrev pub event_posted : Setup → Table → ℕ → ℕ → PostAnswer → Call (Result Entering Refusal)
 event_posted c t index id (Already code) = freed c t id (Ok (WasComplete code))
-event_posted c t index id other = followed (read_volume t.volume) (counted c t index id)
+event_posted c t index id other = followed (read_volume t.volume) (count_read c t index id)
 
 -- with the latch the event's block is posted; without it nothing is
 abbrev pub with_latch : Setup → Table → ℕ → ℕ → Result Requested Refusal → Call (Result Entering Refusal)

@@ -22,7 +22,7 @@ use Rattle.mv_machine.specs.declared.entry.VolumeReply.{VolumeReply}
 use Rattle.mv_machine.specs.declared.entry.VolumeReply.TheVariants as volume_reply
 use Rattle.mv_machine.specs.Setup.{Setup}
 use Rattle.mv_calls.specs.declared.table.Table.{Table}
-use Rattle.mv_calls.specs.Events.{Entering, EnteredAt, WasComplete, freed, entered, counted, event_posted, with_latch, post_event}
+use Rattle.mv_calls.specs.Events.{Entering, EnteredAt, WasComplete, freed, entered, count_read, event_posted, with_latch, post_event}
 use Rattle.mv_calls.specs.Events.{next_event, next_event_refusal, slot_found, indexed, handed_out, event_requestor}
 use Rattle.mv_calls.specs.Keeping.{Kept, kept_after}
 use Rattle.mv_calls.specs.LatchCalls as latches
@@ -267,7 +267,7 @@ module _ (c : Setup) (t : Table) where
       (λ stored i. answers_on (Ok (EnteredAt k)) i (posts.post c (slot_block t k) index i) (λ posting. freed c t id (Ok (EnteredAt k)))
       (λ posting j. freed_answers id (Ok (EnteredAt k)) j))
 
-  agree_counted : (index id k : ℕ) (i j : Kept) → Agree Same (counted c t index id k i) (counted c t index id k j)
+  agree_counted : (index id k : ℕ) (i j : Kept) → Agree Same (count_read c t index id k i) (count_read c t index id k j)
   agree_counted index id k i j = go (nat_lt k t.size) where
     go : (b : Bool) → Agree Same ((if b then entered c t index id k else freed c t id (Err (refusal.Broken k))) i)
         ((if b then entered c t index id k else freed c t id (Err (refusal.Broken k))) j)
@@ -281,9 +281,9 @@ module _ (c : Setup) (t : Table) where
   blind_value x = tt
 
   agree_reading : (index id : ℕ) (i j : Kept)
-      → Agree Same (going_on i (waits.read_volume t.volume i) (counted c t index id))
-      (going_on j (waits.read_volume t.volume j) (counted c t index id))
-  agree_reading index id i j = agree_on Same (waits.read_volume t.volume i) (counted c t index id) (counted c t index id)
+      → Agree Same (going_on i (waits.read_volume t.volume i) (count_read c t index id))
+      (going_on j (waits.read_volume t.volume j) (count_read c t index id))
+  agree_reading index id i j = agree_on Same (waits.read_volume t.volume i) (count_read c t index id) (count_read c t index id)
       (by_reply (Volume t.volume) (op_on.Volume volume_op.Read) (λ r. on_volume r waits.the_value)
       (λ r. blind_volume r waits.the_value blind_value))
       (agree_counted index id) i j

@@ -23,13 +23,13 @@ use Rattle.mv_calls.proofs.Interleaved.{callers_exist}
 use Rattle.mv_calls.proofs.Making.{kept_caller}
 use Rattle.mv_eventlaws.specs.Completions.{completions}
 use Rattle.mv_eventlaws.specs.Discipline.{Posts, Takes, AreDeeds}
-use Rattle.mv_eventlaws.specs.Order.{IsAnswered, AreInOrder, IsAnsweredInOrder, MayCome}
+use Rattle.mv_eventlaws.specs.Order.{IsAnswered, IsTableInOrder, IsAnsweredInOrder, MayCome}
 use Rattle.mv_eventlaws.proofs.Agreeing.{posts_agree}
 use Rattle.mv_eventlaws.proofs.Pieces.{entries_append, cons_same, find_post, Anew, anew}
 use Rattle.mv_eventlaws.proofs.Programs.{refused_post, post_begins}
 use Rattle.mv_eventlaws.proofs.Steps.{err_answered, err_taken}
 use Rattle.mv_eventlaws.proofs.Takings.{refused_take}
-use Rattle.mv_eventlaws.proofs.Walk.{are_in_order, table_blocks}
+use Rattle.mv_eventlaws.proofs.Walk.{table_in_order, table_blocks}
 
 -- what a caller hears are its entries
 entries_noted : (es : List Entry) (ws : List (List Wake)) → entries (noted es ws) ≡ es
@@ -74,7 +74,7 @@ module _ (c : Setup) (t : Table) (k most : ℕ) (old new : List Entry) (told_bef
               err_answered (completions t es) index code answer r.0 r.1 r.2
           go (g ∷ events) d q =
               let less : k < c.callers = below es g.entry (entries events ++ begin.0) legal q in
-              let law : AreInOrder c t deeds es = are_in_order c t deeds es sound legal disciplined in
+              let law : IsTableInOrder c t deeds es = table_in_order c t deeds es sound legal disciplined in
               let b = post_begins c t index code (kept_of k old) g events answer d in
               let f = find_post c t k (completions t es) g.entry _ (entries events ++ begin.0) b.object b.operation (deeds k)
               (heard_in c k es) old (disciplined k less) (entries_noted (of k es) (told c k es) ∙ q) (law.answers k less) in
@@ -111,5 +111,5 @@ module _ (c : Setup) (t : Table) (k most : ℕ) (old new : List Entry) (told_bef
                 each j lt (inr other) = subst (λ z. AreDeeds c t j z (heard_in c j es)) (sym (with_at-other deeds k a.deeds j other))
                     (disciplined j lt)
 
-                law : AreInOrder c t (with_at deeds k a.deeds) es
-                law = are_in_order c t (with_at deeds k a.deeds) es sound legal (λ j lt. each j lt (cases_eq j k))
+                law : IsTableInOrder c t (with_at deeds k a.deeds) es
+                law = table_in_order c t (with_at deeds k a.deeds) es sound legal (λ j lt. each j lt (cases_eq j k))

@@ -9,7 +9,7 @@ use Rattle.mv_machine.specs.Setup.{Setup}
 use Rattle.mv_board.specs.Faces.{BoardFace, CallerFace}
 use Rattle.mv_board.specs.Faces as faces
 use Rattle.mv_calls.specs.declared.table.Table.{Table}
-use Rattle.mv_calls.specs.Events.{Entering, EnteredAt, WasComplete, event_requestor, freed, entered, counted, event_posted, with_latch}
+use Rattle.mv_calls.specs.Events.{Entering, EnteredAt, WasComplete, event_requestor, freed, entered, count_read, event_posted, with_latch}
 use Rattle.mv_calls.specs.Events.{post_event}
 use Rattle.mv_calls.specs.Keeping.{nothing_kept}
 use Rattle.mv_calls.specs.LatchCalls.{Requested, GrantedAs, obtain, release_latch}
@@ -66,13 +66,13 @@ module _ (c : Setup) (t : Table) (index : ℕ) where
       posted (runs_none last j) in
       let second : Runs (1 + (reach c (slot_block t k) + 0)) (entered c t index id k (keeps g)) last g j =
       served_first 1 (reach c (slot_block t k) + 0) (write_volume t.volume (k + 1)) _ IsWritten last g h j written third in
-      let here : counted c t index id k (keeps g) ≡ entered c t index id k (keeps g) =
+      let here : count_read c t index id k (keeps g) ≡ entered c t index id k (keeps g) =
       ap (λ (b : Bool). cond b (entered c t index id k) (freed c t id (Err (Broken k))) (keeps g)) (below_is k t.size lt) in
-      let was : counted c t index id read.answer (keeps g) ≡ entered c t index id k (keeps g) =
-      ap (λ n. counted c t index id n (keeps g)) read.is ∙ here in
-      runs_within (1 + (1 + (reach c (slot_block t k) + 0))) 3 (followed (read_volume t.volume) (counted c t index id) (keeps f)) last f j
+      let was : count_read c t index id read.answer (keeps g) ≡ entered c t index id k (keeps g) =
+      ap (λ n. count_read c t index id n (keeps g)) read.is ∙ here in
+      runs_within (1 + (1 + (reach c (slot_block t k) + 0))) 3 (followed (read_volume t.volume) (count_read c t index id) (keeps f)) last f j
       (omega arith)
-      (served_first 1 (1 + (reach c (slot_block t k) + 0)) (read_volume t.volume) (counted c t index id) (λ a. a ≡ k) last f g j read
+      (served_first 1 (1 + (reach c (slot_block t k) + 0)) (read_volume t.volume) (count_read c t index id) (λ a. a ≡ k) last f g j read
       (subst (λ q. Runs (1 + (reach c (slot_block t k) + 0)) q last g j) (sym was) second))
 
   -- there is no such position
@@ -80,11 +80,11 @@ module _ (c : Setup) (t : Table) (index : ℕ) where
       → CountsEvent c t index f (Err (Broken k)) g
   counts_broken k f g le read = λ id.
       let last = freed c t id (Err (Broken k)) (keeps g) in
-      let here : counted c t index id k (keeps g) ≡ last =
+      let here : count_read c t index id k (keeps g) ≡ last =
       ap (λ (b : Bool). cond b (entered c t index id k) (freed c t id (Err (Broken k))) (keeps g)) (not_below_is k t.size le) in
-      let was : counted c t index id read.answer (keeps g) ≡ last = ap (λ n. counted c t index id n (keeps g)) read.is ∙ here in
-      runs_within (1 + 0) 3 (followed (read_volume t.volume) (counted c t index id) (keeps f)) last f g (omega arith)
-      (served_first 1 0 (read_volume t.volume) (counted c t index id) (λ a. a ≡ k) last f g g read
+      let was : count_read c t index id read.answer (keeps g) ≡ last = ap (λ n. count_read c t index id n (keeps g)) read.is ∙ here in
+      runs_within (1 + 0) 3 (followed (read_volume t.volume) (count_read c t index id) (keeps f)) last f g (omega arith)
+      (served_first 1 0 (read_volume t.volume) (count_read c t index id) (λ a. a ≡ k) last f g g read
       (subst (λ q. Runs 0 q last g g) (sym was) (runs_none last g)))
 
   -- ---- with the latch
@@ -104,7 +104,7 @@ module _ (c : Setup) (t : Table) (index : ℕ) where
       (subst (λ q. Runs 0 q last g g) (sym was) (runs_none last g)))
 
   goes_on : (p : PostAnswer) (id most : ℕ) (g h : CallerFace) (a : Result Entering Refusal) → IsCodeTaken p
-      → LeadsTo most c t id (followed (read_volume t.volume) (counted c t index id)) g a h
+      → LeadsTo most c t id (followed (read_volume t.volume) (count_read c t index id)) g a h
       → LeadsTo most c t id (event_posted c t index id p) g a h
   goes_on answer.Posted id most g h a taken leads = leads
   goes_on answer.Woke id most g h a taken leads = leads

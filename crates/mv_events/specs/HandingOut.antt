@@ -23,12 +23,12 @@ IsNextRefused t position f why g = (next_event_refusal t position (keeps f) ≡ 
 
 -- The code of the slot is the index of an event, whose block was then read; or it is not the index of an event of the table; or
 -- the call was refused without an event.
-abbrev pub IsHandedOut : Setup → Table → ℕ → CallerFace → Result Event NextRefusal → CallerFace → Type 0
-IsHandedOut c t position f (Ok event) g =
+abbrev pub IsNextOutcome : Setup → Table → ℕ → CallerFace → Result Event NextRefusal → CallerFace → Type 0
+IsNextOutcome c t position f (Ok event) g =
     (next_event_refusal t position (keeps f) ≡ None) × (event.index < t.size)
     × ((v : CallerFace) × HasCode c t position event.index f v
     × IsServed 1 (test_ecb (event_block t event.index)) (λ a. a ≡ event.word) v g)
-IsHandedOut c t position f (Err refused.NotOwner) g = IsNextRefused t position f refusal.NotOwner g
-IsHandedOut c t position f (Err refused.Drained) g = IsNextRefused t position f refusal.Drained g
-IsHandedOut c t position f (Err (refused.Strange index)) g =
+IsNextOutcome c t position f (Err refused.NotOwner) g = IsNextRefused t position f refusal.NotOwner g
+IsNextOutcome c t position f (Err refused.Drained) g = IsNextRefused t position f refusal.Drained g
+IsNextOutcome c t position f (Err (refused.Strange index)) g =
     (next_event_refusal t position (keeps f) ≡ None) × (t.size ≤ index) × HasCode c t position index f g

@@ -27,7 +27,7 @@ use Rattle.mv_calls.proofs.Making.{kept_caller}
 use Rattle.mv_calls.proofs.TableFacts.{checked_is_sound}
 use Rattle.mv_eventlaws.specs.Completions.{Completion, completions}
 use Rattle.mv_eventlaws.specs.Discipline.{Deed, Posts, Takes}
-use Rattle.mv_eventlaws.specs.Order.{MayCome, IsAnswered, AreInOrder}
+use Rattle.mv_eventlaws.specs.Order.{MayCome, IsAnswered, IsTableInOrder}
 use Rattle.mv_eventlaws.specs.Served.{Served, AreServed, is_block, IsElsewhere, IsElsewhereIfAny, PostsElsewhere, IsOther, Spares}
 use Rattle.mv_eventlaws.specs.Served.{deed_of, deeds_of, is_own}
 use Rattle.mv_script.proofs.Cutting.{cut_followed}
@@ -406,7 +406,7 @@ module _ (script : ScriptData) (moves : Moves) (es : List Entry) (sound : IsSoun
   their : (k : ℕ) → k < script.setup.callers → IsOfTask k (calls_of k)
   their k lt = chosen_is IsOfTask script.setup.callers [] of_task k lt
 
-  in_order : AreInOrder script.setup t (λ k. deeds_of t (calls_of k)) es
+  in_order : IsTableInOrder script.setup t (λ k. deeds_of t (calls_of k)) es
   in_order =
       let legal = run.finish.follow.legal in
       served_in_order script.setup t calls_of es sound_table legal

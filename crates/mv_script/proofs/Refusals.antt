@@ -14,7 +14,7 @@ use Rattle.mv_machine.specs.Check.{or_else}
 use Rattle.mv_machine.specs.Kept.{keeps_quotas}
 use Rattle.mv_machine.specs.Setup.{Setup}
 use Rattle.mv_calls.specs.declared.table.Table.{Table}
-use Rattle.mv_calls.specs.Events.{Entering, Finding, EnteredAt, WasComplete, event_requestor, freed, entered, counted, event_posted}
+use Rattle.mv_calls.specs.Events.{Entering, Finding, EnteredAt, WasComplete, event_requestor, freed, entered, count_read, event_posted}
 use Rattle.mv_calls.specs.Events.{with_latch, post_event, handed_out, indexed, slot_found, next_event}
 use Rattle.mv_calls.specs.Keeping.{Kept}
 use Rattle.mv_calls.specs.LatchCalls.{Requested, GrantedAs, PendingAs, confirmed, obtained, obtain, release_latch}
@@ -116,7 +116,7 @@ module _ (c : Setup) (t : Table) where
         write.goes_on in
         when_freed id (Ok (EnteredAt k)) _ tell.later tell.goes_on tt
 
-    when_counted : (index id k : ℕ) (kept : Kept) (hs : List Heard) → IsDoneOn (counted c t index id k kept) hs answer
+    when_counted : (index id k : ℕ) (kept : Kept) (hs : List Heard) → IsDoneOn (count_read c t index id k kept) hs answer
         → IfRefused RefusesPost answer
     when_counted index id k kept hs w = go (nat_lt k t.size) w where
       go : (b : Bool) → IsDoneOn ((if b then entered c t index id k else freed c t id (Err (refusal.Broken k))) kept) hs answer
@@ -125,9 +125,9 @@ module _ (c : Setup) (t : Table) where
       go false w = when_freed id (Err (refusal.Broken k)) kept hs w tt
 
     when_read : (index id : ℕ) (kept : Kept) (hs : List Heard)
-        → IsDoneOn (followed (read_volume t.volume) (counted c t index id) kept) hs answer → IfRefused RefusesPost answer
+        → IsDoneOn (followed (read_volume t.volume) (count_read c t index id) kept) hs answer → IfRefused RefusesPost answer
     when_read index id kept hs w =
-        let cut = cut_followed (read_volume t.volume) (counted c t index id) kept hs answer w in
+        let cut = cut_followed (read_volume t.volume) (count_read c t index id) kept hs answer w in
         when_counted index id cut.first _ cut.later cut.goes_on
 
     when_posted : (index id : ℕ) (p : PostAnswer) (kept : Kept) (hs : List Heard) → IsDoneOn (event_posted c t index id p kept) hs answer

@@ -6,7 +6,7 @@ use Rattle.mv_machine.specs.declared.entry.Entry.{Entry}
 use Rattle.mv_calls.specs.declared.table.Table.{Table}
 use Rattle.mv_eventlaws.specs.Completions.{Completion, completions}
 use Rattle.mv_eventlaws.specs.Discipline.{Deed}
-use Rattle.mv_eventlaws.specs.Order.{AreInOrder}
+use Rattle.mv_eventlaws.specs.Order.{IsTableInOrder}
 use Rattle.mv_script.specs.declared.answer.Answer.{Answer}
 use Rattle.mv_script.specs.declared.answer.Answer.TheVariants as answer
 use Rattle.mv_script.specs.declared.call.Call.{Call}
@@ -45,7 +45,7 @@ AreToldInOrder done [] [] = Unit {0}
 AreToldInOrder done (c ∷ calls) (a ∷ answers) = IsToldInOrder done c a × AreToldInOrder done calls answers
 AreToldInOrder done calls answers = ⊥
 
--- no deeds: `AreInOrder` relates deeds to the table, and here the answers, in `told` below, take their place
+-- no deeds: `IsTableInOrder` relates deeds to the table, and here the answers, in `told` below, take their place
 abbrev pub no_deeds : ℕ → List Deed
 no_deeds k = []
 
@@ -54,7 +54,7 @@ no_deeds k = []
 pub record AreHandedOut (script : ScriptData) (answers : List (List Answer)) (es : List Entry) (t : Table) : Type 0 where
   pub told : (k : ℕ) → k < length script.tasks
       → AreToldInOrder (completions t es) (calls_at script k) (slice_index_or answers k [])
-  pub in_order : AreInOrder script.setup t no_deeds es
+  pub in_order : IsTableInOrder script.setup t no_deeds es
 
 -- the events of the script's table are handed out, if it has one
 abbrev pub EventsAreHandedOut : ScriptData → List (List Answer) → List Entry → Type 0
