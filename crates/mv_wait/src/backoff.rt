@@ -15,8 +15,9 @@ const SPINS: u32 = 131;
 // Each step spins twice as many rounds as the one before, up to 2 to this power.
 const LONGEST_SPIN: u32 = 4;
 
-// The steps of a wait that yield the processor, after those that spin. They take about as long again, if no other program runs.
-const YIELDS: u32 = 30;
+// The steps of a wait that yield the processor, after those that spin. They take about twice as long, if no other program
+// runs.
+const YIELDS: u32 = 60;
 
 // The first step that parks; all later steps park too.
 const PARKS: u32 = SPINS + YIELDS;
