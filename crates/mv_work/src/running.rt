@@ -51,7 +51,7 @@ pub(crate) enum Did {
     Went,
     /// The job has ended with this code.
     Ended(u32),
-    /// It obtains this latch.
+    /// The job asks for this latch in this mode.
     Asks(u32, Mode),
 }
 

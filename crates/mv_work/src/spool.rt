@@ -116,6 +116,7 @@ impl<'a, G> Spool<'a, G> {
         ensures own { MayMeet self.now.board.config scheduler (need.Block result) }
         ensures cost { reach self.now.board.config result ≡ 1 }
     {
+        // Reading a field makes the facts of the spool known here; `jobs` reads one.
         let _ = self.jobs();
         entered(job)
     }

@@ -58,7 +58,7 @@ pub(crate) struct Running {
     pub job: u32,
     /// The place of the next step in the job, from 0.
     pub step: usize,
-    /// The latch that it obtains.
+    /// The latch that it waits for, at the stage `Latch`.
     pub latch: u32,
     /// The requests that the job last had at each latch.
     pub requests: [Option<LatchToken>; VOLUME_COUNT],
