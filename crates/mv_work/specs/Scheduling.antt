@@ -1,5 +1,5 @@
 -- The scheduler, wait by wait.
-use Rattle.std.specs.Prelude.{◌≡◌, ℕ, ◌+◌, ◌-◌, ◌*◌, ◌<◌, ◌≤◌, Bool, List, [], length, drop, map, Option, Some, None, Result}
+use Rattle.std.specs.Prelude.{◌≡◌, ℕ, ◌+◌, ◌-◌, ◌*◌, ◌<◌, Bool, List, [], length, drop, map, Option, Some, None, Result}
 use Rattle.std.specs.List.{range_with_len}
 use Rattle.mv_board.specs.Faces.{CallerFace}
 use Rattle.mv_calls.specs.Program.{Call, accepted, finished, followed, for_each}

@@ -1,5 +1,5 @@
 //! An initiator: runs the jobs that it is given, and notes what they do. Clauses cite the plan's `SpoolTasks.antt`, and
-//! `specs/Waiting.antt`, `specs/Noting.antt` and `specs/Initiating.antt`.
+//! `specs/Works.antt`, `specs/Noting.antt` and `specs/Initiating.antt`.
 //!
 //! ```text
 //!   begin ── allocates an element ──> Pause(0)

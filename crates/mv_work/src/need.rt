@@ -1,4 +1,4 @@
-//! What a task waits for, and the answer that it is resumed with. Clauses cite `specs/Needs.antt`.
+//! What a task waits for, and the answer that it is resumed with. `specs/Needs.antt` says which call each need is.
 //!
 //! ```text
 //!   Blocks ──> Slots      Block ──> Code      Pause ──> Given      Latch ──> Granted

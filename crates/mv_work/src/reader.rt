@@ -1,14 +1,12 @@
-//! The reader: enters each job, in the order of the deck. Clauses cite the plan's `SpoolTasks.antt`, and `specs/Ran.antt`.
+//! The reader: enters each job, in the order of the deck. Clauses cite `specs/Works.antt`.
 //!
 //! ```text
 //!   begin ──> post entered(0) ──> post entered(1) ──> ... ──> done
 //! ```
 
-ghost use Rattle.std.specs.Prelude.{[], length, None, Ok};
+ghost use Rattle.std.specs.Prelude.{None, Ok};
 ghost use Rattle.mv_board.specs.Faces.{IsFresh};
 ghost use Rattle.mv_plan.specs.SpoolSetup.{reader};
-ghost use Rattle.mv_plan.specs.SpoolTasks.{reading};
-ghost use Rattle.mv_work.specs.Ran.{RanOut};
 ghost use Rattle.mv_work.specs.Works.{HasComeAs};
 ghost use Rattle.mv_work.specs.declared.work.Role.TheVariants as role;
 

@@ -1,5 +1,5 @@
 //! The scheduler: hands each job, in the order of the deck, to the lowest initiator that is idle, once the jobs that it waits for
-//! have ended; then dismisses the initiators. Clauses cite the plan's `SpoolTasks.antt`, and `specs/Waiting.antt` and
+//! have ended; then dismisses the initiators. Clauses cite the plan's `SpoolTasks.antt`, and `specs/Works.antt` and
 //! `specs/Scheduling.antt`.
 //!
 //! ```text

@@ -1,4 +1,4 @@
-//! The writer: waits for the end of each job, in the order of the deck, and keeps it. Clauses cite `specs/Waiting.antt` and
+//! The writer: waits for the end of each job, in the order of the deck, and keeps it. Clauses cite `specs/Works.antt` and
 //! `specs/Writing.antt`.
 //!
 //! ```text
