@@ -1,7 +1,8 @@
-use Rattle.std.proofs.Common.{◌≡◌, ℕ, ◌<◌, ◌≤◌, List, length, refl, sym, ap, ◌∙◌, subst, arith}
+use Rattle.std.proofs.Common.{◌≡◌, ℕ, ◌*◌, ◌<◌, List, length, refl, sym, ap, ◌∙◌, subst, arith}
 use Rattle.std.specs.List.{AllByRecursion}
 use Rattle.arrayvec.proofs.ArrayVecLemmas.{items-with_items}
 use Rattle.mv_wait.specs.declared.waiting.WaitSlot.{WaitSlot}
+use Rattle.mv_wait.specs.Run.{MayCall}
 use Rattle.mv_work.specs.declared.need.Need.{Need}
 use Rattle.mv_work.specs.Needs.{need_events}
 use Rattle.mv_work.proofs.Meeting.{met}
@@ -24,11 +25,10 @@ wait-requires-clause-out g c =
     let there = ap (λ (xs : List ℕ). length xs) c.deref.ensures.0 in
     omega arith
 
-pub wait-requires-clause-left : goal.wait-requires-clause-left
-wait-requires-clause-left g c =
-    let left = subst (λ (n : Need). need_events n ≤ c.args.task.now.left) c.in-Blocks.is c.requires.rests.left in
-    let there = ap (λ (xs : List ℕ). length xs) c.deref.ensures.0 in
-    omega arith
+pub wait-requires-clause-task : goal.wait-requires-clause-task
+wait-requires-clause-task g c =
+    let may = subst (λ (n : Need). MayCall c.args.station.now (need_events n) c.args.task.now) c.in-Blocks.is c.requires.task in
+    subst (λ (es : List ℕ). MayCall c.args.station.now (2 * length es) c.args.task.now) (sym c.deref.ensures.0) may
 
 pub returns-in-Ok : goal.returns-in-Ok
 returns-in-Ok g c =

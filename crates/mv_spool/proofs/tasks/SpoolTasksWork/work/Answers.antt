@@ -1,4 +1,4 @@
-use Rattle.std.proofs.Common.{◌≡◌, ◌+◌, Ok, refl, ap, subst, arith}
+use Rattle.std.proofs.Common.{◌≡◌, Ok, refl, ap, subst, arith}
 use Rattle.mv_board.specs.Faces.{CallerFace, IsFresh, IsOf}
 use Rattle.mv_deck.specs.Deck.{deck_data}
 use Rattle.mv_machine.specs.Setup.{Setup}
