@@ -125,8 +125,9 @@ fn await_blocks<R: Wait>(
     match call.poll(station, rt, task) {
         Turn::Pending => Turn::Pending,
         Turn::Ready(Ok(())) => {
-            let mut found = ArrayVec::new();
-            let _fits = found.try_extend_from_slice(call.slots());
+            let Ok(found) = ArrayVec::try_from(call.slots()) else {
+                unreachable!()
+            };
             Turn::Ready(Ok(Got::Slots(found)))
         }
         Turn::Ready(Err(_)) => Turn::Ready(Err(Lost)),

@@ -1,4 +1,4 @@
-use Rattle.std.proofs.Common.{◌≡◌, ℕ, List, length, refl, sym, ap, ◌∙◌, subst, arith}
+use Rattle.std.proofs.Common.{ℕ, List, length, refl, sym, ap, ◌∙◌, subst, arith}
 use Rattle.mv_calls.specs.Program.{Done}
 use Rattle.mv_work.specs.declared.need.Need.TheVariants as need
 use Rattle.mv_work.specs.Needs.{Slots, need_call}
@@ -9,8 +9,18 @@ use Rattle.mv_work.proofs.Meeting.{met}
 use Rattle.mv_work.proofs.Runs.{served_few}
 use Rattle.mv_polled.proofs.meeting.await_blocks.Goals as goal
 
-pub returns-in-Ready-Ok-clause-turn : goal.returns-in-Ready-Ok-clause-turn
-returns-in-Ready-Ok-clause-turn g c b t does =
+pub unreachable-requires : goal.unreachable-requires
+unreachable-requires g c =
+    let stage = c.requires.stage in
+    let waited = rw c.in-Ready-Ok.field-0-is at c.in-Ready-Ok.ensures.turn stage.0 stage.1 in
+    let size = ap (λ (xs : List WaitSlot). length xs) c.slots.ensures ∙ waited.causes.2
+    ∙ ap (λ (xs : List ℕ). length xs) c.poll.ensures.call.1 in
+    let few = c.requires.few in
+    let full = c.in_default.ensures in
+    omega arith
+
+pub returns-in-Ok-clause-turn : goal.returns-in-Ok-clause-turn
+returns-in-Ok-clause-turn g c b t does =
     let config = c.args.station.now.config in
     let u = c.poll.new.task in
     let call = c.poll.ensures.call in
@@ -18,9 +28,7 @@ returns-in-Ready-Ok-clause-turn g c b t does =
     let es = call.1 ∙ does.1 in
     let slots = c.slots.ensures in
     let size = ap (λ (xs : List WaitSlot). length xs) slots ∙ waited.causes.2 ∙ ap (λ (xs : List ℕ). length xs) es in
-    let few = does.2 in
-    let none = ap (λ (xs : List WaitSlot). length xs) c.new-found.ensures in
-    let found : c.try_extend_from_slice.new.self.items ≡ c.slots.result.now = search rules in
+    let found = c.in-Ok.ensures.0 in
     let served = rw (call.0 ∙ does.0, es) at waited.served in (
       ap (λ (xs : List WaitSlot). length xs) found ∙ size,
       subst (λ (xs : List WaitSlot). Ran (need_call config (need.Blocks b)) (Done (Slots (slots_of xs))) t u)

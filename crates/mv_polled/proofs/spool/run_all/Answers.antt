@@ -6,9 +6,8 @@ use Rattle.mv_machine.specs.Setup.{Setup}
 use Rattle.mv_work.specs.Spool.{SpoolFace, spool_of}
 use Rattle.mv_work.specs.Works.{AreWorked}
 use Rattle.mv_work.proofs.Histories.{are_results, works_end}
-use Rattle.mv_work.specs.declared.work.SpoolWork.{SpoolWork}
 use Rattle.mv_polled.specs.Polled.{ArePolled}
-use Rattle.mv_polled.proofs.Running.{are_worked, polled_in_order, task_of, work_of}
+use Rattle.mv_polled.proofs.Running.{are_worked, polled_in_order, task_of}
 use Rattle.mv_polled.proofs.spool.run_all.Given as bound
 use Rattle.mv_polled.proofs.spool.run_all.Goals.{After-parted-tasks}
 use Rattle.mv_polled.proofs.spool.run_all.Goals as goal
