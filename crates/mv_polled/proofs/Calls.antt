@@ -1,26 +1,18 @@
 -- The call of a need, from its first poll to its answer.
-use Rattle.std.proofs.Common.{◌≡◌, ℕ, refl, sym, ap, subst}
+use Rattle.std.proofs.Common.{refl, sym, ap, subst}
 use Rattle.mv_board.specs.Faces.{BoardFace, CallerFace}
-use Rattle.mv_machine.specs.Setup.{Setup}
 use Rattle.mv_polled.specs.Waiting.{WaitFace, IsWaitAt}
 use Rattle.mv_polled.specs.Pausing.{PauseFace, IsPauseAt}
 use Rattle.mv_polled.specs.Obtaining.{ObtainFace, IsObtainAt}
 use Rattle.mv_polled.specs.declared.meeting.Call.{Call}
 use Rattle.mv_polled.specs.declared.meeting.Call.TheVariants as call
 use Rattle.mv_polled.specs.declared.meeting.Meeting.{Meeting}
-use Rattle.mv_polled.specs.Meeting.{IsCallOf, IsMeeting, IsNeed, IsTaken, IsTakenUp}
+use Rattle.mv_polled.specs.Meeting.{IsCallOf, IsMeeting, IsTaken, IsTakenUp}
 use Rattle.mv_work.specs.declared.need.Need.{Need}
 use Rattle.mv_work.specs.declared.need.Need.TheVariants as need
 use Rattle.mv_work.specs.Meeting.{MayMeet}
 use Rattle.mv_work.specs.Needs.{need_events}
 use Rattle.mv_wait.specs.Run.{MayCall}
-
--- a need that can be met fits a meeting
-pub need_fits : (c : Setup) (k : ℕ) (n : Need) → MayMeet c k n → IsNeed n
-need_fits c k (need.Blocks b) may = may.0
-need_fits c k (need.Block e) may = tt
-need_fits c k (need.Pause token) may = tt
-need_fits c k (need.Latch latch requestor mode) may = tt
 
 taken_meets : (b : BoardFace) (n : Need) (k : Call) (w : WaitFace) (u : CallerFace) → MayCall b (need_events n) u
     → MayMeet b.config u.number n → IsTaken n k w → IsCallOf b.config n k w u u

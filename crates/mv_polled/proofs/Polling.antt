@@ -1,13 +1,12 @@
 -- A task that is polled, from one state to the next.
 use Rattle.std.proofs.Common.{◌≡◌, ℕ, Option, Some, None, Result, Ok, Err, sym, subst}
-use Rattle.std.specs.Prelude.{IfOk, IfSome}
 use Rattle.mv_board.specs.Faces.{CallerFace, IsSame}
 use Rattle.mv_plan.specs.SpoolSetup.{spool_setup}
 use Rattle.mv_polled.specs.declared.polled.Polled.{Polled}
 use Rattle.mv_polled.specs.declared.polled.State.TheVariants.{New, Waits}
-use Rattle.mv_polled.specs.Meeting.{IsMeeting, IsNeed}
+use Rattle.mv_polled.specs.Meeting.{IsMeeting}
 use Rattle.mv_polled.specs.Polled.{HasTakenUp, IsPolled, Stands}
-use Rattle.mv_polled.proofs.Calls.{need_fits, new_meets}
+use Rattle.mv_polled.proofs.Calls.{new_meets}
 use Rattle.mv_wait.proofs.Runs.{same_caller}
 use Rattle.mv_work.specs.declared.lost.Lost.{Lost}
 use Rattle.mv_work.specs.declared.need.Need.{Need}
@@ -26,14 +25,7 @@ pub record IsAtCall (s : SpoolFace) (t : CallerFace) (p : Polled) : Type 0 where
   pub meeting : IsMeeting s.board.config need p.meeting began p.task
 
 module _ (s : SpoolFace) (config : s.board.config ≡ spool_setup s.jobs s.initiators) where
-  -- what a task has come to fits a meeting
-  pub fits : (w : SpoolWork) (next : Result (Option Need) Lost) (t u : CallerFace) → HasCome s w t next u
-      → IfOk next (λ need. IfSome need IsNeed)
-  fits w (Ok (Some n)) t u come = need_fits s.board.config u.number n (waits_ready s t n u w.role config come).may
-  fits w (Ok None) t u come = tt
-  fits w (Err lost) t u come = tt
-
-  -- and stands so once it is taken up
+  -- what holds of a task once it has taken up its next call
   pub stands_next : (k : ℕ) (t : CallerFace) (p : Polled) (next : Result (Option Need) Lost) {w : SpoolWork} {u : CallerFace}
       → (p.task ≡ u) × (p.work ≡ w)
       → HasCome s w t next u → HasTakenUp next p.state p.meeting → Stands s k t p p.state

@@ -19,13 +19,6 @@ use Rattle.mv_work.specs.Needs.{most_blocks}
 abbrev pub HasRoom : Meeting → Type 0
 HasRoom m = m.wait.room ≡ most_blocks
 
--- the need is for no more blocks than a task may wait for
-abbrev pub IsNeed : Need → Type 0
-IsNeed (need.Blocks b) = length b.ecbs.items ≤ most_blocks
-IsNeed (need.Block e) = Unit {0}
-IsNeed (need.Pause token) = Unit {0}
-IsNeed (need.Latch latch requestor mode) = Unit {0}
-
 -- the call for this need was taken up, and was not polled yet
 abbrev pub IsTaken : Need → Call → WaitFace → Type 0
 IsTaken (need.Blocks b) call.Wait w = w ≡ new_wait most_blocks b.count b.ecbs.items

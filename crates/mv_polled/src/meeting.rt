@@ -8,7 +8,7 @@ ghost use Rattle.mv_polled.specs.Obtaining.{IsObtainAt};
 ghost use Rattle.mv_polled.specs.Pausing.{IsPauseAt};
 ghost use Rattle.mv_polled.specs.Turn.{MatchTurn};
 ghost use Rattle.mv_polled.specs.Waiting.{IsWaitAt};
-ghost use Rattle.mv_polled.specs.Meeting.{HasRoom, IsMeeting, IsNeed, IsTakenUp, IsWaitFor, IsBlockFor, IsPauseFor, IsObtainFor};
+ghost use Rattle.mv_polled.specs.Meeting.{HasRoom, IsMeeting, IsTakenUp, IsWaitFor, IsBlockFor, IsPauseFor, IsObtainFor};
 ghost use Rattle.mv_work.specs.Meeting.{IsMet};
 ghost use Rattle.mv_work.specs.Needs.{most_blocks};
 ghost use Rattle.mv_work.specs.declared.need.Blocks.{Blocks as BlocksValue};
@@ -61,7 +61,6 @@ impl Meeting {
     /// Takes up the call for this need, without a poll. It takes no memory.
     pub(crate) fn take_up(&mut self, need: Need)
         requires room { HasRoom self.old }
-        requires need { IsNeed need }
         ensures room { HasRoom self.new }
         ensures taken { IsTakenUp need self.new }
     {

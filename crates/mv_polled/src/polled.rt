@@ -1,9 +1,9 @@
 //! A polled task. Clauses cite `specs/Polled.antt`.
 
-ghost use Rattle.std.specs.Prelude.{◌≡◌, ◌<◌, ◌≤◌, ◌+◌, ℕ, IfSome, IfOk};
+ghost use Rattle.std.specs.Prelude.{◌≡◌, ◌<◌, ◌≤◌, ◌+◌, ℕ, IfOk};
 ghost use Rattle.mv_deck.specs.Deck.{deck_data};
 ghost use Rattle.mv_deck.specs.Weight.{most_initiators};
-ghost use Rattle.mv_polled.specs.Meeting.{HasRoom, IsNeed};
+ghost use Rattle.mv_polled.specs.Meeting.{HasRoom};
 ghost use Rattle.mv_polled.specs.Polled.{HasTakenUp, IsPolled, IsUnpolled, is_finished};
 ghost use Rattle.mv_polled.specs.declared.polled.State.TheVariants as state;
 ghost use Rattle.mv_work.specs.Spool.{IsSpool};
@@ -130,7 +130,6 @@ impl Polled {
     // Takes up the call of what the task waits for next. A task that is done or lost is finished.
     fn take_up(&mut self, next: Result<Option<Need>, Lost>)
         requires room { HasRoom self.old.meeting }
-        requires need { IfOk next (λ need. IfSome need IsNeed) }
         ensures same { (self.new.task ≡ self.old.task) × (self.new.work ≡ self.old.work) }
         ensures room { HasRoom self.new.meeting }
         ensures taken { HasTakenUp next self.new.state self.new.meeting }

@@ -1,7 +1,7 @@
 use Rattle.std.proofs.Common.{sym, subst}
 use Rattle.mv_polled.specs.declared.polled.Polled.{Polled}
 use Rattle.mv_polled.specs.Polled.{IsPolled, Stands}
-use Rattle.mv_polled.proofs.Polling.{fits, stands_next, waits}
+use Rattle.mv_polled.proofs.Polling.{stands_next, waits}
 use Rattle.mv_wait.proofs.Runs.{same_then}
 use Rattle.mv_work.specs.Works.{WasTold}
 use Rattle.mv_work.proofs.Runs.{still_of}
@@ -68,12 +68,6 @@ told g c k is =
 pub go_on-next-requires : goal.go_on-next-requires
 go_on-next-requires g c =
     let p = c.requires.polled in record { told = (p.2.new, told g (goal.at.go_on-next-requires g c).In-Ready-Ok p.0 p.2) }
-
-pub take_up-requires-clause-need : goal.take_up-requires-clause-need
-take_up-requires-clause-need g c =
-    let p = c.requires.polled in
-    fits c.args.spool.now c.requires.spool.config c.go_on-next.new.self c.go_on-next.result p.2.new c.go_on-next.new.task
-    (c.go_on-next.ensures p.2.new (told g (goal.at.take_up-requires-clause-need g c).In-Ready-Ok p.0 p.2))
 
 pub returns-in-Ready-Ok : goal.returns-in-Ready-Ok
 returns-in-Ready-Ok g c = record {

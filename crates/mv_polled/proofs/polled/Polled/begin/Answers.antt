@@ -1,6 +1,6 @@
 use Rattle.std.proofs.Common.{sym, subst}
 use Rattle.mv_board.specs.Faces.{CallerFace, IsFresh}
-use Rattle.mv_polled.proofs.Polling.{fits, new_stands, stands_next}
+use Rattle.mv_polled.proofs.Polling.{new_stands, stands_next}
 use Rattle.mv_work.specs.Works.{HasCome}
 use Rattle.mv_polled.proofs.polled.Polled.begin.Goals as goal
 
@@ -24,13 +24,8 @@ begin-next-requires-clause-new g c =
     let was = new_stands c.args.spool.now c.requires.spool.config p.0 c.args.self.now p.2 c.requires.new in
     rw (was.0, p.2.fresh.number) was.1
 
-pub take_up-requires-clause-room : goal.take_up-requires-clause-room
-take_up-requires-clause-room g c = c.requires.polled.2.room
-
-pub take_up-requires-clause-need : goal.take_up-requires-clause-need
-take_up-requires-clause-need g c =
-    fits c.args.spool.now c.requires.spool.config c.begin-next.new.self c.begin-next.result c.args.self.now.task
-    c.begin-next.new.task c.begin-next.ensures
+pub take_up-requires : goal.take_up-requires
+take_up-requires g c = record { room = c.requires.polled.2.room }
 
 pub returns : goal.returns
 returns g c = record {
