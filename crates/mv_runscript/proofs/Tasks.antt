@@ -30,7 +30,7 @@ abbrev pub answers_of : Room → List Answer
 answers_of r = r.answers.items
 
 -- a history is a run of a script, in which each call answered so
-pub record IsRunOf (script : ScriptData) (lists : List (List Answer)) (es : List Entry) : Type 0 where
+pub record IsRunBy (script : ScriptData) (lists : List (List Answer)) (es : List Entry) : Type 0 where
   pub run : IsScriptRun script (moves_in lists) es
   pub answers : lists ≡ script_answers script (moves_in lists) es
 
@@ -102,9 +102,9 @@ module _ (b : BoardFace) (table : Option Table) (calls : List (List Call)) (es :
             ∙ ap (λ m. task_answers script moves es m) (let e : k ≡ 0 + k = omega arith in e)
 
   -- the history that they made is a run, whose answers are theirs; there is a first room to read
-  pub run_made : IsRunOf script lists es
+  pub run_made : IsRunBy script lists es
   run_made = first rooms refl where
-    first : (rs : List Room) → rs ≡ rooms → IsRunOf script lists es
+    first : (rs : List Room) → rs ≡ rooms → IsRunBy script lists es
     first [] is =
         let e = ap (λ (rs : List Room). length rs) is in
         let some = sound.some in absurd (omega arith)

@@ -4,3 +4,5 @@ pub mod Served
 pub mod Making
 -- what each task has besides its seat
 pub mod Rooms
+-- the outcome of a run
+pub mod RunOf

@@ -1,14 +1,11 @@
-//! The run of a script. Clauses cite `Run.antt` of mv_script, `Orderly.antt` of mv_machine, and `specs/Rooms.antt`.
+//! The run of a script. Clauses cite `specs/RunOf.antt` and `specs/Rooms.antt`.
 
-ghost use Rattle.std.specs.Prelude.{◌≡◌, ◌≤◌, [], All, length, map, vec_capacity, IfOk, OnOk};
+ghost use Rattle.std.specs.Prelude.{◌≡◌, ◌≤◌, [], length, map, vec_capacity, IfOk};
 ghost use Rattle.mv_machine.specs.Check.{IsValid};
-ghost use Rattle.mv_machine.specs.Limits.{events_limit, highest_place};
-ghost use Rattle.mv_machine.specs.Orderly.{IsOrderly};
-ghost use Rattle.mv_script.specs.Events.{EventsAreHandedOut};
-ghost use Rattle.mv_script.specs.Run.{IsScriptRun, script_answers, moves_in};
 ghost use Rattle.mv_script.specs.Script.{script_data};
 ghost use Rattle.mv_script.specs.Sound.{IsSound};
 ghost use Rattle.mv_runscript.specs.Rooms.{script_with};
+ghost use Rattle.mv_runscript.specs.RunOf.{IsScriptRunOf};
 
 use crate::making::Making;
 use crate::room::{Room, rooms_for};
@@ -46,17 +43,7 @@ pub fn run_script<R: Threads + Wait + Clock + Sync>(
     script: &Script,
 ) -> Result<ScriptRun, NoMemory>
     requires { IsSound (script_data script.now) }
-    ensures config { IfOk result (λ run. run.history.config ≡ script.now.config) }
-    ensures whole { IfOk result (λ run. run.history.past ≡ []) }
-    ensures valid { OnOk result (IsValid script.now.config) }
-    ensures run { IfOk result (λ run. IsScriptRun (script_data script.now) (moves_in run.answers.items) run.history.coming) }
-    ensures orderly { IfOk result (λ run. IsOrderly script.now.config run.history.coming) }
-    ensures answers { IfOk result (λ run. run.answers.items
-        ≡ script_answers (script_data script.now) (moves_in run.answers.items) run.history.coming) }
-    // If the script has a table, its events are handed out once each, in the order of their completion.
-    ensures events { IfOk result (λ run. EventsAreHandedOut (script_data script.now) run.answers.items run.history.coming) }
-    ensures few { IfOk result (λ run. length run.history.coming ≤ events_limit) }
-    ensures places { IfOk result (λ run. All (λ e. e.place ≤ highest_place) run.history.coming) }
+    ensures { IfOk result (IsScriptRunOf (script_data script.now)) }
 {
     let config = copy_config(alloc, &script.config)?;
     run_station(rt, alloc, config, &script.table, &script.tasks)
@@ -71,17 +58,8 @@ fn run_station<R: Threads + Wait + Clock + Sync>(
     tasks: &[CallList],
 ) -> Result<ScriptRun, NoMemory>
     requires sound { IsSound (script_with config table.now tasks.now) }
-    ensures config { IfOk result (λ run. run.history.config ≡ config) }
-    ensures whole { IfOk result (λ run. run.history.past ≡ []) }
-    ensures run { IfOk result (λ run. IsScriptRun (script_with config table.now tasks.now) (moves_in run.answers.items)
-        run.history.coming) }
-    ensures orderly { IfOk result (λ run. IsOrderly config run.history.coming) }
-    ensures answers { IfOk result (λ run. run.answers.items
-        ≡ script_answers (script_with config table.now tasks.now) (moves_in run.answers.items) run.history.coming) }
-    ensures events { IfOk result (λ run. EventsAreHandedOut (script_with config table.now tasks.now)
-        run.answers.items run.history.coming) }
-    ensures few { IfOk result (λ run. length run.history.coming ≤ events_limit) }
-    ensures places { IfOk result (λ run. All (λ e. e.place ≤ highest_place) run.history.coming) }
+    requires valid { IsValid config }
+    ensures { IfOk result (IsScriptRunOf (script_with config table.now tasks.now)) }
 {
     let lists = Vec::with_capacity(alloc, tasks.len())?;
     let rooms = rooms_for(alloc, tasks)?;

@@ -9,7 +9,7 @@ use Rattle.mv_script.specs.Sound.{IsSound}
 use Rattle.mv_script.proofs.HandedOut.{handed_out}
 use Rattle.mv_runscript.specs.Rooms.{script_with}
 use Rattle.mv_runscript.proofs.Scripts.{task_count}
-use Rattle.mv_runscript.proofs.Tasks.{IsRunOf, answers_of, run_made}
+use Rattle.mv_runscript.proofs.Tasks.{IsRunBy, answers_of, run_made}
 use Rattle.mv_runscript.proofs.run.run_station.Goals.{After-lists_of}
 use Rattle.mv_runscript.proofs.run.run_station.Goals as goal
 
@@ -26,7 +26,7 @@ run_tasks-requires-clause-start g c κ lives k s lt =
     )
 
 -- the history that they made is a run, whose answers are theirs
-made : (g : _) (c : After-lists_of g) → IsRunOf (script_with c.args.config c.args.table.now c.args.tasks.now) c.lists_of.result.items
+made : (g : _) (c : After-lists_of g) → IsRunBy (script_with c.args.config c.args.table.now c.args.tasks.now) c.lists_of.result.items
     c.close-closed.result.history.coming
 made g c =
     let b = c.in_ok-station.station in
@@ -37,31 +37,29 @@ made g c =
     let new = c.in_ok-rooms.ensures.count in
     let config = c.in_ok-station.ensures.config in
     let sound = subst (λ s. IsSound (script_with s c.args.table.now calls)) (sym config) c.requires.sound in
-    subst (λ lists. IsRunOf (script_with c.args.config c.args.table.now calls) lists es) (sym c.lists_of.ensures)
-    (subst (λ s. IsRunOf (script_with s c.args.table.now calls) (map answers_of rooms) es) config
+    subst (λ lists. IsRunBy (script_with c.args.config c.args.table.now calls) lists es) (sym c.lists_of.ensures)
+    (subst (λ s. IsRunBy (script_with s c.args.table.now calls) (map answers_of rooms) es) config
     (run_made b c.args.table.now calls es c.in_ok-ended.ended.items rooms sound c.close-closed.ensures.legal
     c.close-closed.ensures.callers (back.all ∙ task_count b.config c.args.table.now calls sound) (back.rooms ∙ new)
     (λ k r t lt. back.done k r t (omega arith))))
 
-pub returns-clause-run : goal.returns-clause-run
-returns-clause-run g c = (made g (goal.at.returns-clause-run g c).After-lists_of).run
-
-pub returns-clause-answers : goal.returns-clause-answers
-returns-clause-answers g c = (made g (goal.at.returns-clause-answers g c).After-lists_of).answers
-
-pub returns-clause-events : goal.returns-clause-events
-returns-clause-events g c =
-    let m = made g (goal.at.returns-clause-events g c).After-lists_of in
+pub returns : goal.returns
+returns g c =
+    let m = made g (goal.at.returns g c).After-lists_of in
+    let closed = c.close-closed.ensures in
+    let station = c.in_ok-station.station.config in
+    let config = c.in_ok-station.ensures.config in
     let script = script_with c.args.config c.args.table.now c.args.tasks.now in
-    let es = c.close-closed.result.history.coming in
-    subst (λ lists. EventsAreHandedOut script lists es) (sym m.answers)
-    (handed_out script (moves_in c.lists_of.result.items) es c.requires.sound m.run)
-
-pub returns-clause-orderly : goal.returns-clause-orderly
-returns-clause-orderly g c =
-    let es = c.close-closed.result.history.coming in
-    history_is_orderly c.args.config es (subst (λ (s : Setup). Legal s es) c.in_ok-station.ensures.config c.close-closed.ensures.legal)
-
-pub returns-clause-places : goal.returns-clause-places
-returns-clause-places g c =
-    entries_fit c.in_ok-station.station.config c.close-closed.result.history.coming c.close-closed.ensures.legal c.close-closed.ensures.few
+    let es = c.close-closed.result.history.coming in record {
+      config = closed.config ∙ config;
+      whole = closed.whole;
+      valid = c.requires.valid;
+      run = m.run;
+      orderly = history_is_orderly c.args.config es (subst (λ (s : Setup). Legal s es) config closed.legal);
+      answers = m.answers;
+      events =
+          subst (λ lists. EventsAreHandedOut script lists es) (sym m.answers)
+          (handed_out script (moves_in c.lists_of.result.items) es c.requires.sound m.run);
+      few = closed.few;
+      places = entries_fit station es closed.legal closed.few;
+    }
