@@ -8,7 +8,7 @@ use Rattle.mv_deck.specs.EndCode.{highest_code, lowest_abend, not_run}
 use Rattle.mv_deck.specs.Operand.{is_name, highest_latch, highest_amount, most_after}
 use Rattle.mv_deck.specs.Deck.{JobData, place_of}
 use Rattle.mv_deck.specs.Held.{is_out_of_order, lacks_latch, is_end}
-use Rattle.mv_deck.specs.Weight.{weight, heaviest}
+use Rattle.mv_deck.specs.Weight.{weight, heaviest, most_initiators}
 
 -- each element of the second list may follow the first list and the elements before it, if `May before x` says that x may follow
 -- `before`
@@ -67,3 +67,9 @@ AreSoundJobs = EachBehind IsSoundJob
 pub record IsSound (jobs : List JobData) (initiators : ℕ) : Type 0 where
   pub jobs_stand : AreSoundJobs [] jobs
   pub light : weight jobs initiators ≤ heaviest
+
+-- this many initiators can run the deck: there are 1 to 8 of them, and the deck is sound for them
+pub record CanBeRun (jobs : List JobData) (initiators : ℕ) : Type 0 where
+  pub some : 1 ≤ initiators
+  pub few : initiators ≤ most_initiators
+  pub sound : IsSound jobs initiators

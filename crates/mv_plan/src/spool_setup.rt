@@ -4,7 +4,7 @@ ghost use Rattle.std.specs.Prelude.{◌≡◌, ◌<◌, ◌≤◌, ◌^◌, map,
 ghost use Rattle.std.specs.List.{range_with_len};
 ghost use Rattle.mv_machine.specs.Config.{exit_of};
 ghost use Rattle.mv_deck.specs.Deck.{job_data, deck_data};
-ghost use Rattle.mv_deck.specs.Sound.{IsSound};
+ghost use Rattle.mv_deck.specs.Sound.{CanBeRun};
 ghost use Rattle.mv_deck.specs.Weight.{step_events as events_of_step, all_events as events_of_jobs, after_parts as parts_of_jobs};
 ghost use Rattle.mv_deck.specs.Weight.{heaviest, most_initiators, weight};
 ghost use Rattle.mv_plan.specs.SpoolSetup.{jobs_limit, spool_setup, task_budgets, block_owners, end_exit};
@@ -122,9 +122,7 @@ fn exits_of(alloc: Global, jobs: u32) -> Result<Vec<Exit>, NoMemory>
 /// let config = spool_config(alloc, &deck, 2)?;
 /// ```
 pub fn spool_config(alloc: Global, deck: &Deck, initiators: u32) -> Result<ValidConfig, NoMemory>
-    requires some { 1 ≤ initiators }
-    requires few { initiators ≤ most_initiators }
-    requires sound { IsSound (deck_data deck.now) initiators }
+    requires runnable { CanBeRun (deck_data deck.now) initiators }
     ensures setup { IfOk result (λ config. config ≡ spool_setup (deck_data deck.now) initiators) }
 {
     let jobs = deck.jobs.len() as u32;

@@ -1,20 +1,14 @@
 //! The polled run of a deck. Clauses cite `SpoolRun.antt` of mv_plan, `Outcome.antt` of mv_report, and `specs/Polled.antt`.
 
-ghost use Rattle.std.specs.Prelude.{◌≡◌, ◌<◌, ◌≤◌, ◌+◌, false, [], All, length, map, take, slice_index_or, vec_capacity, IfOk};
+ghost use Rattle.std.specs.Prelude.{◌≡◌, ◌<◌, ◌≤◌, ◌+◌, false, [], length, map, take, slice_index_or, vec_capacity, IfOk};
 ghost use Rattle.std.specs.List.{AllByRecursion};
-ghost use Rattle.mv_calls.specs.Program.{Done};
-ghost use Rattle.mv_calls.specs.Runs.{left_in};
 ghost use Rattle.mv_deck.specs.Deck.{deck_data};
-ghost use Rattle.mv_deck.specs.Sound.{IsSound};
+ghost use Rattle.mv_deck.specs.Sound.{CanBeRun};
 ghost use Rattle.mv_deck.specs.Weight.{most_initiators};
-ghost use Rattle.mv_machine.specs.Limits.{events_limit, highest_place};
-ghost use Rattle.mv_plan.specs.SpoolRun.{IsRun};
-ghost use Rattle.mv_plan.specs.SpoolSetup.{jobs_limit, spool_setup, writer};
-ghost use Rattle.mv_plan.specs.SpoolTasks.{task_program};
+ghost use Rattle.mv_plan.specs.SpoolSetup.{jobs_limit, spool_setup};
 ghost use Rattle.mv_polled.specs.Polled.{ArePolled, IsPicked, IsUnpolled, is_finished, unfinished};
 ghost use Rattle.mv_polled.specs.declared.polled.Polled.{Polled as PolledValue};
-ghost use Rattle.mv_report.specs.Outcome.{ends, lines, totals};
-ghost use Rattle.mv_work.specs.Recording.{AreBrought, AreResults, all_records, lines_recorded};
+ghost use Rattle.mv_work.specs.Recording.{AreResults, IsRunOf};
 ghost use Rattle.mv_work.specs.Spool.{IsSpool, spool_of};
 
 use crate::order::Order;
@@ -197,9 +191,8 @@ fn run_tasks<R: Wait, O: Order>(
     initiators: u32,
     order: &mut O,
 ) -> Result<RunResults, NoMemory>
-    requires some { 1 ≤ initiators }
-    requires few { (initiators ≤ most_initiators) × (length (deck_data deck.now) ≤ jobs_limit) }
-    requires sound { IsSound (deck_data deck.now) initiators }
+    requires runnable { CanBeRun (deck_data deck.now) initiators }
+    requires few { length (deck_data deck.now) ≤ jobs_limit }
     requires config { config ≡ spool_setup (deck_data deck.now) initiators }
     ensures results { IfOk result (AreResults (deck_data deck.now) initiators) }
 {
@@ -227,23 +220,8 @@ pub fn run_polled<R: Wait, O: Order>(
     initiators: u32,
     order: &mut O,
 ) -> Result<SpoolRun, NoMemory>
-    requires some { 1 ≤ initiators }
-    requires few { initiators ≤ most_initiators }
-    requires sound { IsSound (deck_data deck.now) initiators }
-    ensures config { IfOk result (λ run. run.history.config ≡ spool_setup (deck_data deck.now) initiators) }
-    ensures whole { IfOk result (λ run. run.history.past ≡ []) }
-    ensures run { IfOk result (λ run. IsRun (deck_data deck.now) initiators run.history.coming) }
-    ensures few { IfOk result (λ run. length run.history.coming ≤ events_limit) }
-    ensures places { IfOk result (λ run. All (λ e. e.place ≤ highest_place) run.history.coming) }
-    ensures records { IfOk result (λ run. AreBrought (deck_data deck.now) initiators run.history.coming
-        (map (λ r. r.jobs) run.records.items)) }
-    ensures found { IfOk result (λ run. left_in (spool_setup (deck_data deck.now) initiators) (task_program (deck_data deck.now) initiators)
-        (writer initiators) run.history.coming ≡ Done run.ends.items) }
-    ensures noted { IfOk result (λ run. run.lines.items
-        ≡ lines_recorded (deck_data deck.now) (all_records (map (λ r. r.jobs) run.records.items))) }
-    ensures ends { IfOk result (λ run. run.ends.items ≡ ends (deck_data deck.now)) }
-    ensures lines { IfOk result (λ run. run.lines.items ≡ lines (deck_data deck.now)) }
-    ensures volumes { IfOk result (λ run. run.volumes.items ≡ totals (deck_data deck.now)) }
+    requires runnable { CanBeRun (deck_data deck.now) initiators }
+    ensures { IfOk result (IsRunOf (deck_data deck.now) initiators) }
 {
     let config = spool_config(alloc, deck, initiators)?;
     let results = run_tasks(rt, alloc, config, deck, initiators, order)?;

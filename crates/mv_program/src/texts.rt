@@ -1,17 +1,15 @@
 //! The two texts of a run: the report, made in memory, and the journal, ready to be written. Clauses cite specs/Texts and
 //! `Outcome.antt` of mv_report.
 
-ghost use Rattle.std.specs.Prelude.{◌≡◌, ◌≤◌, [], All, length, None, IfOk, IfErr};
+ghost use Rattle.std.specs.Prelude.{◌≡◌, ◌≤◌, length, None, IfOk, IfErr};
 ghost use Rattle.mv_deck.specs.Deck.{deck_data, deck_of};
 ghost use Rattle.mv_deck.specs.Fault.{first_fault};
 ghost use Rattle.mv_deck.specs.Load.{load_text};
 ghost use Rattle.mv_deck.specs.Sound.{IsSound};
-ghost use Rattle.mv_machine.specs.Limits.{events_limit, highest_place};
-ghost use Rattle.mv_plan.specs.SpoolRun.{IsRun};
-ghost use Rattle.mv_plan.specs.SpoolSetup.{spool_setup};
-ghost use Rattle.mv_report.specs.Outcome.{ends, lines, report, totals};
+ghost use Rattle.mv_report.specs.Outcome.{report};
 ghost use Rattle.mv_report.specs.Summary.{load_summary};
 ghost use Rattle.mv_deck.specs.Weight.{most_initiators};
+ghost use Rattle.mv_work.specs.Recording.{IsRunOf};
 ghost use Rattle.mv_program.specs.Command.{AreInitiators, AreJobs};
 ghost use Rattle.mv_script.specs.Fault as scripts;
 ghost use Rattle.mv_script.specs.Script.{script_data, script_of};
@@ -61,14 +59,7 @@ fn run_of<X: Threads + Wait + Clock + Sync, G: Gate + Sync>(
     requires some { 1 ≤ initiators }
     requires few { initiators ≤ most_initiators }
     requires sound { IsSound (deck_data deck.now) initiators }
-    ensures config { IfOk result (λ run. run.history.config ≡ spool_setup (deck_data deck.now) initiators) }
-    ensures whole { IfOk result (λ run. run.history.past ≡ []) }
-    ensures run { IfOk result (λ run. IsRun (deck_data deck.now) initiators run.history.coming) }
-    ensures few { IfOk result (λ run. length run.history.coming ≤ events_limit) }
-    ensures places { IfOk result (λ run. All (λ e. e.place ≤ highest_place) run.history.coming) }
-    ensures ends { IfOk result (λ run. run.ends.items ≡ ends (deck_data deck.now)) }
-    ensures lines { IfOk result (λ run. run.lines.items ≡ lines (deck_data deck.now)) }
-    ensures volumes { IfOk result (λ run. run.volumes.items ≡ totals (deck_data deck.now)) }
+    ensures { IfOk result (IsRunOf (deck_data deck.now) initiators) }
 {
     match way {
         Way::Threads => run_deck(host.rt, host.alloc, deck, initiators, host.gate),
@@ -149,7 +140,7 @@ pub(crate) fn texts_of_load<X: Threads + Wait + Clock + Sync, G: Gate + Sync>(
     ensures run { IfOk result (λ texts. IsJournalOfRun (deck_of (load_text jobs)) initiators texts.journal) }
 {
     let deck = deck_of_load(host.alloc, jobs, initiators)?;
-    let run = run_deck(host.rt, host.alloc, &deck, initiators, host.gate)?;
+    let run = run_of(host, &deck, initiators, Way::Threads)?;
     let report = write_summary(host.alloc, jobs, initiators, &run.ends, &run.volumes)?;
     let journal = HistoryText::open(host.alloc, run.history)?;
     Ok(Texts { report, journal })

@@ -1,17 +1,11 @@
 //! The run of a deck. Clauses cite `SpoolRun.antt` of mv_plan, `Outcome.antt` of mv_report, and `Recording.antt` of mv_work.
 
-ghost use Rattle.std.specs.Prelude.{◌≡◌, ◌<◌, ◌≤◌, ◌+◌, ℕ, [], All, length, map, slice_index_or, IfOk};
-ghost use Rattle.mv_calls.specs.Program.{Done};
-ghost use Rattle.mv_calls.specs.Runs.{left_in};
+ghost use Rattle.std.specs.Prelude.{◌≡◌, ◌<◌, ◌≤◌, ◌+◌, ℕ, length, slice_index_or, IfOk};
 ghost use Rattle.mv_deck.specs.Deck.{deck_data};
-ghost use Rattle.mv_deck.specs.Sound.{IsSound};
+ghost use Rattle.mv_deck.specs.Sound.{CanBeRun};
 ghost use Rattle.mv_deck.specs.Weight.{most_initiators};
-ghost use Rattle.mv_machine.specs.Limits.{events_limit, highest_place};
-ghost use Rattle.mv_plan.specs.SpoolRun.{IsRun};
-ghost use Rattle.mv_plan.specs.SpoolSetup.{jobs_limit, spool_setup, writer};
-ghost use Rattle.mv_plan.specs.SpoolTasks.{task_program};
-ghost use Rattle.mv_report.specs.Outcome.{ends, lines, totals};
-ghost use Rattle.mv_work.specs.Recording.{AreBrought, AreResults, all_records, lines_recorded};
+ghost use Rattle.mv_plan.specs.SpoolSetup.{jobs_limit, spool_setup};
+ghost use Rattle.mv_work.specs.Recording.{AreResults, IsRunOf};
 ghost use Rattle.mv_work.specs.Works.{IsNew};
 
 use crate::tasks::SpoolTasks;
@@ -52,9 +46,8 @@ fn run_station<R: Threads + Wait + Clock + Sync, G: Gate + Sync>(
     initiators: u32,
     gate: &G,
 ) -> Result<RunResults, NoMemory>
-    requires some { 1 ≤ initiators }
-    requires few { (initiators ≤ most_initiators) × (length (deck_data deck.now) ≤ jobs_limit) }
-    requires sound { IsSound (deck_data deck.now) initiators }
+    requires runnable { CanBeRun (deck_data deck.now) initiators }
+    requires few { length (deck_data deck.now) ≤ jobs_limit }
     requires config { config ≡ spool_setup (deck_data deck.now) initiators }
     ensures results { IfOk result (AreResults (deck_data deck.now) initiators) }
 {
@@ -96,23 +89,8 @@ pub fn run_deck<R: Threads + Wait + Clock + Sync, G: Gate + Sync>(
     initiators: u32,
     gate: &G,
 ) -> Result<SpoolRun, NoMemory>
-    requires some { 1 ≤ initiators }
-    requires few { initiators ≤ most_initiators }
-    requires sound { IsSound (deck_data deck.now) initiators }
-    ensures config { IfOk result (λ run. run.history.config ≡ spool_setup (deck_data deck.now) initiators) }
-    ensures whole { IfOk result (λ run. run.history.past ≡ []) }
-    ensures run { IfOk result (λ run. IsRun (deck_data deck.now) initiators run.history.coming) }
-    ensures few { IfOk result (λ run. length run.history.coming ≤ events_limit) }
-    ensures places { IfOk result (λ run. All (λ e. e.place ≤ highest_place) run.history.coming) }
-    ensures records { IfOk result (λ run. AreBrought (deck_data deck.now) initiators run.history.coming
-        (map (λ r. r.jobs) run.records.items)) }
-    ensures found { IfOk result (λ run. left_in (spool_setup (deck_data deck.now) initiators) (task_program (deck_data deck.now) initiators)
-        (writer initiators) run.history.coming ≡ Done run.ends.items) }
-    ensures noted { IfOk result (λ run. run.lines.items
-        ≡ lines_recorded (deck_data deck.now) (all_records (map (λ r. r.jobs) run.records.items))) }
-    ensures ends { IfOk result (λ run. run.ends.items ≡ ends (deck_data deck.now)) }
-    ensures lines { IfOk result (λ run. run.lines.items ≡ lines (deck_data deck.now)) }
-    ensures volumes { IfOk result (λ run. run.volumes.items ≡ totals (deck_data deck.now)) }
+    requires runnable { CanBeRun (deck_data deck.now) initiators }
+    ensures { IfOk result (IsRunOf (deck_data deck.now) initiators) }
 {
     let config = spool_config(alloc, deck, initiators)?;
     let results = run_station(rt, alloc, config, deck, initiators, gate)?;

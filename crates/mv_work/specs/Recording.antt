@@ -1,22 +1,23 @@
 -- What the records of all initiators come to. Of a run there is one of each job, and it is right; and records give lines.
-use Rattle.std.specs.Prelude.{◌≡◌, ℕ, ◌+◌, ◌<◌, ◌==◌, ◌≤◌, Bool, List, [], ◌∷◌, length, filter, flat_map, fold, map, replicate, set}
+use Rattle.std.specs.Prelude.{All, ◌≡◌, ℕ, ◌+◌, ◌<◌, ◌==◌, ◌≤◌, Bool, List, [], ◌∷◌, length, filter, flat_map, fold, map, replicate, set}
 use Rattle.std.specs.Prelude.{Option, Some, slice_get, slice_index_or}
 use Rattle.std.specs.List.{AllByRecursion}
 use Rattle.mv_board.specs.Faces.{AreHeld}
 use Rattle.mv_machine.specs.declared.entry.Entry.{Entry}
 use Rattle.mv_machine.specs.Legal.{after}
-use Rattle.mv_machine.specs.Limits.{events_limit}
+use Rattle.mv_machine.specs.Limits.{events_limit, highest_place}
 use Rattle.mv_calls.specs.Keeping.{nothing_kept}
 use Rattle.mv_calls.specs.Program.{Done, left}
 use Rattle.mv_calls.specs.Runs.{heard_in, left_in}
 use Rattle.mv_deck.specs.Deck.{JobData}
 use Rattle.mv_deck.specs.declared.deck.Step.{Step}
 use Rattle.mv_deck.specs.declared.deck.Step.TheVariants.{Print, Use, Free, Count, Scan, Abend, Return}
-use Rattle.mv_report.specs.Outcome.{print_line, scan_line, steps_with}
+use Rattle.mv_report.specs.Outcome.{ends as ends_of_deck, lines as lines_of_deck, print_line, scan_line, steps_with, totals}
 use Rattle.mv_plan.specs.Jobs.{job_at, end_of}
 use Rattle.mv_plan.specs.SpoolRun.{IsRun}
 use Rattle.mv_plan.specs.SpoolSetup.{spool_setup, initiator, writer}
 use Rattle.mv_plan.specs.SpoolTasks.{task_program}
+use Rattle.mv_work.specs.declared.closing.SpoolRun.{SpoolRun}
 use Rattle.mv_work.specs.declared.results.RunResults.{RunResults}
 use Rattle.mv_work.specs.declared.records.Noted.{Noted}
 use Rattle.mv_work.specs.declared.records.Noted.TheVariants.{Printed, Scanned}
@@ -107,3 +108,21 @@ with_record deck lines r = set lines r.job (lines_of_notes (job_at deck r.job).s
 -- the lines of each job by these records: a job without one has none
 abbrev pub lines_recorded : List JobData → List JobRecord → List (List (List ℕ))
 lines_recorded deck records = fold (with_record deck) (replicate (length deck) []) records
+
+-- ---- a run
+
+-- The outcome is one of a run of the deck by this many initiators. Its history is a run of the plan, of which no entry was read
+-- yet. Its records and its ends are what the tasks brought back of that history, and its lines are those of the records. Ends,
+-- lines and volumes are the deck's.
+pub record IsRunOf (deck : List JobData) (initiators : ℕ) (r : SpoolRun) : Type 0 where
+  pub config : r.history.config ≡ spool_setup deck initiators
+  pub whole : r.history.past ≡ []
+  pub run : IsRun deck initiators r.history.coming
+  pub few : length r.history.coming ≤ events_limit
+  pub places : All (λ e. e.place ≤ highest_place) r.history.coming
+  pub records : AreBrought deck initiators r.history.coming (map (λ j. j.jobs) r.records.items)
+  pub found : left_in (spool_setup deck initiators) (task_program deck initiators) (writer initiators) r.history.coming ≡ Done r.ends.items
+  pub noted : r.lines.items ≡ lines_recorded deck (all_records (map (λ j. j.jobs) r.records.items))
+  pub ends : r.ends.items ≡ ends_of_deck deck
+  pub lines : r.lines.items ≡ lines_of_deck deck
+  pub volumes : r.volumes.items ≡ totals deck

@@ -7,9 +7,9 @@ use Rattle.mv_polled.proofs.spool.run_tasks.Goals as goal
 
 pub run_all-requires-clause-spool : goal.run_all-requires-clause-spool
 run_all-requires-clause-spool g c = record {
-  few = c.requires.few.1;
-  initiators = c.requires.few.0;
-  sound = c.requires.sound;
+  few = c.requires.few;
+  initiators = c.requires.runnable.few;
+  sound = c.requires.runnable.sound;
   config = c.in_ok-station.ensures.config ∙ c.requires.config;
 }
 

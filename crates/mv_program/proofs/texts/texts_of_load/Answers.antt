@@ -19,8 +19,8 @@ use Rattle.mv_program.proofs.Runs.{legal_so, journal_of_run}
 use Rattle.mv_program.proofs.texts.texts_of_load.Goals as goal
 
 -- the deck that was read can be run
-pub run_deck-requires-clause-sound : goal.run_deck-requires-clause-sound
-run_deck-requires-clause-sound g c = λ κs live.
+pub run_of-requires-clause-sound : goal.run_of-requires-clause-sound
+run_of-requires-clause-sound g c = λ κs live.
     subst (λ (d : List JobData). IsSound d c.args.initiators) (sym c.in_ok-deck.ensures.deck)
     (sound (load_text c.args.jobs) c.args.initiators
     (no_fault c.args.jobs c.args.initiators c.requires.jobs.0 c.requires.jobs.1 c.requires.initiators.1))

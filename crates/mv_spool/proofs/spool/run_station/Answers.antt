@@ -37,7 +37,7 @@ returns g c =
     let results = c.results_of.ensures in
     record {
       results = are_results (spool_of c.in_ok-station.station (deck_data c.args.deck.now) c.args.initiators) c.in_ok-tasks.works.items
-          c.in_ok-tasks.tasks.items (worked g (goal.at.returns g c).In_ok-tasks) c.close.result c.requires.some c.requires.sound
+          c.in_ok-tasks.tasks.items (worked g (goal.at.returns g c).In_ok-tasks) c.close.result c.requires.runnable.some c.requires.runnable.sound
           (c.in_ok-station.ensures.config ∙ c.requires.config) closed.legal closed.callers c.results_of.result results.closed
           closed.config closed.whole closed.few closed.volumes results.records results.ends;
     }
