@@ -48,10 +48,10 @@ pub enum ObtainRefusal {
     #[error("the block to be posted is another caller's")]
     NotOwner,
     /// The task has as many standing requests as its quotas allow, of all forms together or of the Posted form.
-    #[error("as many requests of the task stand as may")]
+    #[error("the task has as many requests as its quotas allow")]
     Quota,
     /// The request of this number blocks the new one, and nothing was queued.
-    #[error("request {0} stands in the way")]
+    #[error("request {0} is in the way")]
     NotNow(u32),
     /// The request was queued, and a purge took it out before it was granted.
     #[error("the request was purged")]

@@ -44,7 +44,7 @@ pub enum WaitRefusal {
     #[error("the list is shorter than the count")]
     TooMany,
     /// The block at this position is also earlier in the list.
-    #[error("the block at position {0} stands earlier in the list")]
+    #[error("the block at position {0} is also earlier in the list")]
     Doubled(u32),
     /// The block at this position is another caller's.
     #[error("the block at position {0} is another caller's")]

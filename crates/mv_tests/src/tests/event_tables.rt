@@ -153,5 +153,5 @@ fn a_refusal_has_a_text(rt: HostRuntime) {
         &rt,
         "room for a text",
     );
-    assert!(rt; text.as_str() == "the slot was posted with 40, which is no event of the table");
+    assert!(rt; text.as_str() == "the slot was posted with 40, which is not an event of the table");
 }
