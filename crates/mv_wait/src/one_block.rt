@@ -23,10 +23,16 @@ impl Station {
     /// refused. It makes two events, which must be left. The task parks until the block is posted: not at all if the block is
     /// already complete, and for ever if no task posts it.
     ///
-    /// # Example
+    /// # Examples
+    ///
+    /// From `crates/mv_handover/src/handover.rt`, which takes the code of a block and zeroes it for its next use:
     ///
     /// ```
-    /// let code = station.wait_one(rt, task, 3);
+    /// let code = station.wait_one(rt, task, ecb);
+    /// let Ok(_) = station.clear(rt, task, ecb) else {
+    ///     unreachable!()
+    /// };
+    /// code
     /// ```
     pub fn wait_one<R: Wait + Clock>(&self, rt: &R, task: &mut Task, ecb: u32) -> u32
         requires task { MayCall self.now 2 task.old }

@@ -29,10 +29,15 @@ impl Station {
     /// `ValidConfig::reach` gives for the block; these must be left. It does not park, takes no memory and is never refused: the
     /// answer says whether the block took the code.
     ///
-    /// # Example
+    /// # Examples
+    ///
+    /// From `crates/mv_events/src/entering.rt`, which enters an event if this post completed it:
     ///
     /// ```
-    /// if let PostAnswer::Already(first) = station.post(rt, task, 3, 12) { .. }
+    /// match station.post(rt, task, table.event_ecb(index), code) {
+    ///     PostAnswer::Already(first) => Ok(EventAnswer::Already(first)),
+    ///     PostAnswer::Posted | PostAnswer::Woke => count(station, rt, task, table, index),
+    /// }
     /// ```
     pub fn post<R: Wait>(&self, rt: &R, task: &mut Task, ecb: u32, code: u32) -> PostAnswer
         requires task { MayCall self.now (reach self.now.config ecb) task.old }

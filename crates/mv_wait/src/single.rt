@@ -55,6 +55,17 @@ impl Station {
     /// # Errors
     ///
     /// `NotOwner` if the block is another caller's; then no event is made.
+    ///
+    /// # Examples
+    ///
+    /// From `crates/mv_server/src/server.rt`, before a worker is given work:
+    ///
+    /// ```
+    /// // The block is cleared first, because the worker may be idle again before the release returns.
+    /// let Ok(_) = station.clear(rt, task, worker) else {
+    ///     unreachable!()
+    /// };
+    /// ```
     pub fn clear<R: Wait>(&self, rt: &R, task: &mut Task, ecb: u32) -> Result<u32, NotOwner>
         requires task { MayCall self.now 1 task.old }
         requires block { ecb < length self.now.config.owners }
@@ -79,6 +90,16 @@ impl Station {
     ///
     /// The first refusal that applies, in the order of `ExtendRefusal`. Only `Complete` makes an event: it is the reply to that
     /// event.
+    ///
+    /// # Examples
+    ///
+    /// From `crates/mv_work/src/scheduler.rt`, where the exit of a job's block posts the blocks of the jobs that wait for that
+    /// job:
+    ///
+    /// ```
+    /// let done = self.done(job);
+    /// self.station.extend(rt, task, done, job + 1)?;
+    /// ```
     pub fn extend<R: Wait>(
         &self,
         rt: &R,
@@ -139,6 +160,18 @@ impl Station {
     /// # Errors
     ///
     /// `Moved(w)` if the word was `w` and not `expected`; then no event is made.
+    ///
+    /// # Examples
+    ///
+    /// From `crates/mv_runscript/src/trying.rt`, where `zero` is the word of a block that is zero and has had `place` events:
+    ///
+    /// ```
+    /// let zero = zero_at(place);
+    /// match station.try_post(task, ecb, zero, code) {
+    ///     Ok(outcome) => posted(outcome),
+    ///     Err(Moved(word)) => Answer::Moved(word),
+    /// }
+    /// ```
     pub fn try_post(
         &self,
         task: &mut Task,
@@ -162,6 +195,15 @@ impl Station {
     /// Returns the fullword of a block of any caller: wait bit 2^31, completion bit 2^30, and the code or the exit below.
     ///
     /// The call makes one event, which must be left, and never waits.
+    ///
+    /// # Examples
+    ///
+    /// From `crates/mv_events/src/handing_out.rt`, which returns the word of a complete block:
+    ///
+    /// ```
+    /// let word = station.test_ecb(task, table.event_ecb(index));
+    /// Ok(Event { index, word })
+    /// ```
     pub fn test_ecb(&self, task: &mut Task, ecb: u32) -> u32
         requires task { MayCall self.now 1 task.old }
         requires block { ecb < length self.now.config.owners }
@@ -174,6 +216,19 @@ impl Station {
     /// Returns the number of 32 bits in a volume. Any task may read it.
     ///
     /// The call makes one event, which must be left, and never waits.
+    ///
+    /// # Examples
+    ///
+    /// From `crates/mv_permits/src/permits.rt`, under a latch that the task holds:
+    ///
+    /// ```
+    /// let out = station.read_volume(task, OUT);
+    /// if out >= PERMITS {
+    ///     return false;
+    /// }
+    /// station.write_volume(rt, task, OUT, out + 1);
+    /// true
+    /// ```
     pub fn read_volume(&self, task: &mut Task, volume: u32) -> u32
         requires task { MayCall self.now 1 task.old }
         requires volume { volume < self.now.config.volumes }
@@ -187,6 +242,16 @@ impl Station {
     ///
     /// A read and a write are two events, between which other tasks may write; use a latch to keep them out. The call makes one
     /// event, which must be left, and does not park.
+    ///
+    /// # Examples
+    ///
+    /// From `crates/mv_cache/src/cache.rt`, a pair of numbers under a latch that the task holds exclusively:
+    ///
+    /// ```
+    /// station.write_volume(rt, task, LEFT, pair.left);
+    /// station.write_volume(rt, task, RIGHT, pair.right);
+    /// let _ = release_latch(station, rt, task, token, false);
+    /// ```
     pub fn write_volume<R: Wait>(&self, rt: &R, task: &mut Task, volume: u32, number: u32)
         requires task { MayCall self.now 1 task.old }
         requires volume { volume < self.now.config.volumes }

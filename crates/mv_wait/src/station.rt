@@ -52,6 +52,16 @@ impl Station {
     /// # Errors
     ///
     /// `NoMemory` if memory runs out. The configuration is dropped then.
+    ///
+    /// # Examples
+    ///
+    /// From `crates/mv_completion/src/completion.rt`, a station of two tasks and one block:
+    ///
+    /// ```
+    /// // A wait is two events, and a post is one. The block is the waiter's.
+    /// let config = config_of_blocks(alloc, &[2, 1], &[WAITER])?;
+    /// let (station, tasks) = Station::open(alloc, config)?;
+    /// ```
     pub fn open(alloc: Global, config: ValidConfig) -> Result<(Station, Vec<Task>), NoMemory>
         ensures config { IfOk result (λ r. r.0.config ≡ config) }
         ensures tasks { IfOk result (λ r. AreFresh r.0 0 r.1.items) }
@@ -63,6 +73,16 @@ impl Station {
     }
 
     /// Takes the last of the tasks that `open` returned, to move it to its thread. It makes no event, and does not wait.
+    ///
+    /// # Examples
+    ///
+    /// From `crates/mv_task/src/tests.rt`, the two tasks of a station:
+    ///
+    /// ```
+    /// let (station, mut tasks) = Station::open(alloc, config).expect(rt, "memory for a station");
+    /// let second = station.take_last(&mut tasks);
+    /// let first = station.take_last(&mut tasks);
+    /// ```
     pub fn take_last(&self, tasks: &mut Vec<Task>) -> Task
         requires some { 0 < length tasks.old.items }
         requires fresh { AreFresh self.now 0 tasks.old.items }
@@ -79,6 +99,15 @@ impl Station {
     }
 
     /// Returns the configuration with which the station was opened. It makes no event, and does not wait.
+    ///
+    /// # Examples
+    ///
+    /// From `crates/mv_task/src/tests.rt`, which asserts that the events of a post are left:
+    ///
+    /// ```
+    /// assert!(rt; station.config().reach(ecb) <= self.task.left());
+    /// station.post(rt, &mut self.task, ecb, CODE)
+    /// ```
     pub fn config(&self) -> &ValidConfig
         ensures { result.now ≡ self.now.config }
     {
@@ -93,6 +122,23 @@ impl Station {
     /// The call wakes no task, whatever its reply. A task that is parked until this event stays parked until the caller wakes it
     /// by `wake`: the owner of a block or element if the reply to Post or Release is Woke, and on the latch set the tasks that
     /// `Task::wakes` then names.
+    ///
+    /// # Examples
+    ///
+    /// From `crates/mv_pause/src/releasing.rt`, the release of a pause, which wakes the owner of the element if the reply is
+    /// Woke:
+    ///
+    /// ```
+    /// let reply = station.event(
+    ///     rt,
+    ///     task,
+    ///     Object::Element(token.element),
+    ///     Op::Element(ElementOp::Release(token.generation, code)),
+    /// );
+    /// let answer = released(reply);
+    /// wake_owner(station, answer, token.element);
+    /// answer
+    /// ```
     #[inline(always)]
     pub fn event<R: Wait>(&self, rt: &R, task: &mut Task, object: Object, op: Op) -> Reply
         requires task { IsOf self.now task.old }
@@ -120,6 +166,21 @@ impl Station {
     /// # Errors
     ///
     /// `Moved(w)` if the word was `w` and not `expected`; then no event is made.
+    ///
+    /// # Examples
+    ///
+    /// From `crates/mv_task/src/tests/pauses.rt`, a release that is made only if its task pauses in `word`:
+    ///
+    /// ```
+    /// match station.try_event(task, object, op, word) {
+    ///     Ok(_) => {
+    ///         // The exchange has woken no task: this call must wake the task whose pause it ends.
+    ///         station.wake(station.config().element_owner(element));
+    ///         true
+    ///     }
+    ///     Err(_) => false,
+    /// }
+    /// ```
     pub fn try_event(
         &self,
         task: &mut Task,
@@ -149,6 +210,14 @@ impl Station {
     /// Makes the event that reads an object with a word: a block, an element or a volume.
     ///
     /// The event must be left. It never waits.
+    ///
+    /// # Examples
+    ///
+    /// From `crates/mv_pause/src/testing.rt`, which returns the state of an element:
+    ///
+    /// ```
+    /// state(station.test(task, Object::Element(element)))
+    /// ```
     pub fn test(&self, task: &mut Task, object: Object) -> Reply
         requires task { IsOf self.now task.old }
         requires word { HasWord self.now.config object }
@@ -162,6 +231,17 @@ impl Station {
     }
 
     /// Loads an object's word: its place and its state in 64 bits. It makes no event, and never waits.
+    ///
+    /// # Examples
+    ///
+    /// From `crates/mv_task/src/tests/pauses.rt`, which reads the state of an element:
+    ///
+    /// ```
+    /// let word = station.look(task, object);
+    /// let Some((_, WordState::Element(state))) = unpack(object, word) else {
+    ///     return false;
+    /// };
+    /// ```
     pub fn look(&self, task: &mut Task, object: Object) -> u64
         requires task { IsOf self.now task.old }
         requires word { HasWord self.now.config object }
@@ -175,6 +255,16 @@ impl Station {
     /// that it made is granted or gone.
     ///
     /// The call makes no event, and does not park. If the answer is `true`, it stays so until the task's own event on the object.
+    ///
+    /// # Examples
+    ///
+    /// From `crates/mv_polled/src/pausing.rt`, a poll of a pause:
+    ///
+    /// ```
+    /// if !station.peek(rt, task, Watch::Element(self.token.element)) {
+    ///     return Turn::Pending;
+    /// }
+    /// ```
     pub fn peek<R: Wait>(&self, rt: &R, task: &mut Task, watch: Watch) -> bool
         requires task { IsOf self.now task.old }
         requires own { MayWatch self.now.config task.old watch }
@@ -187,6 +277,15 @@ impl Station {
     /// Parks until what the task waits for has happened, as `peek` says.
     ///
     /// The call makes no event. It may never return: nothing promises that another task ends the wait.
+    ///
+    /// # Examples
+    ///
+    /// From `crates/mv_pause/src/pausing.rt`, the second half of a pause:
+    ///
+    /// ```
+    /// station.park_for(rt, task, Watch::Element(token.element));
+    /// Ok(end_pause(station, rt, task, token))
+    /// ```
     pub fn park_for<R: Wait + Clock>(&self, rt: &R, task: &mut Task, watch: Watch)
         requires task { IsOf self.now task.old }
         requires own { MayWatch self.now.config task.old watch }
@@ -226,6 +325,15 @@ impl Station {
     ///
     /// The call makes no event, and never waits. The service calls wake tasks themselves; use `wake` only in a call that you make
     /// of events.
+    ///
+    /// # Examples
+    ///
+    /// From `crates/mv_task/src/tests/pauses.rt`, after an exchange that ended a pause:
+    ///
+    /// ```
+    /// // The exchange has woken no task: this call must wake the task whose pause it ends.
+    /// station.wake(station.config().element_owner(element));
+    /// ```
     pub fn wake(&self, caller: u32)
         requires { caller < self.now.config.callers }
     {
@@ -243,6 +351,16 @@ impl Station {
     /// Ends the station: takes back all its tasks, in the order of their numbers, and makes one legal history of their logs.
     ///
     /// The call takes no memory, never fails, and does not wait: the tasks' threads must have ended.
+    ///
+    /// # Examples
+    ///
+    /// From `crates/mv_dining/src/dining.rt`:
+    ///
+    /// ```
+    /// let (tasks, _rooms) = run_tasks(rt, alloc, &station, &Dining(meals), tasks, rooms)?;
+    /// let closed = station.close(tasks);
+    /// Ok(closed.history)
+    /// ```
     pub fn close(self, tasks: Vec<Task>) -> Closed
         requires order { AreInOrder self 0 tasks.items }
         requires all { length tasks.items ≡ self.config.callers }

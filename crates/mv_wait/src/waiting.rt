@@ -71,11 +71,16 @@ impl Station {
     ///
     /// The first refusal that applies, in the order of `WaitRefusal`. Then no event is made, and `out` is unchanged.
     ///
-    /// # Example
+    /// # Examples
+    ///
+    /// From `crates/mv_server/src/server.rt`, a server that waits until any of its workers is idle:
     ///
     /// ```
-    /// let mut found = [WaitSlot::Open, WaitSlot::Open];
-    /// station.wait(rt, task, 1, &[3, 4], &mut found)?;
+    /// let mut found = [WaitSlot::Open; WORKERS as usize];
+    /// // All of these blocks are the server's, and none is extended.
+    /// let Ok(()) = station.wait(rt, task, 1, &IDLE, &mut found) else {
+    ///     unreachable!()
+    /// };
     /// ```
     pub fn wait<R: Wait + Clock>(
         &self,
@@ -121,6 +126,19 @@ impl Station {
     /// # Errors
     ///
     /// Those of `wait`. Then no event is made.
+    ///
+    /// # Examples
+    ///
+    /// From `crates/mv_polled/src/waiting.rt`, the first poll of a wait:
+    ///
+    /// ```
+    /// if let Err(refusal) = station.arm_wait(rt, task, self.count, &self.ecbs) {
+    ///     self.refuse();
+    ///     return Turn::Ready(Err(refusal));
+    /// }
+    /// self.stage = Stage::Begun;
+    /// self.go_on(station, rt, task)
+    /// ```
     pub fn arm_wait<R: Wait>(
         &self,
         rt: &R,
@@ -146,6 +164,18 @@ impl Station {
     /// Ends a wait that `arm_wait` began, once at least `count` of its blocks were seen complete: settles each block.
     ///
     /// `out` has a slot for each block. It makes one event a block, which must be left.
+    ///
+    /// # Examples
+    ///
+    /// From `crates/mv_polled/src/waiting.rt`, a later poll; `keys` has an element for each block that is not complete:
+    ///
+    /// ```
+    /// if self.ecbs.len() - self.keys.len() < self.count as usize {
+    ///     return Turn::Pending;
+    /// }
+    /// self.keys.clear();
+    /// station.settle_wait(rt, task, self.count, &self.ecbs, &mut self.found);
+    /// ```
     pub fn settle_wait<R: Wait>(
         &self,
         rt: &R,
