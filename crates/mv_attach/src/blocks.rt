@@ -19,10 +19,12 @@ use std::alloc::Global;
 ///
 /// `NoMemory` if memory runs out.
 ///
-/// # Example
+/// # Examples
+///
+/// From `crates/mv_completion/src/completion.rt`, a waiter with two events, a poster with one, and a block of the waiter's:
 ///
 /// ```
-/// let config = config_of_blocks(alloc, &[2, 1], &[0])?;
+/// let config = config_of_blocks(alloc, &[2, 1], &[WAITER])?;
 /// let (station, tasks) = Station::open(alloc, config)?;
 /// ```
 pub fn config_of_blocks(

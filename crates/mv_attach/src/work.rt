@@ -46,6 +46,21 @@ pub trait Work {
 /// # Errors
 ///
 /// `NoMemory` if memory runs out, before any task starts.
+///
+/// # Examples
+///
+/// From `crates/mv_server/src/server.rt`, whose work lends its requests to all tasks, and fills a room for each:
+///
+/// ```
+/// let (station, tasks) = Station::open(alloc, config)?;
+/// let pool = Pool { requests };
+/// let (tasks, mut rooms) = run_tasks(rt, alloc, &station, &pool, tasks, rooms)?;
+/// // The server's room is the last one.
+/// let Some(answers) = rooms.pop() else {
+///     unreachable!()
+/// };
+/// let closed = station.close(tasks);
+/// ```
 pub fn run_tasks<R: Threads + Wait + Clock + Sync, W: Work + Sync>(
     rt: &R,
     alloc: Global,
