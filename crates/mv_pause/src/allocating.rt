@@ -30,6 +30,17 @@ pub struct NoElement;
 /// # Errors
 ///
 /// `NoElement` if all of the task's own elements are in use; then no event is made.
+///
+/// # Examples
+///
+/// From `crates/mv_server/src/server.rt`, a worker that begins:
+///
+/// ```
+/// // The task is new, so its element is free.
+/// let Ok(mut token) = allocate(station, rt, task) else {
+///     unreachable!()
+/// };
+/// ```
 pub fn allocate<R: Wait>(station: &Station, rt: &R, task: &mut Task) -> Result<Token, NoElement>
     requires task { MayCall station.now 1 task.old }
     ensures served { IsServed 1 (allocate station.now.config) (λ a. a ≡ allocate_answer result) task.old task.new }

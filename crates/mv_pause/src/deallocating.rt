@@ -39,6 +39,14 @@ pub enum DeallocateRefusal {
 ///
 /// `NotOwner` if the element is another caller's; then no event is made. `Spent` if the token is spent, which is the reply to the
 /// one event.
+///
+/// # Examples
+///
+/// From `crates/mv_work/src/initiator.rt`, an initiator that is given no more jobs, by the token that its last pause returned:
+///
+/// ```
+/// deallocate(self.station, rt, task, given.next)?;
+/// ```
 pub fn deallocate<R: Wait>(
     station: &Station,
     rt: &R,

@@ -55,11 +55,16 @@ pub enum PauseRefusal {
 /// `NotOwner` if the element is another caller's; then no event is made. `Spent` if the token is spent, which is the reply to the
 /// one event. The last token that the task was given for an element in use is never refused.
 ///
-/// # Example
+/// # Examples
+///
+/// From `crates/mv_server/src/server.rt`, a worker that says that it is idle, and pauses until it is given work:
 ///
 /// ```
-/// let Ok(given) = pause(station, rt, task, token) else { return };
-/// token = given.next;
+/// station.post(rt, task, idle, token.generation);
+/// // The last token that a task was given is not refused.
+/// let Ok(given) = pause(station, rt, task, token) else {
+///     unreachable!()
+/// };
 /// ```
 pub fn pause<R: Wait + Clock>(
     station: &Station,
@@ -90,6 +95,23 @@ pub fn pause<R: Wait + Clock>(
 ///
 /// Returns the answer of the pause, or `None` if the task has to wait. Then one more event must be left, and only `end_pause`
 /// ends the pause.
+///
+/// # Errors
+///
+/// An answer is an error in the cases in which `pause` returns that error.
+///
+/// # Examples
+///
+/// From `crates/mv_polled/src/pausing.rt`, the first poll of a pause:
+///
+/// ```
+/// if let Some(answer) = begin_pause(station, rt, task, self.token) {
+///     self.stage = Stage::Over;
+///     return Turn::Ready(answer);
+/// }
+/// self.stage = Stage::Begun;
+/// self.go_on(station, rt, task)
+/// ```
 pub fn begin_pause<R: Wait>(
     station: &Station,
     rt: &R,
@@ -109,6 +131,18 @@ pub fn begin_pause<R: Wait>(
 }
 
 /// Ends a pause that `begin_pause` began, once its element was seen to be released. It makes one event.
+///
+/// # Examples
+///
+/// From `crates/mv_polled/src/pausing.rt`, a poll of a pause whose first event was made:
+///
+/// ```
+/// if !station.peek(rt, task, Watch::Element(self.token.element)) {
+///     return Turn::Pending;
+/// }
+/// self.stage = Stage::Over;
+/// Turn::Ready(Ok(end_pause(station, rt, task, self.token)))
+/// ```
 pub fn end_pause<R: Wait>(station: &Station, rt: &R, task: &mut Task, token: Token) -> Given
     requires task { IsOf station.now task.old }
     requires pausing { (t0 : CallerFace) × IsPausing station.now.config token t0 task.old }

@@ -63,6 +63,23 @@ pub enum TryReleaseRefusal {
 ///
 /// `Spent` if the token is spent or its element is not allocated, `Already` if the token was released before. Each is the reply
 /// to the one event, and the code is not kept.
+///
+/// # Examples
+///
+/// From `crates/mv_server/src/server.rt`, which gives an idle worker its work; `generation` is the code of the worker's post:
+///
+/// ```
+/// let token = Token {
+///     element: worker,
+///     generation,
+/// };
+/// // Whether this token is still current depends on what the worker did, so no clause of the server excludes that the
+/// // release is refused. Then the next idle worker gets the code; if there is none, no worker gets it, and the wait for
+/// // its answer never ends.
+/// if release(station, rt, task, token, code).is_ok() {
+///     return;
+/// }
+/// ```
 pub fn release<R: Wait>(
     station: &Station,
     rt: &R,
@@ -96,6 +113,22 @@ pub fn release<R: Wait>(
 /// # Errors
 ///
 /// `Moved(w)` if the word was `w` and not `expected`; then no event is made. Otherwise those of `release`.
+///
+/// # Examples
+///
+/// From `crates/mv_runscript/src/trying.rt`, where `reset` is the word of an element that is neither paused nor released, and
+/// has had `place` events:
+///
+/// ```
+/// let reset = reset_at(token.generation, place);
+/// match try_release(station, task, token, reset, code) {
+///     Ok(ReleaseAnswer::Early) => Answer::Early,
+///     Ok(ReleaseAnswer::Woke) => Answer::Woke,
+///     Err(TryReleaseRefusal::Spent(generation)) => Answer::Spent(generation),
+///     Err(TryReleaseRefusal::Already) => Answer::AlreadyReleased,
+///     Err(TryReleaseRefusal::Moved(word)) => Answer::Moved(word),
+/// }
+/// ```
 pub fn try_release(
     station: &Station,
     task: &mut Task,

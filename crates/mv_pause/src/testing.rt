@@ -15,6 +15,14 @@ use mv_wait::{Station, Task};
 /// for its pause, or 0.
 ///
 /// The call makes one event, which must be left. It never waits.
+///
+/// # Examples
+///
+/// From `crates/mv_runscript/src/serving.rt`, an arm of the match over the calls of a script:
+///
+/// ```
+/// Call::TestElement(element) => Answer::State(test_element(station, task, *element)),
+/// ```
 pub fn test_element(station: &Station, task: &mut Task, element: u32) -> ElementState
     requires task { MayCall station.now 1 task.old }
     requires element { element < element_count station.now.config }

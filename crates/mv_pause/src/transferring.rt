@@ -51,6 +51,15 @@ pub enum TransferRefusal {
 ///
 /// `NotOwner` or `Spent` if the current token is not one of an own element in use; then no event is made. `TargetSpent` or
 /// `TargetAlready` if the release of the target is refused; that is the reply to the one event.
+///
+/// # Examples
+///
+/// From `crates/mv_task/src/tests/pauses.rt`, one of two tasks that hand over to and fro:
+///
+/// ```
+/// let answer = transfer(station, rt, &mut worker.task, Some(own), other, CODE);
+/// assert!(rt; answer == Ok(Some(given(own.element, own.generation))));
+/// ```
 pub fn transfer<R: Wait + Clock>(
     station: &Station,
     rt: &R,
