@@ -16,6 +16,17 @@ use std::sync::Wait;
 ///
 /// The call makes one event, a Confirm, which must be left. It does not park; it spins until it gets its turn at the lists. The
 /// token's latch must be one of the configuration's. After the answer `Gone`, `Task::standing` no longer counts the request.
+///
+/// # Examples
+///
+/// From `crates/mv_runscript/src/serving.rt`, the state of the request that an earlier obtain returned, if it returned one:
+///
+/// ```
+/// match requests[obtain as usize - 1] {
+///     Some(token) => standing(check_latch(station, rt, task, token)),
+///     None => Answer::NoToken,
+/// }
+/// ```
 pub fn check_latch<R: Wait>(
     station: &Station,
     rt: &R,

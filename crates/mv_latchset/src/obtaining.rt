@@ -73,10 +73,21 @@ pub enum ObtainRefusal {
 /// The first refusal that applies, in the order of `ObtainRefusal`. `BadLatch`, `NotOwner` and `Quota` make no event; `NotNow`
 /// and `Purged` are replies to events.
 ///
-/// # Example
+/// # Examples
+///
+/// From `crates/mv_dining/src/dining.rt`, a philosopher who takes a fork:
 ///
 /// ```
-/// let Ok(Obtained::Granted(token)) = obtain(station, rt, task, 0, 17, Mode::Exclusive, LatchForm::Waiting) else { return };
+/// let requestor = u64::from(task.number());
+/// let form = LatchForm::Waiting;
+/// let mode = Mode::Exclusive;
+/// let Ok(got) = obtain(station, rt, task, fork, requestor, mode, form) else {
+///     return None;
+/// };
+/// let Obtained::Granted(token) = got else {
+///     return None;
+/// };
+/// Some(token)
 /// ```
 pub fn obtain<R: Wait + Clock>(
     station: &Station,
@@ -118,6 +129,32 @@ pub enum Asking {
 /// Begins an obtain, for a call that does not park: makes its first event, unless it is refused without one.
 ///
 /// If the result is `Queued`, one more event must be left, and only `end_obtain` ends the obtain.
+///
+/// # Examples
+///
+/// From `crates/mv_polled/src/obtaining.rt`, the first poll of an obtain:
+///
+/// ```
+/// match begin_obtain(
+///     station,
+///     rt,
+///     task,
+///     self.latch,
+///     self.requestor,
+///     self.mode,
+///     LatchForm::Waiting,
+/// ) {
+///     Asking::Over(answer) => {
+///         self.stage = Stage::Over;
+///         Turn::Ready(answer)
+///     }
+///     Asking::Queued(id) => {
+///         self.stage = Stage::Begun;
+///         self.id = id;
+///         self.go_on(station, rt, task)
+///     }
+/// }
+/// ```
 pub fn begin_obtain<R: Wait>(
     station: &Station,
     rt: &R,
@@ -159,6 +196,18 @@ pub fn begin_obtain<R: Wait>(
 /// # Errors
 ///
 /// `Purged` if the request is gone.
+///
+/// # Examples
+///
+/// From `crates/mv_polled/src/obtaining.rt`, a later poll:
+///
+/// ```
+/// if !station.peek(rt, task, watch) {
+///     return Turn::Pending;
+/// }
+/// self.stage = Stage::Over;
+/// Turn::Ready(end_obtain(station, rt, task, self.latch, self.id))
+/// ```
 pub fn end_obtain<R: Wait>(
     station: &Station,
     rt: &R,

@@ -28,6 +28,16 @@ pub struct Purged {
 /// with its exits; and it wakes the tasks that wait for their requests. Any task may purge any requestor, and is never refused.
 /// The call makes at most as many events as `ValidConfig::release_cost` gives; these must be left. It does not park; it spins
 /// until it gets its turn at the lists.
+///
+/// # Examples
+///
+/// From `crates/mv_task/src/ending.rt`, the end of a job, of which nothing is to be left:
+///
+/// ```
+/// let purged = purge(station, rt, task, requestor);
+/// station.post(rt, task, ecb, code);
+/// purged
+/// ```
 pub fn purge<R: Wait>(station: &Station, rt: &R, task: &mut Task, requestor: u64) -> Purged
     requires task { MayCall station.now (release_cost station.now.config) task.old }
     ensures served { IsServed (release_cost station.now.config) (purge station.now.config requestor)

@@ -38,6 +38,18 @@ pub enum ReleaseLatchRefusal {
 ///
 /// `Gone` if the latch has no such request of the task, as after a purge; `StillWaiting` if the request waits and the release is
 /// conditional. Each is the reply to one event, and posts nothing.
+///
+/// # Examples
+///
+/// From `crates/mv_events/src/entering.rt`, which makes events under a latch:
+///
+/// ```
+/// let token = take_latch(station, rt, task, table)?;
+/// let answer = enter(station, rt, task, table, index, code);
+/// // A purge may have taken the request out: then there is nothing to give back, and the answer is the same.
+/// let _ = release_latch(station, rt, task, token, false);
+/// answer
+/// ```
 pub fn release_latch<R: Wait>(
     station: &Station,
     rt: &R,
