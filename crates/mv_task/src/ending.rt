@@ -26,6 +26,14 @@ use std::sync::Wait;
 /// A task that waits for the block finds the job's latches free. The call makes at most as many events as a purge
 /// (`ValidConfig::release_cost`) and a post of the block (`ValidConfig::reach`) together; these must be left. It does not park,
 /// wakes the tasks that its purge and its post wake, and is never refused.
+///
+/// # Examples
+///
+/// From `crates/mv_work/src/initiator.rt`, the end of a job of the spool; `done` is the block for which other tasks wait:
+///
+/// ```
+/// end_of_job(self.station, rt, task, running.requestor(), done, end);
+/// ```
 pub fn end_of_job<R: Wait>(
     station: &Station,
     rt: &R,
@@ -51,6 +59,18 @@ pub fn end_of_job<R: Wait>(
 /// The tokens of its elements are spent then. The call makes at most one event for each element in use, and those of a purge and
 /// of a post of the block; these must be left. It does not park, wakes the tasks that its purge and its post wake, and is never
 /// refused.
+///
+/// # Examples
+///
+/// From `crates/mv_runscript/src/serving.rt`, an arm of the match over a script's calls:
+///
+/// ```
+/// Call::EndTask {
+///     requestor,
+///     mother,
+///     code,
+/// } => purged(end_of_task(station, rt, task, *requestor, *mother, *code)),
+/// ```
 pub fn end_of_task<R: Wait>(
     station: &Station,
     rt: &R,
