@@ -213,6 +213,15 @@ fn run_tasks<R: Wait, O: Order>(
 /// # Errors
 ///
 /// `NoMemory` if memory runs out, before the first poll or after the last.
+///
+/// # Examples
+///
+/// From `crates/mv_tests/src/tests/orders.rt`, whose order polls the tasks from the last to the first:
+///
+/// ```
+/// let mut order = Backwards { left: 0, picks: 0 };
+/// let run = run_polled(&rt, rt.alloc(), &deck, 1, &mut order).expect(&rt, "memory for a run");
+/// ```
 pub fn run_polled<R: Wait, O: Order>(
     rt: &R,
     alloc: Global,

@@ -59,6 +59,17 @@ impl WaitCall {
     /// # Errors
     ///
     /// `NoMemory` if memory runs out.
+    ///
+    /// # Examples
+    ///
+    /// From `crates/mv_tests/src/tests/polls.rt`:
+    ///
+    /// ```
+    /// match WaitCall::new(alloc, count, ecbs) {
+    ///     Ok(call) => call,
+    ///     Err(_) => panic!(rt; "no memory for a wait"),
+    /// }
+    /// ```
     pub fn new(alloc: Global, count: u32, ecbs: &[u32]) -> Result<WaitCall, NoMemory>
         ensures { IfOk result (λ call. call ≡ new_wait (length ecbs.now) count ecbs.now) }
     {
@@ -72,6 +83,17 @@ impl WaitCall {
     /// # Errors
     ///
     /// `NoMemory` if memory runs out.
+    ///
+    /// # Examples
+    ///
+    /// From `crates/mv_polled/src/meeting.rt`, which makes room for each later wait of a task:
+    ///
+    /// ```
+    /// Ok(Meeting {
+    ///     wait: WaitCall::with_room(alloc, MOST_BLOCKS)?,
+    ///     call: Call::Nothing,
+    /// })
+    /// ```
     pub fn with_room(alloc: Global, room: usize) -> Result<WaitCall, NoMemory>
         ensures { IfOk result (λ call. call ≡ new_wait room 0 []) }
     {
@@ -87,6 +109,15 @@ impl WaitCall {
     }
 
     /// Makes a new wait in the room of this one, whatever its stage is. It takes no memory.
+    ///
+    /// # Examples
+    ///
+    /// From `crates/mv_polled/src/meeting.rt`:
+    ///
+    /// ```
+    /// self.wait.renew(blocks.count, &blocks.ecbs);
+    /// self.call = Call::Wait;
+    /// ```
     pub fn renew(&mut self, count: u32, ecbs: &[u32])
         requires { length ecbs.now ≤ self.old.room }
         ensures { self.new ≡ new_wait self.old.room count ecbs.now }
@@ -110,6 +141,17 @@ impl WaitCall {
     /// # Errors
     ///
     /// An answer is an error in the cases in which `Station::wait` returns that error.
+    ///
+    /// # Examples
+    ///
+    /// From `crates/mv_tests/src/tests/polls.rt`, which returns whether the wait is over:
+    ///
+    /// ```
+    /// match call.poll(station, rt, task) {
+    ///     Turn::Ready(_) => true,
+    ///     Turn::Pending => false,
+    /// }
+    /// ```
     pub fn poll<R: Wait>(
         &mut self,
         station: &Station,
@@ -178,6 +220,15 @@ impl WaitCall {
 
     /// Returns the keys of the blocks that the last poll found not complete, in the order of the list; none before the first poll
     /// and after an answer.
+    ///
+    /// # Examples
+    ///
+    /// From `crates/mv_tests/src/tests/polls.rt`, a wait for two of three blocks that was polled after a post of the first:
+    ///
+    /// ```
+    /// assert!(rt; !is_over(rt, station, waiter, &mut call));
+    /// assert!(rt; call.keys() == [1, 2].as_slice());
+    /// ```
     pub fn keys(&self) -> &[u64]
         ensures { result.now ≡ self.now.keys }
     {
@@ -185,6 +236,16 @@ impl WaitCall {
     }
 
     /// Returns what was found of each block, once the wait is over; nothing before that, and after a refusal.
+    ///
+    /// # Examples
+    ///
+    /// From `crates/mv_tests/src/tests/polls.rt`, the same wait after a post of the third block:
+    ///
+    /// ```
+    /// assert!(rt; is_over(rt, station, waiter, &mut call));
+    /// let found = [WaitSlot::Complete(5), WaitSlot::Open, WaitSlot::Complete(7)];
+    /// assert!(rt; call.slots() == found.as_slice() && call.keys().is_empty());
+    /// ```
     pub fn slots(&self) -> &[WaitSlot]
         ensures { result.now ≡ self.now.slots }
     {
