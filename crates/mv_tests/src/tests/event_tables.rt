@@ -1,5 +1,5 @@
-//! What others did to a table, which no script shows, since a script keeps all other calls from its table. Scripts test what
-//! tables hand out, and the posts and next events of tasks that wait for each other.
+//! What others did to a table, which no script shows, since a script keeps all other calls from its table; and the example of
+//! the head of mv_events. Scripts test what tables hand out, and the posts and next events of tasks that wait for each other.
 
 ghost use Rattle.std.specs.Prelude.{◌≡◌, ◌<◌, length};
 ghost use Rattle.mv_ecb.specs.Table.{code_limit};
@@ -27,6 +27,9 @@ const TABLE: Table = Table {
     slots: 3,
     size: 3,
 };
+
+// The completion bit of a block's word.
+const COMPLETE: u32 = 1 << 30;
 
 // A new station with one latch, one volume and six blocks, and its one task.
 fn open(rt: &impl Abort, alloc: Global) -> (Station, Task)
@@ -107,6 +110,45 @@ fn next<R: Abort + Wait + Clock>(
 }
 
 // ---- one task
+
+// An event that was posted with this code.
+fn complete(index: u32, code: u32) -> Event {
+    Event {
+        index,
+        word: COMPLETE | code,
+    }
+}
+
+// Posts two events, and one of them again, and takes both in the order in which they completed.
+#[tactic(auto, using(mv_wait::proofs::Compose::served))]
+fn take_in_order<R: Abort + Wait + Clock>(
+    rt: &R,
+    station: &Station,
+    task: &mut Task,
+    table: &ValidTable,
+)
+    requires task { IsOf station.now task.old }
+    requires rest { IsAtRest task.old.log }
+    requires table { IsSoundTable station.now.config table.now }
+    requires size { table.now.size ≡ 3 }
+{
+    let cost = u64::from(station.config().release_cost());
+    assert!(rt; 3 * (6 + cost) + 6 <= u64::from(task.left()));
+    assert!(rt; post_event(station, rt, task, table, 2, 7) == Ok(EventAnswer::Entered(0)));
+    assert!(rt; post_event(station, rt, task, table, 0, 9) == Ok(EventAnswer::Entered(1)));
+    assert!(rt; post_event(station, rt, task, table, 2, 8) == Ok(EventAnswer::Already(7)));
+    assert!(rt; next_event(station, rt, task, table, 0) == Ok(complete(2, 7)));
+    assert!(rt; next_event(station, rt, task, table, 1) == Ok(complete(0, 9)));
+}
+
+#[test]
+fn events_are_taken_in_the_order_of_completion(rt: HostRuntime) {
+    let (station, mut task) = open(&rt, rt.alloc());
+    let table = checked(&rt, &station);
+    assert!(rt; table.table().size == 3);
+    take_in_order(&rt, &station, &mut task, &table);
+    end(station, task);
+}
 
 // Writes the table's volume, and posts a slot with a code that is not an event's index.
 #[tactic(auto, using(mv_wait::proofs::Compose::served))]
