@@ -64,12 +64,14 @@ impl Board {
     ///
     /// `NoMemory` if memory runs out. The configuration is dropped then.
     ///
-    /// # Example
+    /// # Examples
+    ///
+    /// From `crates/mv_task/src/tests/boards.rt`, a board and its two callers:
     ///
     /// ```
-    /// let (board, mut callers) = Board::open(alloc, config)?;
-    /// let reply = board.event(rt, &mut callers[0], Object::Ecb(0), Op::Ecb(EcbOp::Post(7)));
-    /// let closed = board.close(callers);
+    /// let (board, mut callers) = Board::open(alloc, config).expect(rt, "memory for a board");
+    /// let second = last(&board, &mut callers, 1);
+    /// let first = last(&board, &mut callers, 0);
     /// ```
     pub fn open(alloc: Global, config: ValidConfig) -> Result<(Board, Vec<Caller>), NoMemory>
         ensures config { IfOk result (λ r. r.0.config ≡ config) }
@@ -173,16 +175,17 @@ impl Board {
     /// The call does not wait. Words are as `look` returns them. The latch set has no word. The caller must have an event left,
     /// and the operation must be one that `event` would take.
     ///
-    /// # Example
-    ///
-    /// ```
-    /// let word = board.look(&mut caller, object);
-    /// if let Err(Moved(now)) = board.try_event(&mut caller, object, op, word) { .. }
-    /// ```
-    ///
     /// # Errors
     ///
     /// `Moved(w)` if the word was `w` and not `expected`.
+    ///
+    /// # Examples
+    ///
+    /// From `crates/mv_task/src/tests/boards.rt`:
+    ///
+    /// ```
+    /// board.try_event(&mut self.caller, BLOCK, Op::Ecb(op), expected)
+    /// ```
     pub fn try_event(
         &self,
         caller: &mut Caller,

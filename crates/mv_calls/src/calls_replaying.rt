@@ -115,11 +115,12 @@ fn first_refusal(
 /// Returns the first entry that is not the machine's (`Illegal`) or has another number (`Number`); an entry that is both is
 /// `Illegal`. Returns `NoMemory` if there is not enough memory to judge the list.
 ///
-/// # Example
+/// # Examples
+///
+/// From `crates/mv_program/src/tests/refused_lists.rt`, a list with a call number that is not its call's:
 ///
 /// ```
-/// let calls = number_calls(alloc, &config, &journal)?;
-/// let state = replay_calls(alloc, &config, &journal, &calls)?;
+/// let judged = replay_calls(alloc, &config, &entries, &[0, 7]);
 /// ```
 #[tactic(auto, using(crate::proofs::call_numbers::Refused::refused_is_wrong))]
 pub fn replay_calls(

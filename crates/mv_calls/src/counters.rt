@@ -51,14 +51,16 @@ impl CallCounters {
     /// belongs to. The wakes are those that the machine shows after the entry. It takes no memory: `open` took the memory of
     /// the counters and of their blocks.
     ///
-    /// # Example
+    /// # Examples
+    ///
+    /// From `crates/mv_entrytext/src/history_text.rt`:
     ///
     /// ```
-    /// let mut counters = CallCounters::open(alloc, &config)?;
-    /// for entry in &journal {
-    ///     state.step(&config, entry.caller, entry.object, entry.op);
-    ///     let call = counters.count(&config, entry, state.wakes());
-    ///     ..
+    /// while let Some(entry) = history.next() {
+    ///     make_room(journal, &mut piece)?;
+    ///     let call = counters.count(history.config(), &entry, history.state().wakes());
+    ///     put_entry_line(&mut piece, Some(call), &entry);
+    ///     count += 1;
     /// }
     /// ```
     pub fn count(&mut self, config: &ValidConfig, entry: &Entry, wakes: &[Wake]) -> u32

@@ -63,15 +63,14 @@ impl Judge {
     /// It does not check the budgets. It takes the time of one step of the machine. After it has returned `None`, no contract
     /// says what it returns.
     ///
-    /// # Example
+    /// # Examples
+    ///
+    /// From `crates/mv_calls/src/numbering.rt`:
     ///
     /// ```
-    /// let mut judge = Judge::open(alloc, &config)?;
-    /// for entry in &journal {
-    ///     match judge.next(&config, entry) {
-    ///         Some(call) => { .. }
-    ///         None => { .. }
-    ///     }
+    /// match judge.next(config, entry) {
+    ///     Some(number) => numbers.push(number)?,
+    ///     None => unreachable!(),
     /// }
     /// ```
     pub fn next(&mut self, config: &ValidConfig, entry: &Entry) -> Option<u32>

@@ -111,10 +111,15 @@ impl Table {
     ///
     /// Returns the first refusal that applies, in the order of `TableRefusal`.
     ///
-    /// # Example
+    /// # Examples
+    ///
+    /// From `crates/mv_tests/src/tests/event_tables.rt`:
     ///
     /// ```
-    /// let table = given.check(station.config())?;
+    /// match TABLE.check(station.config()) {
+    ///     Ok(table) => table,
+    ///     Err(_) => panic!(rt; "refused"),
+    /// }
     /// ```
     pub fn check(self, config: &ValidConfig) -> Result<ValidTable, TableRefusal>
         ensures ok { IfOk result (λ v. v ≡ self) }

@@ -23,10 +23,20 @@ pub const MOST_JOBS: u32 = 2000;
 ///
 /// `NoMemory` if there is not enough memory for the text.
 ///
-/// # Example
+/// # Examples
+///
+/// From `crates/mv_program/src/texts.rt`:
 ///
 /// ```
-/// let deck = read_deck(alloc, &load_deck(alloc, 100)?, 4)?;
+/// let text = load_deck(alloc, jobs)?;
+/// match read_deck(alloc, &text, initiators) {
+///     Ok(deck) => Ok(deck),
+///     Err(refusal) => match refusal.fault() {
+///         // A load has no fault.
+///         Ok(_) => unreachable!(),
+///         Err(no_memory) => Err(no_memory),
+///     },
+/// }
 /// ```
 pub fn load_deck(alloc: Global, jobs: u32) -> Result<Vec<u8>, NoMemory>
     requires jobs { (1 ≤ jobs) × (jobs ≤ most_jobs) }

@@ -38,14 +38,15 @@ use std::alloc::{AllocError, Global};
 /// `Fault`, the first fault of the text, if it has one. `NoMemory` if there is not enough memory for the jobs, which may happen
 /// before a fault is reached.
 ///
-/// # Example
+/// # Examples
+///
+/// From `crates/mv_program/src/texts.rt`:
 ///
 /// ```
-/// match read_deck(alloc, text, 2) {
-///     Ok(deck) => { .. }
-///     Err(DeckRefusal::Fault(DeckFault { line, kind })) => { .. }
-///     Err(DeckRefusal::NoMemory) => { .. }
-/// }
+/// let deck = match read_deck(host.alloc, input, initiators) {
+///     Ok(deck) => deck,
+///     Err(refusal) => return Err(Status::Deck(refusal.fault()?)),
+/// };
 /// ```
 pub fn read_deck(alloc: Global, bytes: &[u8], initiators: u32) -> Result<Deck, DeckRefusal>
     requires short { length bytes.now < 2 ^ 32 - 1 }

@@ -78,11 +78,13 @@ impl EcbWord {
 /// again until the block is complete. WAIT, POST and the fullword are those of *z/OS MVS Programming: Assembler Services Guide*.
 /// Exits, and that a second post keeps the first code, are this project's own.
 ///
-/// # Example
+/// # Examples
+///
+/// From `crates/mv_task/src/tests/objects.rt`:
 ///
 /// ```
-/// let (word, reply) = ecb_apply(EcbOp::Post(7), EcbWord::zero());
-/// // reply is Posted; a second post gets the reply Already(7), and an arm Complete(7)
+/// let (left, replied) = ecb_apply(op, block);
+/// assert!(rt; left.word() == later && replied == reply);
 /// ```
 pub fn ecb_apply(op: EcbOp, word: EcbWord) -> (EcbWord, EcbReply)
     requires { IsEcbOp op }

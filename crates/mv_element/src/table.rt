@@ -15,12 +15,18 @@ use crate::operation::{ElementOp, ElementReply};
 /// Guide*. That a release before its pause is kept for it, and what an operation does to an element in another phase, are this
 /// project's own.
 ///
-/// # Example
+/// # Examples
+///
+/// From `crates/mv_machine/src/state.rt`, the event on an element of the machine:
 ///
 /// ```
-/// let (paused, _) = element_apply(ElementOp::Pause(0), ElementState::reset(0));
-/// let (released, reply) = element_apply(ElementOp::Release(0, 12), paused);
-/// // reply is Woke; a Resume(0) is now Given { code: 12, next: 1 }
+/// let old = self.elements[element as usize];
+/// let (state, reply) = element_apply(op, old.state);
+/// self.elements[element as usize] = ElementCell {
+///     place: old.place + 1,
+///     state,
+/// };
+/// Some((old.place, Reply::Element(reply)))
 /// ```
 pub fn element_apply(op: ElementOp, state: ElementState) -> (ElementState, ElementReply)
     requires generation { state.generation < generation_limit }

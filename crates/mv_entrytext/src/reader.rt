@@ -121,12 +121,15 @@ impl EntryReader<'_> {
     /// Returns the first fault of the text, if the reader has come to it. The reader then stays before the line, as it does at
     /// the end.
     ///
-    /// # Example
+    /// # Examples
+    ///
+    /// From `crates/mv_replay/src/judging.rt`, which takes each event and its call number:
     ///
     /// ```
-    /// let mut journal = open_journal(alloc, &bytes)?;
-    /// while let Some((call, entry)) = journal.entries.next()? {
-    ///     ..
+    /// match reader.next() {
+    ///     Ok(Some((call, entry))) => course.take(line, call, &entry)?,
+    ///     Ok(None) => return course.end(reader.count()),
+    ///     Err(fault) => return Err(ReplayStatus::Text(fault)),
     /// }
     /// ```
     pub fn next(&mut self) -> Result<Option<(Option<u32>, Entry)>, TextFault>

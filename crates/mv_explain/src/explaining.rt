@@ -59,10 +59,12 @@ fn write_out<R: Sink>(report: &mut R, text: &[u8]) -> ExplainStatus
 ///
 /// Each `ExplainStatus` but `Done`. What was written before it stays.
 ///
-/// # Example
+/// # Examples
+///
+/// From `crates/mv_explain/src/main.rt`:
 ///
 /// ```
-/// let status = explain(alloc, &mut input, &mut report, &mut notes);
+/// let status = explain(rt.alloc(), &mut input, &mut report, &mut notes);
 /// ExitCode::from(status.exit())
 /// ```
 pub fn explain<D: Source, R: Sink, N: Sink>(

@@ -55,11 +55,12 @@ const PIECE: usize = 64 * 1024;
 /// `Failed` if the source failed, which is not tried again; `TooLong` if the input has more than `limit` bytes; `NoMemory` if
 /// there was not enough memory.
 ///
-/// # Example
+/// # Examples
+///
+/// From `crates/mv_explain/src/explaining.rt`:
 ///
 /// ```
-/// let mut source = StdSource::new(stdin);
-/// let bytes = read_limited(alloc, &mut source, 1024 * 1024)?;
+/// let bytes = read_limited(alloc, input, INPUT_LIMIT)?;
 /// ```
 pub fn read_limited<S: Source>(
     alloc: Global,

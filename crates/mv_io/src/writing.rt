@@ -21,11 +21,15 @@ pub struct Partial {
 ///
 /// `Partial` at the first failure, which is not tried again.
 ///
-/// # Example
+/// # Examples
+///
+/// From `crates/mv_program/src/tests/failing_streams.rt`, a sink that failed before it had all bytes, and goes on:
 ///
 /// ```
-/// let mut sink = StdSink::new(stdout);
-/// if let Err(partial) = write_all(&mut sink, &text) { .. }
+/// let written = write_all(&mut sink, b"tasks");
+/// assert!(rt; matches!(written, Err(Partial { taken: 2 })));
+/// assert_count(&rt, sink.faults(), 1, "a sink");
+/// assert!(rt; write_all(&mut sink, b"ks").is_ok());
 /// ```
 pub fn write_all<K: Sink>(sink: &mut K, bytes: &[u8]) -> Result<(), Partial>
     ensures whole { OnOk result (Appends (K.taken sink.old) (K.taken sink.new) bytes.now) }

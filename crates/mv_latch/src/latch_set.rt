@@ -231,11 +231,15 @@ impl LatchSet {
     /// operation over one. The operations are modelled on the latch services ISGLOBT, ISGLREL and ISGLPRG of *z/OS MVS
     /// Programming: Authorized Assembler Services Guide*.
     ///
-    /// # Example
+    /// # Examples
+    ///
+    /// From `crates/mv_task/src/tests/objects.rt`, which compares the reply and the wakes with expected ones:
     ///
     /// ```
-    /// let reply = set.apply(0, 7, op, &mut wakes);
-    /// // an exclusive obtain of a free latch: Some(Granted(7)), and `wakes` is empty
+    /// let found = self.set.apply(caller, self.next, op, &mut self.wakes);
+    /// self.next += 1;
+    /// assert!(rt; found == Some(reply));
+    /// assert!(rt; self.wakes.as_slice() == wakes);
     /// ```
     pub fn apply(
         &mut self,

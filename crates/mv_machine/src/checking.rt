@@ -136,11 +136,13 @@ impl Config {
     /// Returns the first refusal that holds, in the order of `CheckRefusal`; the configuration is then dropped. It returns
     /// `NoMemory` only if no rule refuses the configuration.
     ///
-    /// # Example
+    /// # Examples
+    ///
+    /// From `crates/mv_tests/src/tests/polls.rt`:
     ///
     /// ```
-    /// let config = given.check(alloc)?;
-    /// let state = State::opening(alloc, &config)?;
+    /// let config = config.check(alloc).expect(rt, "a configuration");
+    /// Station::open(alloc, config).expect(rt, "memory for a station")
     /// ```
     pub fn check(self, alloc: Global) -> Result<ValidConfig, CheckRefusal>
         ensures ok { IfOk result (λ v. v ≡ setup_of self) }

@@ -63,14 +63,13 @@ impl From<NoMemory> for ReplayRefusal {
 /// Returns the first entry that is not the machine's if the list is not legal, or `NoMemory` if there is no memory for the
 /// opening state.
 ///
-/// # Example
+/// # Examples
+///
+/// From `crates/mv_handover/src/main.rt`:
 ///
 /// ```
-/// match replay(alloc, &config, &journal) {
-///     Ok(state) => { .. }
-///     Err(ReplayRefusal::Illegal(Illegal { index, .. })) => { .. }
-///     Err(ReplayRefusal::NoMemory) => { .. }
-/// }
+/// let listed = history.listed(rt.alloc())?;
+/// let legal = replay(rt.alloc(), &listed.config, &listed.journal).is_ok();
 /// ```
 pub fn replay(
     alloc: Global,

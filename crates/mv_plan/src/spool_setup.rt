@@ -116,10 +116,13 @@ fn exits_of(alloc: Global, jobs: u32) -> Result<Vec<Exit>, NoMemory>
 ///
 /// `NoMemory` if there is not enough memory. A deck that these initiators can run is refused for no other reason.
 ///
-/// # Example
+/// # Examples
+///
+/// From `crates/mv_polled/src/spool.rt`:
 ///
 /// ```
-/// let config = spool_config(alloc, &deck, 2)?;
+/// let config = spool_config(alloc, deck, initiators)?;
+/// let results = run_tasks(rt, alloc, config, deck, initiators, order)?;
 /// ```
 pub fn spool_config(alloc: Global, deck: &Deck, initiators: u32) -> Result<ValidConfig, NoMemory>
     requires runnable { CanBeRun (deck_data deck.now) initiators }

@@ -77,11 +77,19 @@ fn judge<D: Source, R: Sink, N: Sink>(
 ///
 /// Returns a `Status` other than `Done`: the first cause that applies. What was written before the failure remains.
 ///
-/// # Example
+/// # Examples
+///
+/// From `crates/mv_program/src/main.rt`:
 ///
 /// ```
-/// let host = Host { rt, alloc, gate: &OpenGate };
-/// let status = run_program(&host, &words, &mut input, &mut report, &mut journal, &mut notes);
+/// let status = run_program(
+///     &host,
+///     &words,
+///     &mut input,
+///     &mut report,
+///     &mut journal,
+///     &mut notes,
+/// );
 /// ExitCode::from(status.exit())
 /// ```
 pub fn run_program<

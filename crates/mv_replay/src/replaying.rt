@@ -29,14 +29,12 @@ use std::alloc::Global;
 ///
 /// Returns a `ReplayStatus` other than `Done`. If the text is the cause, nothing was written.
 ///
-/// # Example
+/// # Examples
+///
+/// From `crates/mv_program/src/program.rt`, for the command `replay` or `convert`:
 ///
 /// ```
-/// match judge_journal(alloc, JournalCommand::Replay, &mut input, &mut report, &mut notes) {
-///     ReplayStatus::Done => { .. }
-///     ReplayStatus::Illegal(line) => { .. }
-///     other => { .. }
-/// }
+/// Status::from(judge_journal(alloc, command, input, report, notes))
 /// ```
 pub fn judge_journal<D: Source, R: Sink, N: Sink>(
     alloc: Global,
@@ -85,12 +83,6 @@ pub fn judge_journal<D: Source, R: Sink, N: Sink>(
 /// # Errors
 ///
 /// Returns a `ReplayStatus` other than `Done`. If the text is the cause, nothing was written.
-///
-/// # Example
-///
-/// ```
-/// let status = replay_command(alloc, &mut input, &mut report, &mut notes);
-/// ```
 pub fn replay_command<D: Source, R: Sink, N: Sink>(
     alloc: Global,
     input: &mut D,
@@ -118,12 +110,6 @@ pub fn replay_command<D: Source, R: Sink, N: Sink>(
 /// # Errors
 ///
 /// Returns a `ReplayStatus` other than `Done`. If the text is the cause, nothing was written.
-///
-/// # Example
-///
-/// ```
-/// let status = convert_command(alloc, &mut input, &mut report, &mut notes);
-/// ```
 pub fn convert_command<D: Source, R: Sink, N: Sink>(
     alloc: Global,
     input: &mut D,

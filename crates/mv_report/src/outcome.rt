@@ -32,11 +32,13 @@ pub struct Outcome {
 ///
 /// `NoMemory` if there is not enough memory for the ends and the lines.
 ///
-/// # Example
+/// # Examples
+///
+/// From `crates/mv_tests/src/tests/orders.rt`:
 ///
 /// ```
-/// let outcome = outcome_of(alloc, &deck)?;
-/// let text = write_report(alloc, &deck, &outcome.ends, &outcome.lines, &outcome.volumes)?;
+/// let outcome = outcome_of(alloc, &deck).expect(rt, "memory for an outcome");
+/// assert!(rt; outcome.ends.as_slice() == ENDS.as_slice());
 /// ```
 pub fn outcome_of(alloc: Global, deck: &Deck) -> Result<Outcome, NoMemory>
     ensures ends { IfOk result (λ outcome. outcome.ends.items ≡ ends (deck_data deck.now)) }

@@ -75,12 +75,18 @@ fn run_station<R: Threads + Wait + Clock + Sync, G: Gate + Sync>(
 ///
 /// `NoMemory` if memory runs out, before the tasks start or after all have ended.
 ///
-/// # Example
+/// # Examples
+///
+/// From `crates/mv_program/src/texts.rt`, which runs a deck on threads, or polled on one:
 ///
 /// ```
-/// let deck = read_deck(alloc, text, 2)?;
-/// let run = run_deck(rt, alloc, &deck, 2, &OpenGate)?;
-/// let report = write_report(alloc, &deck, &run.ends, &run.lines, &run.volumes)?;
+/// match way {
+///     Way::Threads => run_deck(host.rt, host.alloc, deck, initiators, host.gate),
+///     Way::Polled(seed) => {
+///         let mut order = RoundOrder::new(seed);
+///         run_polled(host.rt, host.alloc, deck, initiators, &mut order)
+///     }
+/// }
 /// ```
 pub fn run_deck<R: Threads + Wait + Clock + Sync, G: Gate + Sync>(
     rt: &R,
