@@ -38,7 +38,7 @@ pub enum TableRefusal {
     #[error("a table has 1 to 32 events")]
     BadSize,
     /// The events or the slots go past the last block, or have a block in common.
-    #[error("the events or the slots are not blocks of their own")]
+    #[error("the events or the slots go past the last block, or overlap")]
     BadRange,
     /// A block of the table is not the owner's. This is the lowest such block.
     #[error("block {0} is not the table's owner's")]

@@ -9,7 +9,7 @@ use thiserror::Error;
 
 /// The error of a sink that failed before it had all bytes.
 #[derive(Clone, Copy, Debug, PartialEq, Eq, Error)]
-#[error("the stream failed behind {taken} bytes")]
+#[error("the stream failed after {taken} bytes")]
 pub struct Partial {
     /// How many bytes of the text the sink took, from the front.
     pub taken: usize,

@@ -78,17 +78,17 @@ pub enum ConfigLimit {
 #[derive(Clone, Copy, Debug, PartialEq, Eq, Error)]
 pub enum CheckRefusal {
     /// The configuration does not keep a limit. This is the first such limit.
-    #[error("a limit does not hold: {0}")]
+    #[error("the configuration is beyond a limit: {0}")]
     Limit(ConfigLimit),
     /// The owner of an event control block is not a caller. This is the first such block.
-    #[error("the owner of block {0} is no caller")]
+    #[error("the owner of block {0} is not a caller")]
     BadOwner(u32),
     /// An exit's source is not a block, or one of its targets is not a block or not above the source. This is the number of the
     /// first such exit, counted from 1.
     #[error("exit {0} has a source or a target that it can't have")]
     BadExit(u32),
     /// The sum of the budgets is above 524,287. This is the sum.
-    #[error("the budgets come to {0} events, above 524,287")]
+    #[error("the sum of the budgets is {0} events, above 524,287")]
     Budget(u64),
     /// There is not enough memory. Nothing else is wrong with the configuration.
     #[error("there is not enough memory for the configuration")]
