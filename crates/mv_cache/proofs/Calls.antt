@@ -1,61 +1,45 @@
 -- What the calls of the writer and of a reader leave of their task. Used by write_pair and read_pair.
-use Rattle.std.proofs.Common.{◌≡◌, ℕ, ◌≤◌, false, List, [], ◌∷◌, ◌++◌, Result, inl, inr, refl, sym, ap, ◌∙◌}
-use Rattle.std.proofs.Common.{subst, arith, append_assoc}
-use Rattle.std.proofs.lemmas.List.{append-nil}
-use Rattle.std.proofs.Common.{le_refl}
+use Rattle.std.proofs.Common.{◌≡◌, ℕ, ◌≤◌, false, List, [], ◌∷◌, ◌++◌, Result, inl, refl, sym, ap, ◌∙◌, subst, append_assoc, le_refl}
 use Rattle.std.specs.List.{AllByRecursion, Contains}
-use Rattle.mv_latch.specs.declared.operation.LatchOp.TheVariants.{Obtain, Confirm, Release}
-use Rattle.mv_latch.specs.declared.operation.LatchReply.TheVariants.{Granted, Queued}
+use Rattle.mv_latch.specs.declared.operation.LatchOp.TheVariants.{Obtain, Release}
 use Rattle.mv_latch.specs.declared.request.LatchForm.TheVariants.{Waiting}
 use Rattle.mv_latch.specs.declared.request.Mode.{Mode}
 use Rattle.mv_latch.specs.declared.request.Mode.TheVariants.{Exclusive, Shared}
 use Rattle.mv_latch.proofs.Members.{rest_is_in}
 use Rattle.mv_machine.specs.declared.entry.Entry.{Entry}
-use Rattle.mv_machine.specs.declared.entry.Object.{Object}
-use Rattle.mv_machine.specs.declared.entry.Object.TheVariants.{Volume, Latches}
-use Rattle.mv_machine.specs.declared.entry.Op.{Op}
+use Rattle.mv_machine.specs.declared.entry.Object.TheVariants.{Latches}
 use Rattle.mv_machine.specs.declared.entry.Op.TheVariants as op_on
-use Rattle.mv_machine.specs.declared.entry.Reply.{Reply}
-use Rattle.mv_machine.specs.declared.entry.Reply.TheVariants as reply_of
-use Rattle.mv_machine.specs.declared.entry.VolumeOp.TheVariants.{Read, Write}
-use Rattle.mv_machine.specs.declared.entry.VolumeReply.TheVariants.{Value}
 use Rattle.mv_machine.specs.Reach.{release_cost}
 use Rattle.mv_machine.specs.Setup.{Setup}
-use Rattle.mv_machine.proofs.EntryRuns.{entry_of}
 use Rattle.mv_board.specs.Faces.{BoardFace, CallerFace}
 use Rattle.mv_calls.specs.Keeping.{kept_of}
 use Rattle.mv_calls.specs.LatchCalls.{Requested, obtain, release_latch, let_go}
-use Rattle.mv_calls.specs.Program.{Program, Done, Call, Heard, on_latch, on_volume}
+use Rattle.mv_calls.specs.Program.{Program, Call, Heard, on_latch}
 use Rattle.mv_calls.specs.Refusal.{Refusal}
-use Rattle.mv_calls.specs.Waits.{read_volume, write_volume, the_value, stored}
+use Rattle.mv_calls.specs.Waits.{read_volume, write_volume}
 use Rattle.mv_wait.specs.Run.{IsServed}
 use Rattle.mv_wait.proofs.Compose.{still_served}
 use Rattle.mv_latchset.specs.declared.obtaining.Obtained.TheVariants as got
 use Rattle.mv_latchset.specs.declared.token.LatchToken.{LatchToken}
 use Rattle.mv_latchset.specs.Obtaining.{IsObtainedBy}
-use Rattle.mv_attach.proofs.Always.{Always, always_says, Grown, served_grown}
-use Rattle.mv_attach.proofs.Once.{Once, served_once, once_grown}
+use Rattle.mv_attach.proofs.Always.{Grown, served_grown}
+use Rattle.mv_attach.proofs.Once.{served_once, once_grown}
 use Rattle.mv_attach.proofs.Says.{always_obtain, always_read, always_write}
 use Rattle.mv_ordered.specs.LatchOrder.{HasLockDiscipline}
-use Rattle.mv_ordered.proofs.Calls.{IsPlain, call_keeps_discipline, release_keeps_discipline, one_request_keeps_discipline}
+use Rattle.mv_ordered.proofs.Calls.{IsPlain, release_keeps_discipline, one_request_keeps_discipline}
+use Rattle.mv_guarded.specs.Guarded.{HoldsLatch, Keeps, value_from}
+use Rattle.mv_guarded.proofs.Holding.{holds_granted, still_holds, wrote_one, plain_keeps_discipline}
+use Rattle.mv_guarded.proofs.Rules.{keeps_push, keeps_append}
+use Rattle.mv_guarded.proofs.Volumes.{value-append}
 use Rattle.mv_cache.specs.declared.cache.Pair.{Pair}
-use Rattle.mv_cache.specs.Whole.{HoldsLatch, value_from, pair_of, IsAllowed, AreAllowed, IsCareful, StaysWhole, IsWriting, IsReading}
-use Rattle.mv_cache.specs.Whole.{IsLonger, Reads, WasRead, first_pair}
-use Rattle.mv_cache.proofs.Logs.{IsCalm, allowed_more, whole_more, value-append, calm_pair, calm_are_allowed, calm_stays_whole}
-use Rattle.mv_cache.proofs.Logs.{still_holds, holds_at_once, holds_confirmed, asked_entry}
+use Rattle.mv_cache.specs.Whole.{pair_of, IsAllowed, IsCareful, StaysWhole, IsWriting, IsReading, IsLonger, WasRead, first_pair}
+use Rattle.mv_cache.proofs.Logs.{IsCalm, calm_allowed, whole_more, calm_pair, calm_stays_whole}
 
 -- ---- calls that write nothing and purge no requestor, and keep the lock discipline
 
 pub record IsQuiet (t u : CallerFace) : Type 0 where
   pub grown : Grown IsCalm t u
   pub keeps : HasLockDiscipline t.log → HasLockDiscipline u.log
-
--- a call that neither obtains nor waits keeps it
-plain_keeps : {A : Type 0} (most : ℕ) (call : Call A) (Is : A → Type 0) (t u : CallerFace) → IsServed most call Is t u
-    → Always (λ o op. IsPlain op) (call (kept_of t.number t.log)) → HasLockDiscipline t.log → HasLockDiscipline u.log
-plain_keeps most call Is t u s a =
-    call_keeps_discipline most t.number call t.log u.log t.told u.told s.answer s.made
-    (always_says (λ o op. IsPlain op) (call (kept_of t.number t.log)) s.made.events a s.made.done.says)
 
 -- each task may have one request, so its obtain is at the only latch that it has
 pub obtain_quiet : (b : BoardFace) (requestor most : ℕ) (mode : Mode) (Is : Result Requested Refusal → Type 0) (t u : CallerFace)
@@ -83,7 +67,7 @@ release_quiet b latch id Is t u s r =
 pub read_quiet : (n x : ℕ) (t u : CallerFace) → IsServed 1 (read_volume n) (λ a. a ≡ x) t u → IsQuiet t u
 read_quiet n x t u s = record {
   grown = served_grown IsCalm 1 (read_volume n) (λ a. a ≡ x) t u s (always_read IsCalm n (kept_of t.number t.log) tt);
-  keeps = plain_keeps 1 (read_volume n) (λ a. a ≡ x) t u s (always_read (λ o op. IsPlain op) n (kept_of t.number t.log) tt);
+  keeps = plain_keeps_discipline 1 (read_volume n) (λ a. a ≡ x) t u s (always_read (λ o op. IsPlain op) n (kept_of t.number t.log) tt);
 }
 
 -- ---- the tasks after them
@@ -94,8 +78,9 @@ still_careful b most call Is t u s q r = record {
   config = r.config;
   task = still_served b most call Is t u s r.task;
   rest = s.made.rest;
-  allowed = subst (λ k. AreAllowed k [] u.log) (sym s.same.number)
-      (subst (AreAllowed t.number []) (sym q.grown.logged) (calm_are_allowed t.number t.log q.grown.more r.allowed q.grown.each));
+  allowed = subst (λ k. Keeps IsAllowed k [] u.log) (sym s.same.number)
+      (subst (Keeps IsAllowed t.number []) (sym q.grown.logged)
+      (keeps_append IsAllowed t.number IsCalm (calm_allowed t.number) t.log q.grown.more r.allowed q.grown.each));
   discipline = q.keeps r.discipline;
 }
 
@@ -116,31 +101,13 @@ still_reading b most call Is t u s q r = record {
   other = λ zero_is. r.other (sym s.same.number ∙ zero_is);
 }
 
--- ---- who was granted holds the latch
-
-pub holds_granted : (mode : Mode) (requestor : ℕ) (t u : CallerFace) (token : LatchToken)
-    → IsObtainedBy (Obtain 0 requestor mode Waiting) 0 Waiting t (got.Granted token) u → HoldsLatch mode t.number u.log
-holds_granted mode requestor t u token (inl at_once) =
-    subst (HoldsLatch mode t.number) (sym at_once.1.logged) (holds_at_once t.number at_once.0 token.id mode requestor t.log)
-holds_granted mode requestor t u token (inr (form, q)) =
-    let queued = q.queued.1 in
-    let settled = q.settled in
-    let log : settled.awaited.log ≡ t.log ++ asked_entry t.number q.queued.0 mode requestor (reply_of.Latch (Queued token.id)) ∷ [] =
-    settled.waited.logged ∙ append-nil q.waiting.log ∙ queued.logged in
-    let number : settled.awaited.number ≡ t.number = settled.waited.same.number ∙ queued.same.number in
-    subst (HoldsLatch mode t.number)
-    (sym (settled.confirmed.1.logged
-    ∙ (λ i. log i ++ entry_of (number i) Latches settled.confirmed.0 (op_on.Latch (Confirm 0 token.id))
-    (reply_of.Latch (Granted token.id)) ∷ [])))
-    (holds_confirmed t.number q.queued.0 settled.confirmed.0 token.id mode requestor t.log)
-
 -- ---- the writer inside its section
 
 pub record IsInside (b : BoardFace) (pairs : List Pair) (t : CallerFace) : Type 0 where
   pub careful : IsCareful b t
   pub number : t.number ≡ 0
   pub whole : StaysWhole pairs [] t.log
-  pub holds : HoldsLatch Exclusive 0 t.log
+  pub holds : HoldsLatch 0 Exclusive 0 t.log
 
 pub enters : (b : BoardFace) (pairs : List Pair) (requestor : ℕ) (t u : CallerFace) (token : LatchToken) → IsWriting b pairs t
     → IsWriting b pairs u
@@ -149,49 +116,38 @@ enters b pairs requestor t u token before now by = record {
   careful = now.careful;
   number = now.number;
   whole = now.whole;
-  holds = subst (λ k. HoldsLatch Exclusive k u.log) before.number (holds_granted Exclusive requestor t u token by);
+  holds = subst (λ k. HoldsLatch 0 Exclusive k u.log) before.number (holds_granted 0 Exclusive requestor t u token by);
 }
-
-may_write : (k n x : ℕ) (log : List Entry) (o : Object) (op : Op) → o ≡ Volume n → op ≡ op_on.Volume (Write x)
-    → (k ≡ 0) × HoldsLatch Exclusive k log → IsAllowed k log o op
-may_write k n x log o op at is both =
-    subst (λ p. IsAllowed k log p op) (sym at) (subst (λ p. IsAllowed k log (Volume n) p) (sym is) both)
-
--- the entry of a write
-pub wrote : (n x : ℕ) (Is : Unit {0} → Type 0) (t u : CallerFace) → (s : IsServed 1 (write_volume n x) Is t u)
-    → Once (Volume n) (op_on.Volume (Write x)) (λ h. on_volume h.entry.reply stored) s.answer t u
-wrote n x Is t u s =
-    served_once 1 (write_volume n x) Is (Volume n) (op_on.Volume (Write x)) (λ h. on_volume h.entry.reply stored) t u s (omega arith) refl
 
 pub writes : (b : BoardFace) (pairs : List Pair) (n x : ℕ) (Is : Unit {0} → Type 0) (t u : CallerFace)
     → IsServed 1 (write_volume n x) Is t u → IsInside b pairs t → IsInside b pairs u
 writes b pairs n x Is t u s r =
-    let one = wrote n x Is t u s in
+    let one = wrote_one n x Is t u s in
     let e = one.heard.entry in
-    let holds : HoldsLatch Exclusive 0 (t.log ++ e ∷ []) = still_holds Exclusive 0 n t.log e one.object r.holds in record {
+    let holds : HoldsLatch 0 Exclusive 0 (t.log ++ e ∷ []) = still_holds 0 Exclusive 0 n t.log e one.object r.holds in record {
       careful = record {
         config = r.careful.config;
         task = still_served b 1 (write_volume n x) Is t u s r.careful.task;
         rest = s.made.rest;
-        allowed = subst (λ k. AreAllowed k [] u.log) (sym s.same.number)
-            (subst (AreAllowed t.number []) (sym one.logged)
-            (allowed_more t.number [] t.log e r.careful.allowed
-            (may_write t.number n x t.log e.object e.op one.object one.makes
-            (r.number, subst (λ k. HoldsLatch Exclusive k t.log) (sym r.number) r.holds))));
-        discipline = plain_keeps 1 (write_volume n x) Is t u s (always_write (λ o op. IsPlain op) n x (kept_of t.number t.log) tt)
-            r.careful.discipline;
+        allowed = subst (λ k. Keeps IsAllowed k [] u.log) (sym s.same.number)
+            (subst (Keeps IsAllowed t.number []) (sym one.logged)
+            (keeps_push IsAllowed t.number [] t.log e r.careful.allowed
+            (subst (IsAllowed t.number t.log e.object) (sym one.makes)
+            (r.number, subst (λ k. HoldsLatch 0 Exclusive k t.log) (sym r.number) r.holds))));
+        discipline = plain_keeps_discipline 1 (write_volume n x) Is t u s
+            (always_write (λ o op. IsPlain op) n x (kept_of t.number t.log) tt) r.careful.discipline;
       };
       number = s.same.number ∙ r.number;
       whole = subst (StaysWhole pairs []) (sym one.logged) (whole_more pairs [] t.log e r.whole (inl holds));
-      holds = subst (HoldsLatch Exclusive 0) (sym one.logged) holds;
+      holds = subst (HoldsLatch 0 Exclusive 0) (sym one.logged) holds;
     }
 
 -- what both writes leave is the pair
 pub both_written : (left right : ℕ) (Is Are : Unit {0} → Type 0) (t u v : CallerFace) → IsServed 1 (write_volume 0 left) Is t u
     → IsServed 1 (write_volume 1 right) Are u v → pair_of v.log ≡ record { left = left; right = right }
 both_written left right Is Are t u v s w =
-    let first = wrote 0 left Is t u s in
-    let second = wrote 1 right Are u v w in
+    let first = wrote_one 0 left Is t u s in
+    let second = wrote_one 1 right Are u v w in
     let e = first.heard.entry in
     let f = second.heard.entry in
     let log : v.log ≡ (t.log ++ e ∷ []) ++ f ∷ [] = second.logged ∙ ap (λ es. es ++ f ∷ []) first.logged in
@@ -216,25 +172,6 @@ leaves b pairs pair most call Is t u s q r is member =
 
 -- ---- a reader inside its section
 
-value_of : (r : Reply) (x : ℕ) → on_volume r the_value ≡ Done x → r ≡ reply_of.Volume (Value x)
-value_of (reply_of.Volume (Value n)) x e = let same : n ≡ x = cc e in ap (λ m. reply_of.Volume (Value m)) same
-value_of (reply_of.Volume r) x e = absurd (cc e)
-value_of r x e = absurd (cc e)
-
-pub record HasReadOne (n x : ℕ) (t u : CallerFace) : Type 0 where
-  pub entry : Entry
-  pub logged : u.log ≡ t.log ++ entry ∷ []
-  pub reads : Reads n x entry
-
-pub read_one : (n x : ℕ) (t u : CallerFace) → IsServed 1 (read_volume n) (λ a. a ≡ x) t u → HasReadOne n x t u
-read_one n x t u s =
-    let one = served_once 1 (read_volume n) (λ a. a ≡ x) (Volume n) (op_on.Volume Read) (λ h. on_volume h.entry.reply the_value) t u s
-    (omega arith) refl in record {
-      entry = one.heard.entry;
-      logged = one.logged;
-      reads = record { object = one.object; op = one.makes; reply = value_of one.heard.entry.reply x (one.done ∙ ap Done s.is) };
-    }
-
 -- a reader that has obtained the latch and read both numbers
 pub before_release : (b : BoardFace) (t u v w : CallerFace) (requestor most left right : ℕ) (Is : Result Requested Refusal → Type 0)
     → IsServed most (obtain b.config 0 requestor Shared Waiting) Is t u → IsServed 1 (read_volume 0) (λ a. a ≡ left) u v
@@ -253,7 +190,7 @@ read_later t u pair l r = record {
   second = r.second;
   later = r.later ++ l.more;
   split = l.logged ∙ ap (λ log. log ++ l.more) r.split ∙ append_assoc r.before (r.first ∷ r.second ∷ r.later) l.more;
-  holds = subst (λ k. HoldsLatch Shared k r.before) (sym l.number) r.holds;
+  holds = subst (λ k. HoldsLatch 0 Shared k r.before) (sym l.number) r.holds;
   left = r.left;
   right = r.right;
 }

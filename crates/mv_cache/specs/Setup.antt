@@ -10,7 +10,7 @@ pairs_limit = 20000
 abbrev pub reads_limit : ℕ
 reads_limit = 20000
 
--- The writer is caller 0, and three readers are behind it. The two volumes are guarded by one latch. For each pair and each read a
+-- The writer is caller 0, and three readers come after it. The two volumes are guarded by one latch. For each pair and each read a
 -- task obtains the latch by two events at most, has two events on the volumes, and releases it.
 abbrev pub cache_setup : ℕ → ℕ → Setup
 cache_setup pairs reads = record {

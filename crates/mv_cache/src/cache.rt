@@ -27,10 +27,10 @@ pub struct Pair {
     pub right: u32,
 }
 
-/// The pair that stands before the first is written.
+/// The pair that the volumes have before the first write.
 pub const FIRST: Pair = Pair { left: 0, right: 0 };
 
-/// The writer is caller 0, and the readers are those behind it.
+/// The writer is caller 0, and the readers are the callers after it.
 const WRITER: u32 = 0;
 
 /// How many readers there are.
@@ -43,7 +43,7 @@ const LEFT: u32 = 0;
 
 const RIGHT: u32 = 1;
 
-/// What came of it.
+/// The outcome of a run.
 #[derive(Drop)]
 pub struct Shared {
     /// What each task read, in order; the writer reads nothing.
@@ -87,7 +87,7 @@ fn write_pair<R: Wait + Clock>(
     ensures left { task.old.left ≤ task.new.left + 5 }
 {
     let pair = pairs[number];
-    // No other refusal than that somebody purged the requestor, and nobody does.
+    // An obtain is refused only if its request is purged, and no task purges any.
     let form = LatchForm::Waiting;
     let mode = Mode::Exclusive;
     let Ok(got) = obtain(station, rt, task, LATCH, WRITER as u64, mode, form) else {
@@ -136,7 +136,7 @@ fn write_all<R: Wait + Clock>(rt: &R, station: &Station, task: &mut Task, pairs:
     }
 }
 
-// A reader: so many reads.
+// A reader: this many reads.
 fn read_all<R: Wait + Clock>(
     rt: &R,
     station: &Station,
@@ -170,7 +170,7 @@ impl Work for Sharing<'_> {
 
     ghost can_start = { λ s b k room. IsSharing b s.pairs.now s.reads × HasRoom s.reads room };
 
-    ghost has_done = { λ s b k old t new. HasDone s.pairs.now k t new.items };
+    ghost has_done = { λ s b k old t new. HasDone s.pairs.now k t.log new.items };
 
     #[tactic(auto, using(mv_ordered::proofs::Calls::new_keeps_discipline))]
     fn work<R: Wait + Clock>(
@@ -200,11 +200,11 @@ fn rooms_for(alloc: Global, reads: u32) -> Result<Vec<Vec<Pair>>, NoMemory>
     Ok(rooms)
 }
 
-/// Has one task write these pairs, one after the other, while three others read so often each.
+/// Has one task write these pairs, one after the other, while three others read `reads` times each, and returns what they read.
 ///
 /// # Errors
 ///
-/// `NoMemory` where there is not enough, before the tasks start.
+/// `NoMemory` if memory runs out, before the tasks start.
 pub fn share<R: Threads + Wait + Clock + Sync>(
     rt: &R,
     alloc: Global,

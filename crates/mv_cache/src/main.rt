@@ -1,4 +1,4 @@
-//! A pair of numbers in two volumes that tasks share under one latch: no reader sees the half of one pair and the half of
+//! A pair of numbers in two volumes that tasks share under one latch: no reader sees half of one pair and half of
 //! another.
 #![tactic(auto)]
 
@@ -8,7 +8,7 @@ pub use cache::{Pair, Shared, share};
 use mv_machine::replay;
 use std::io::{self, Print};
 
-// What is written, one after the other.
+// The pairs that are written, one after the other.
 const PAIRS: [Pair; 4] = [
     Pair { left: 3, right: 4 },
     Pair { left: 5, right: 12 },
@@ -19,7 +19,7 @@ const PAIRS: [Pair; 4] = [
 // How often each reader reads.
 const READS: u32 = 5;
 
-// Which pairs a reader saw, the schedule decides: what is printed may not hang on it.
+// The schedule decides which pairs a reader saw, so the output must not depend on it.
 fn tell_read(rt: &impl Print, read: &[Vec<Pair>]) -> io::Result<()> {
     for pairs in read {
         let whole = pairs

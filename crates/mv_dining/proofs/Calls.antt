@@ -1,11 +1,7 @@
 -- What an obtain and a release leave of a philosopher. Used by take_fork and put_fork.
-use Rattle.std.proofs.Common.{◌≡◌, ℕ, ◌≤◌, ◌<◌, false, List, [], ◌∷◌, ◌++◌, Result, Ok, Err, refl, sym, subst, le_refl}
-use Rattle.mv_latch.specs.declared.operation.LatchOp.TheVariants.{Obtain}
+use Rattle.std.proofs.Common.{◌≡◌, ℕ, ◌≤◌, ◌<◌, false, Result, refl, sym, subst, le_refl}
 use Rattle.mv_latch.specs.declared.request.LatchForm.TheVariants.{Waiting}
 use Rattle.mv_latch.specs.declared.request.Mode.TheVariants.{Exclusive}
-use Rattle.mv_machine.specs.declared.entry.Object.{Object}
-use Rattle.mv_machine.specs.declared.entry.Op.{Op}
-use Rattle.mv_machine.specs.declared.entry.Op.TheVariants as op_on
 use Rattle.mv_machine.specs.Kept.{standing}
 use Rattle.mv_machine.specs.Reach.{release_cost}
 use Rattle.mv_machine.specs.Setup.{Setup}
@@ -17,18 +13,15 @@ use Rattle.mv_calls.specs.Program.{Call, entries}
 use Rattle.mv_calls.specs.Refusal.{Refusal}
 use Rattle.mv_wait.specs.Run.{IsServed}
 use Rattle.mv_wait.proofs.Compose.{still_served}
-use Rattle.mv_latchset.specs.Answers.{obtain_answer}
-use Rattle.mv_latchset.specs.declared.obtaining.Obtained.{Obtained}
-use Rattle.mv_latchset.specs.declared.obtaining.Obtained.TheVariants as got
-use Rattle.mv_latchset.specs.declared.obtaining.ObtainRefusal.{ObtainRefusal}
 use Rattle.mv_attach.proofs.Always.{served_keeps}
 use Rattle.mv_attach.proofs.Says.{always_obtain}
-use Rattle.mv_ordered.specs.Held.{held, without, HasObtained}
+use Rattle.mv_ordered.specs.Held.{held, without}
 use Rattle.mv_ordered.specs.LatchOrder.{HasLockDiscipline}
-use Rattle.mv_ordered.proofs.Calls.{IsPlain, obtain_keeps_discipline, obtain_holds, below_held, release_is_plain, release_keeps_discipline}
-use Rattle.mv_ordered.proofs.Calls.{release_holds}
+use Rattle.mv_ordered.proofs.Calls.{obtain_keeps_discipline, below_held, release_is_plain, release_keeps_discipline, release_holds}
+use Rattle.mv_guarded.specs.Guarded.{TakesAlone, AreAlone}
+use Rattle.mv_guarded.proofs.Holding.{plain_alone}
 use Rattle.mv_dining.specs.Setup.{dining_setup}
-use Rattle.mv_dining.specs.Dining.{AreLower, TakesAlone, AreAlone, IsDining}
+use Rattle.mv_dining.specs.Dining.{AreLower, IsDining}
 
 -- a call that keeps the lock discipline, and obtains exclusively what it obtains
 still_dining : {A : Type 0} (b : BoardFace) (most : ℕ) (call : Call A) (Is : A → Type 0) (t u : CallerFace)
@@ -54,34 +47,10 @@ obtain_dines b fork requestor most Is t u s lower =
     (λ alone. served_keeps TakesAlone most (obtain b.config fork requestor Exclusive Waiting) Is t u alone s
     (always_obtain TakesAlone b.config fork requestor Exclusive (kept_of t.number t.log) refl (λ id. tt)))
 
--- what an obtain adds to the forks that are held
-abbrev pub HasTaken : ℕ → List (ℕ × ℕ) → List (ℕ × ℕ) → Result Obtained ObtainRefusal → Type 0
-HasTaken fork old new (Ok (got.Granted token)) = new ≡ old ++ (fork, token.id) ∷ []
-HasTaken fork old new (Ok (got.Pending token)) = ⊥
-HasTaken fork old new (Err why) = new ≡ old
-
-taken_by : (fork : ℕ) (old new : List (ℕ × ℕ)) (r : Result Obtained ObtainRefusal) → HasObtained fork old new (obtain_answer r)
-    → HasTaken fork old new r
-taken_by fork old new (Ok (got.Granted token)) h = h
-taken_by fork old new (Ok (got.Pending token)) h = h
-taken_by fork old new (Err why) h = h
-
-pub obtain_takes : (c : Setup) (fork requestor most : ℕ) (r : Result Obtained ObtainRefusal) (t u : CallerFace)
-    → IsServed most (obtain c fork requestor Exclusive Waiting) (λ a. a ≡ obtain_answer r) t u → AreLower fork (held t.log)
-    → HasTaken fork (held t.log) (held u.log) r
-obtain_takes c fork requestor most r t u s lower =
-    taken_by fork (held t.log) (held u.log) r (subst (HasObtained fork (held t.log) (held u.log)) s.is
-    (obtain_holds c fork requestor most t.number Exclusive t.log u.log t.told u.told s.answer s.made
-    (below_held fork (standing t.log) lower)))
-
 -- ---- a release, which is one event
 
 one_event : (c : Setup) → (meals : ℕ) × (c ≡ dining_setup meals) → release_cost c ≤ 1
 one_event c has = subst (λ (s : Setup). release_cost s ≤ 1) (sym has.1) (le_refl 1)
-
-plain_alone : (o : Object) (op : Op) → IsPlain op → TakesAlone o op
-plain_alone o (op_on.Latch (Obtain latch requestor mode form)) plain = absurd plain
-plain_alone o op plain = tt
 
 pub release_dines : (b : BoardFace) (latch id : ℕ) (Is : Result ℕ Refusal → Type 0) (t u : CallerFace)
     → IsServed (release_cost b.config) (release_latch b.config latch id false) Is t u → IsDining b t → IsDining b u

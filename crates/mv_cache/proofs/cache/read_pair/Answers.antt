@@ -3,8 +3,9 @@ use Rattle.mv_latch.specs.declared.request.Mode.TheVariants.{Shared}
 use Rattle.mv_latch.specs.declared.operation.LatchOp.TheVariants.{Obtain}
 use Rattle.mv_latch.specs.declared.request.LatchForm.TheVariants.{Waiting}
 use Rattle.mv_latchset.specs.Obtaining.{IsObtainedBy}
-use Rattle.mv_cache.specs.Whole.{HoldsLatch}
-use Rattle.mv_cache.proofs.Calls.{obtain_quiet, release_quiet, still_reading, before_release, read_one, holds_granted}
+use Rattle.mv_guarded.specs.Guarded.{HoldsLatch}
+use Rattle.mv_guarded.proofs.Holding.{read_one, holds_granted}
+use Rattle.mv_cache.proofs.Calls.{obtain_quiet, release_quiet, still_reading, before_release}
 use Rattle.mv_cache.proofs.cache.read_pair.Goals as goal
 
 pub returns-in_default-clause-ready : goal.returns-in_default-clause-ready
@@ -42,7 +43,7 @@ returns-clause-read g c =
       split = rest.logged ∙ ap (λ log. log ++ rest.more) (two.logged ∙ ap (λ log. log ++ two.entry ∷ []) one.logged)
           ∙ append_assoc (u.log ++ one.entry ∷ []) (two.entry ∷ []) rest.more
           ∙ append_assoc u.log (one.entry ∷ []) (two.entry ∷ rest.more);
-      holds = subst (λ k. HoldsLatch Shared k u.log) (sym number) (holds_granted Shared c.from-reader.result t u token by);
+      holds = subst (λ k. HoldsLatch 0 Shared k u.log) (sym number) (holds_granted 0 Shared c.from-reader.result t u token by);
       left = one.reads;
       right = two.reads;
     }

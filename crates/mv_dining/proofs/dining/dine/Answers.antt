@@ -5,8 +5,8 @@ use Rattle.mv_attach.proofs.Back.{done_in}
 use Rattle.mv_ordered.specs.WaitChain.{HasNoLatchDeadlock}
 use Rattle.mv_ordered.proofs.Calls.{each_keeps_discipline}
 use Rattle.mv_ordered.proofs.Chains.{leads_to_one}
+use Rattle.mv_guarded.proofs.Exclusion.{one_holder_each}
 use Rattle.mv_dining.specs.Dining.{HasDined, NoForkIsShared}
-use Rattle.mv_dining.proofs.Forks.{no_fork_is_shared}
 use Rattle.mv_dining.proofs.dining.dine.Goals as goal
 
 pub returns-clause-apart : goal.returns-clause-apart
@@ -19,7 +19,8 @@ returns-clause-apart g c =
     let four : b.config.callers ≡ 4 = ap (λ (s : Setup). s.callers) (c.in_ok-station.ensures.config ∙ c.in_ok-config.ensures) in
     let done = done_in (λ k log room. HasDined log) b es c.in_ok-tasks.tasks.items c.in_ok-tasks._rooms.items _ back.order back.all
     closed.callers (omega arith) back.done in
-    subst (λ s. NoForkIsShared s es) (sym closed.config) (no_fork_is_shared b.config es closed.legal (λ k lt. (done k tt lt).alone))
+    subst (λ s. NoForkIsShared s es) (sym closed.config) (λ before later fork j k.
+    one_holder_each b.config es before later fork j k closed.legal (λ m lt. (done m tt lt).alone))
 
 pub returns-clause-no_deadlock : goal.returns-clause-no_deadlock
 returns-clause-no_deadlock g c =

@@ -1,7 +1,9 @@
 use Rattle.std.proofs.Common.{Ok, subst}
+use Rattle.mv_latch.specs.declared.request.Mode.TheVariants.{Exclusive}
 use Rattle.mv_latchset.specs.Obtaining.{IsOfLatch}
 use Rattle.mv_ordered.specs.Held.{held}
-use Rattle.mv_dining.proofs.Calls.{obtain_dines, obtain_takes, HasTaken}
+use Rattle.mv_guarded.proofs.Holding.{HasTaken, obtain_takes}
+use Rattle.mv_dining.proofs.Calls.{obtain_dines}
 use Rattle.mv_dining.proofs.dining.take_fork.Goals as goal
 
 pub returns-in_default-clause-ready : goal.returns-in_default-clause-ready
@@ -13,7 +15,7 @@ returns-in_default-clause-has g c =
     let t = c.args.task.now in
     let u = c.obtain.new.task in
     subst (HasTaken c.args.fork (held t.log) (held u.log)) c.in_default.is
-    (obtain_takes c.args.station.now.config c.args.fork _ _ c.obtain.result t u c.obtain.ensures.served c.requires.above)
+    (obtain_takes c.args.station.now.config c.args.fork _ _ Exclusive c.obtain.result t u c.obtain.ensures.served c.requires.above)
 
 pub returns-clause-ready : goal.returns-clause-ready
 returns-clause-ready g c =
@@ -27,6 +29,6 @@ returns-clause-has g c =
     let fork = c.args.fork in
     let t = c.args.task.now in
     let u = c.obtain.new.task in
-    let has = obtain_takes c.args.station.now.config fork _ _ c.obtain.result t u c.obtain.ensures.served c.requires.above in
+    let has = obtain_takes c.args.station.now.config fork _ _ Exclusive c.obtain.result t u c.obtain.ensures.served c.requires.above in
     let answered = subst (HasTaken fork (held t.log) (held u.log)) c.in-Ok.is has in
     subst (λ got. HasTaken fork (held t.log) (held u.log) (Ok got)) c.in-Granted.is answered

@@ -1,6 +1,6 @@
 use Rattle.std.proofs.Common.{rules, sym, subst}
 use Rattle.mv_ordered.proofs.Calls.{new_keeps_discipline}
-use Rattle.mv_dining.specs.Dining.{AreAlone}
+use Rattle.mv_guarded.specs.Guarded.{AreAlone}
 use Rattle.mv_dining.proofs.dining.DiningWork.work.Goals as goal
 
 pub eat_all-requires-clause-ready : goal.eat_all-requires-clause-ready
