@@ -20,7 +20,7 @@ use Rattle.mv_machine.proofs.Objects.{of-append}
 use Rattle.mv_machine.proofs.Places.{of_longer_mine}
 use Rattle.mv_calls.specs.Sections.{is_write}
 use Rattle.mv_calls.proofs.Sections.{one_holder}
-use Rattle.mv_guarded.specs.Guarded.{HoldsLatch, Keeps, IsGuarding, GuardsVolume, value, value_from, Reads, LeavesVolume}
+use Rattle.mv_guarded.specs.Guarded.{HoldsLatch, KeepsLatch, Keeps, IsGuarding, GuardsVolume, value, value_from, Reads}
 use Rattle.mv_guarded.proofs.Holding.{still_holds}
 use Rattle.mv_guarded.proofs.Reading.{grants, value_read}
 use Rattle.mv_guarded.proofs.Rules.{keeps_weaker, all_split, entry_keeps, Place, placed}
@@ -40,13 +40,12 @@ write_by : (k : ℕ) (log : List Entry) (o : Object) (op : Op) → IsAllowed k l
 write_by k log o (op_on.Volume (Write x)) may is = may.0
 write_by k log o op may is = absurd (false≢true is)
 
--- a read is of a volume, and writes none
-leaves : (n m x : ℕ) (e : Entry) → Reads m x e → LeavesVolume n e
-leaves n m x e r = record {
-  volume = m;
-  object = r.object;
-  unwritten = λ at is. absurd (false≢true (sym (ap is_write r.op) ∙ is));
-}
+-- a read releases no latch, and writes no volume
+inside_by : (m x : ℕ) (e : Entry) → Reads m x e → KeepsLatch 0 e.op
+inside_by m x e r = subst (KeepsLatch 0) (sym r.op) tt
+
+unwritten_by : (n m x : ℕ) (e : Entry) → Reads m x e → e.object ≡ Volume n → is_write e.op ≡ true → ⊥
+unwritten_by n m x e r at is = false≢true (sym (ap is_write r.op) ∙ is)
 
 module _ (c : Setup) (pairs : List Pair) (es : List Entry) (legal : Legal c es)
     (allowed : (k : ℕ) → k < c.callers → Keeps IsAllowed k [] (of k es)) (whole : StaysWhole pairs [] (of 0 es)) where
@@ -114,7 +113,8 @@ module _ (c : Setup) (pairs : List Pair) (es : List Entry) (legal : Legal c es)
           asked = Shared;
           holds = r.holds;
           reads = r.left;
-          leaves = (leaves 0 1 pair.right r.second r.right, tt);
+          inside = (inside_by 1 pair.right r.second r.right, tt);
+          unwritten = (unwritten_by 0 1 pair.right r.second r.right, tt);
         })
 
         right_is : value_from 1 0 (of 0 now) ≡ pair.right
@@ -126,5 +126,6 @@ module _ (c : Setup) (pairs : List Pair) (es : List Entry) (legal : Legal c es)
           asked = Shared;
           holds = after_first;
           reads = r.right;
-          leaves = tt;
+          inside = tt;
+          unwritten = tt;
         })

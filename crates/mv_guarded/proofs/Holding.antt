@@ -116,15 +116,16 @@ holds_granted latch mode requestor t u token (inr (form, q)) =
     (reply_of.Latch (Granted token.id)) ∷ [])))
     (holds_confirmed latch t.number q.queued.0 settled.confirmed.0 token.id mode requestor t.log)
 
--- ---- an entry on a volume leaves it
+-- ---- an entry that is not on the latch set leaves it
 
-volume_keeps : (k n : ℕ) (ts : List StandingRequest) (o : Object) (op : Op) (r : Reply) → o ≡ Volume n → stands_with k ts o op r ≡ ts
-volume_keeps k n ts (Volume m) op r at = refl
-volume_keeps k n ts o op r at = absurd (cc at)
+elsewhere_keeps : (k : ℕ) (ts : List StandingRequest) (o : Object) (op : Op) (r : Reply) → (o ≡ Latches → ⊥) → stands_with k ts o op r ≡ ts
+elsewhere_keeps k ts Latches op r off = absurd (off refl)
+elsewhere_keeps k ts o op r off = refl
 
-pub still_holds : (latch : ℕ) (mode : Mode) (k n : ℕ) (log : List Entry) (e : Entry) → e.object ≡ Volume n → HoldsLatch latch mode k log
-    → HoldsLatch latch mode k (log ++ e ∷ [])
-still_holds latch mode k n log e at h =
+-- such as a post
+pub holds_elsewhere : (latch : ℕ) (mode : Mode) (k : ℕ) (log : List Entry) (e : Entry) → (e.object ≡ Latches → ⊥)
+    → HoldsLatch latch mode k log → HoldsLatch latch mode k (log ++ e ∷ [])
+holds_elsewhere latch mode k log e off h =
     let test : Entry → Bool = λ x. tells_grant h.request.latch h.request.request.id x.op x.reply in record {
       request = h.request;
       here = h.here;
@@ -132,10 +133,16 @@ still_holds latch mode k n log e at h =
       mine = h.mine;
       granted = record {
         stands = subst (λ ts. Contains ts h.request)
-            (sym (standing_from-append [] log (e ∷ []) ∙ volume_keeps e.caller n (standing log) e.object e.op e.reply at)) h.granted.stands;
+            (sym (standing_from-append [] log (e ∷ []) ∙ elsewhere_keeps e.caller (standing log) e.object e.op e.reply off)) h.granted.stands;
         told = list_any-append test log (e ∷ []) ∙ ap (λ b. b || list_any test (e ∷ [])) h.granted.told;
       };
     }
+
+-- a read or a write of a volume
+pub still_holds : (latch : ℕ) (mode : Mode) (k n : ℕ) (log : List Entry) (e : Entry) → e.object ≡ Volume n → HoldsLatch latch mode k log
+    → HoldsLatch latch mode k (log ++ e ∷ [])
+still_holds latch mode k n log e at =
+    holds_elsewhere latch mode k log e (λ is. let same : Volume n ≡ Latches = sym at ∙ is in cc same)
 
 -- ---- the entry of a read and of a write
 

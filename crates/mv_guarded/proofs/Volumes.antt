@@ -1,7 +1,6 @@
 -- What a volume has after entries: what was written last. For programs, and for the laws.
 use Rattle.std.proofs.Common.{◌≡◌, ℕ, true, List, [], ◌∷◌, ◌++◌, inl, inr, Some, refl, sym, ap, ◌∙◌, subst, if◌then◌else◌}
 use Rattle.std.proofs.Common.{append_assoc}
-use Rattle.std.specs.List.{AllByRecursion}
 use Rattle.std.proofs.lemmas.Bool.{cases_eq, eq-eqb, ne_eqb, false≢true}
 use Rattle.std.proofs.lemmas.List.{append-nil}
 use Rattle.mv_machine.specs.declared.entry.Entry.{Entry}
@@ -21,7 +20,7 @@ use Rattle.mv_machine.proofs.Histories.{after_from-append, with_at-same, with_at
 use Rattle.mv_machine.proofs.Longer.{after_longer}
 use Rattle.mv_machine.proofs.Places.{of_mine, of_other}
 use Rattle.mv_calls.specs.Sections.{is_write}
-use Rattle.mv_guarded.specs.Guarded.{value, value_with, value_from, IsOnlyWriter, Reads}
+use Rattle.mv_guarded.specs.Guarded.{value, value_with, value_from, IsUnwritten, IsOnlyWriter, Reads}
 
 pub value-append : (n x : ℕ) (es fs : List Entry) → value_from n x (es ++ fs) ≡ value_from n (value_from n x es) fs
 value-append n x [] fs = refl
@@ -59,16 +58,13 @@ write_of op is = absurd (false≢true is)
 
 -- ---- entries that do not write it
 
-abbrev pub Unwritten : ℕ → List Entry → Type 0
-Unwritten n es = AllByRecursion (λ e. e.object ≡ Volume n → is_write e.op ≡ true → ⊥) es
-
-stays_from : (c : Setup) (s : System) (n : ℕ) (es : List Entry) → LegalFrom c s es → Unwritten n es
+stays_from : (c : Setup) (s : System) (n : ℕ) (es : List Entry) → LegalFrom c s es → IsUnwritten n es
     → ((after_from s es).volume n).state ≡ (s.volume n).state
 stays_from c s n [] l none = refl
 stays_from c s n (e ∷ es) l none = stays_from c (next s e) n es l.1 none.1
     ∙ moved_value c s e.caller e.object e.place e.op e.reply n l.0 ∙ unwritten n (s.volume n).state e.object e.op none.0
 
-pub stays_same : (c : Setup) (n : ℕ) (xs ys : List Entry) → Legal c (xs ++ ys) → Unwritten n ys → value c (xs ++ ys) n ≡ value c xs n
+pub stays_same : (c : Setup) (n : ℕ) (xs ys : List Entry) → Legal c (xs ++ ys) → IsUnwritten n ys → value c (xs ++ ys) n ≡ value c xs n
 stays_same c n xs ys l none =
     ap (λ (s : System). (s.volume n).state) (after_from-append (opening c) xs ys)
     ∙ stays_from c (after c xs) n ys (rest_is_legal c xs ys l) none

@@ -1,7 +1,7 @@
 -- State under a latch: what a caller holds, keeps to and has read by its own log, and what a volume has.
 use Rattle.std.specs.Prelude.{◌≡◌, ℕ, ◌==◌, ◌<◌, true, List, [], ◌∷◌, ◌++◌, if◌then◌else◌}
 use Rattle.std.specs.List.{AllByRecursion}
-use Rattle.mv_latch.specs.declared.operation.LatchOp.TheVariants.{Obtain, Purge}
+use Rattle.mv_latch.specs.declared.operation.LatchOp.TheVariants.{Obtain, Release, Purge}
 use Rattle.mv_latch.specs.declared.request.Mode.{Mode}
 use Rattle.mv_latch.specs.declared.request.Mode.TheVariants.{Exclusive}
 use Rattle.mv_machine.specs.declared.entry.Entry.{Entry}
@@ -26,6 +26,15 @@ pub record HoldsLatch (latch : ℕ) (asked : Mode) (k : ℕ) (log : List Entry) 
   pub mode : request.request.mode ≡ asked
   pub mine : request.request.caller ≡ k
   pub granted : HasGrant request log
+
+-- an operation that does not release this latch
+abbrev pub KeepsLatch : ℕ → Op → Type 0
+KeepsLatch latch (op_on.Latch (Release l id conditional)) = l ≡ latch → ⊥
+KeepsLatch latch op = Unit {0}
+
+-- entries of a caller during which a section of this latch goes on: none of them releases the latch
+abbrev pub AreInside : ℕ → List Entry → Type 0
+AreInside latch es = AllByRecursion (λ e. KeepsLatch latch e.op) es
 
 -- ---- rules on a caller's log
 
@@ -62,6 +71,10 @@ abbrev pub value_from : ℕ → ℕ → List Entry → ℕ
 value_from n x [] = x
 value_from n x (e ∷ es) = value_from n (value_with n x e.object e.op) es
 
+-- none of these entries writes volume n
+abbrev pub IsUnwritten : ℕ → List Entry → Type 0
+IsUnwritten n es = AllByRecursion (λ e. e.object ≡ Volume n → is_write e.op ≡ true → ⊥) es
+
 -- each write of volume n in these entries is caller w's
 abbrev pub IsOnlyWriter : ℕ → ℕ → List Entry → Type 0
 IsOnlyWriter w n es = AllByRecursion (λ e. e.object ≡ Volume n → is_write e.op ≡ true → e.caller ≡ w) es
@@ -74,14 +87,8 @@ pub record Reads (n x : ℕ) (e : Entry) : Type 0 where
   pub op : e.op ≡ op_on.Volume Read
   pub reply : e.reply ≡ reply_of.Volume (Value x)
 
--- the entry is on a volume, and does not write volume n
-pub record LeavesVolume (n : ℕ) (e : Entry) : Type 0 where
-  pub volume : ℕ
-  pub object : e.object ≡ Volume volume
-  pub unwritten : e.object ≡ Volume n → is_write e.op ≡ true → ⊥
-
--- Caller k read this number from volume n while it held the latch, in either mode; its entries since then are on volumes and do not write
--- that one, so it holds the latch still.
+-- Caller k read this number from volume n while it held the latch, in either mode. Since then it has neither released the latch nor written
+-- the volume.
 pub record HasRead (latch n k x : ℕ) (log : List Entry) : Type 0 where
   pub before : List Entry
   pub entry : Entry
@@ -90,7 +97,8 @@ pub record HasRead (latch n k x : ℕ) (log : List Entry) : Type 0 where
   pub asked : Mode
   pub holds : HoldsLatch latch asked k before
   pub reads : Reads n x entry
-  pub leaves : AllByRecursion (LeavesVolume n) since
+  pub inside : AreInside latch since
+  pub unwritten : IsUnwritten n since
 
 -- ---- exclusive latches
 

@@ -1,7 +1,6 @@
 //! What callers know of state that they guard by a latch.
 
 ghost use Rattle.std.specs.Prelude.{◌≡◌, ◌<◌, ◌++◌, ℕ, List};
-ghost use Rattle.std.specs.List.{AllByRecursion};
 ghost use Rattle.mv_latch.specs.declared.request.Mode.{Mode};
 ghost use Rattle.mv_machine.specs.declared.entry.Entry.{Entry};
 ghost use Rattle.mv_machine.specs.declared.entry.Object.TheVariants.{Volume};
@@ -10,20 +9,24 @@ ghost use Rattle.mv_machine.specs.Legal.{Legal, of};
 ghost use Rattle.mv_machine.specs.Setup.{Setup};
 ghost use Rattle.mv_calls.specs.Sections.{HasGrant, IsHolder, IsGuarded, is_write};
 ghost use Rattle.mv_ordered.specs.WaitChain.{HoldsAt};
-ghost use Rattle.mv_guarded.specs.Guarded.{HoldsLatch, GuardsVolume, LeavesVolume, HasRead, IsOnlyWriter, value, value_from, AreAlone};
+ghost use Rattle.mv_guarded.specs.Guarded.{HoldsLatch, GuardsVolume, AreInside, HasRead, IsOnlyWriter, IsUnwritten, value, value_from, AreAlone};
 
 /// In a history in which every caller guards a volume by a latch, a caller that was granted a latch holds it, and the volume is written
-/// only under its latch. What a caller read in a section of the latch the volume still has, as long as the caller's own events since then
-/// are on volumes and do not write it.
+/// only under its latch. Throughout a section of the latch, in either mode, no other caller writes the volume. What a caller read there the
+/// volume still has, until that caller writes it or releases the latch.
 pub fn sections_see_one_number()
     // By its own log a caller was granted a request that still stands: so it holds that latch.
     ensures grant { (c : Setup) (es before later : List Entry) (latch n k : ℕ) (t : StandingRequest) → GuardsVolume c es latch n
         → es ≡ before ++ later → HasGrant t (of k before) → IsHolder k t before }
     ensures written { (c : Setup) (es : List Entry) (latch n : ℕ) → GuardsVolume c es latch n → IsGuarded is_write latch (Volume n) es }
-    // From a moment at which caller k holds the latch, as long as its own entries are on volumes and do not write this one.
+    // From a moment at which caller k holds the latch until it releases it, no other caller writes the volume.
+    ensures undisturbed { (c : Setup) (es start inside later : List Entry) (latch n k : ℕ) (asked : Mode) → GuardsVolume c es latch n
+        → es ≡ start ++ (inside ++ later) → HoldsLatch latch asked k (of k start) → AreInside latch (of k inside)
+        → IsOnlyWriter k n inside }
+    // So the volume has the same number until caller k writes it or releases the latch.
     ensures stays { (c : Setup) (es start inside later : List Entry) (latch n k : ℕ) (asked : Mode) → GuardsVolume c es latch n
-        → es ≡ start ++ (inside ++ later) → HoldsLatch latch asked k (of k start) → AllByRecursion (LeavesVolume n) (of k inside)
-        → value c (start ++ inside) n ≡ value c start n }
+        → es ≡ start ++ (inside ++ later) → HoldsLatch latch asked k (of k start) → AreInside latch (of k inside)
+        → IsUnwritten n (of k inside) → value c (start ++ inside) n ≡ value c start n }
     ensures read { (c : Setup) (es before later : List Entry) (latch n k x : ℕ) → GuardsVolume c es latch n → es ≡ before ++ later
         → HasRead latch n k x (of k before) → value c before n ≡ x }
 {}

@@ -201,7 +201,8 @@ moves_permit b x y Is t u v r holds read written moves =
         asked = Exclusive;
         holds = held;
         reads = one.reads;
-        leaves = tt;
+        inside = tt;
+        unwritten = tt;
       };
       moves = subst (λ has. Moves has x y) (sym same) moves;
     } in
