@@ -12,7 +12,7 @@ use Rattle.mv_machine.specs.declared.entry.Op.TheVariants as op_on
 use Rattle.mv_machine.specs.declared.entry.Reply.{Reply}
 use Rattle.mv_machine.specs.Setup.{Setup, owner_of}
 use Rattle.mv_calls.specs.Keeping.{Kept, kept_after, kept_from, kept_of, nothing_kept, extended_with}
-use Rattle.mv_calls.specs.Waits.{wait_refusal, is_others_block}
+use Rattle.mv_calls.specs.Waits.{wait_refusal, is_others_block, AreDistinct}
 use Rattle.mv_calls.proofs.Making.{kept_caller}
 use Rattle.mv_calls.proofs.Unrefused.{IsFree, own_block as not_others, wait_unrefused}
 use Rattle.mv_server.specs.Pool.{workers, pool_setup}
@@ -52,15 +52,20 @@ own_block c n e k log is lt server = not_others c (kept_of k log) e
 
 -- ---- the wait
 
--- for the blocks that say of each worker that it is idle
-all_range : (P : ℕ → Type 0) (a m : ℕ) → ((v : ℕ) → a ≤ v → v < a + m → P v) → AllByRecursion P (range_with_len a m)
+-- what holds of each number from a to a + m
+pub all_range : (P : ℕ → Type 0) (a m : ℕ) → ((v : ℕ) → a ≤ v → v < a + m → P v) → AllByRecursion P (range_with_len a m)
 all_range P a zero each = tt
 all_range P a (suc m) each = (each a (omega arith) (omega arith), all_range P (a + 1) m (λ v low high. each v (omega arith) (omega arith)))
 
+distinct_range : (a m : ℕ) → AreDistinct (range_with_len a m)
+distinct_range a zero = tt
+distinct_range a (suc m) = (all_range (λ v. v ≡ a → ⊥) (a + 1) m (λ v low high same. absurd (omega arith)), distinct_range (a + 1) m)
+
+-- for the blocks that say of each worker that it is idle
 pub unrefused_idle : (c : Setup) (requests : List ℕ) (n k : ℕ) (log : List Entry) → c ≡ pool_setup n → k ≡ workers
     → AreRight requests k log → wait_refusal c 1 (range_with_len 0 workers) (kept_of k log) ≡ None
 unrefused_idle c requests n k log is server right = wait_unrefused c 1 (range_with_len 0 workers) (kept_of k log) (omega arith)
-    ((λ e. absurd (omega arith), (λ e. absurd (omega arith), tt)), ((λ e. absurd (omega arith), tt), (tt, tt)))
+    (distinct_range 0 workers)
     (all_range (IsFree c (kept_of k log)) 0 workers (λ e low high. record {
       own = servers_block c n e k is (omega arith) server ∙ sym (kept_caller (nothing_kept k) log);
       plain = plain_of requests k log e right;

@@ -1,5 +1,8 @@
 use Rattle.std.proofs.Common.{◌≡◌, ◌+◌, ◌*◌, length, sym, ◌∙◌, subst, arith}
 use Rattle.std.specs.List.{range_with_len}
+use Rattle.mv_ecb.specs.declared.operation.EcbOp.TheVariants.{Arm, Settle}
+use Rattle.mv_machine.specs.declared.entry.Object.TheVariants.{Ecb}
+use Rattle.mv_machine.specs.declared.entry.Op.TheVariants as op_on
 use Rattle.mv_calls.specs.Keeping.{kept_of}
 use Rattle.mv_calls.specs.Waits.{wait}
 use Rattle.mv_wait.specs.Answers.{wait_answer}
@@ -7,7 +10,7 @@ use Rattle.mv_attach.proofs.Says.{always_wait}
 use Rattle.mv_server.specs.Pool.{workers, hand_out_events}
 use Rattle.mv_server.specs.Right.{IsRight, StaysReady}
 use Rattle.mv_server.proofs.Always.{stays_after, stays_more, handed_out}
-use Rattle.mv_server.proofs.Waits.{own_block, unrefused_idle}
+use Rattle.mv_server.proofs.Waits.{own_block, all_range, unrefused_idle}
 use Rattle.mv_server.proofs.server.hand_out.Goals as goal
 use Rattle.mv_server.proofs.server.hand_out.Goals.{in-Complete+in-Ok-clear+else-is_ok, in_default-found}
 
@@ -26,7 +29,8 @@ loop-worker-init g c =
     stays_after b c.args.requests.now (2 * workers) (wait b.config 1 (range_with_len 0 workers))
     (λ a. a ≡ wait_answer c.wait.result c.wait.new.out) t c.wait.new.task c.wait.ensures.served c.requires.ready.ready
     (always_wait (IsRight c.args.requests.now t.number) b.config 1 (range_with_len 0 workers) (kept_of t.number t.log)
-    (tt, (tt, (tt, tt))) (tt, (tt, (tt, tt))))
+    (all_range (λ e. IsRight c.args.requests.now t.number (Ecb e) (op_on.Ecb Arm)) 0 workers (λ e low high. tt))
+    (all_range (λ e. IsRight c.args.requests.now t.number (Ecb e) (op_on.Ecb Settle)) 0 workers (λ e low high. tt)))
 
 pub unreachable-requires-in_default-clear : goal.unreachable-requires-in_default-clear
 unreachable-requires-in_default-clear g c =
