@@ -1,5 +1,5 @@
 -- What a call leaves of its task: which latch the task holds by its log, what the call read, and the lock discipline. For programs.
-use Rattle.std.proofs.Common.{◌≡◌, ℕ, ◌<◌, ◌||◌, Bool, List, [], ◌∷◌, ◌++◌, map, Result, Ok, Err, inl, inr, refl, sym, ap, ◌∙◌, subst}
+use Rattle.std.proofs.Common.{◌≡◌, ℕ, ◌<◌, ◌≤◌, ◌||◌, Bool, false, List, [], ◌∷◌, ◌++◌, map, Result, Ok, Err, inl, inr, refl, sym, ap, ◌∙◌, subst}
 use Rattle.std.proofs.Common.{arith}
 use Rattle.std.specs.List.{AllByRecursion, Contains, list_any}
 use Rattle.std.proofs.lemmas.Bool.{eq-eqb}
@@ -21,12 +21,14 @@ use Rattle.mv_machine.specs.declared.entry.Reply.TheVariants as reply_of
 use Rattle.mv_machine.specs.declared.entry.VolumeOp.TheVariants.{Read, Write}
 use Rattle.mv_machine.specs.declared.entry.VolumeReply.TheVariants.{Value}
 use Rattle.mv_machine.specs.Kept.{StandingRequest, standing, stands_with}
+use Rattle.mv_machine.specs.Reach.{release_cost}
 use Rattle.mv_machine.specs.Setup.{Setup}
 use Rattle.mv_machine.proofs.EntryRuns.{entry_of}
 use Rattle.mv_board.specs.Faces.{CallerFace}
 use Rattle.mv_calls.specs.Keeping.{kept_of}
-use Rattle.mv_calls.specs.LatchCalls.{obtain}
+use Rattle.mv_calls.specs.LatchCalls.{obtain, release_latch}
 use Rattle.mv_calls.specs.Program.{Done, Call, on_volume}
+use Rattle.mv_calls.specs.Refusal.{Refusal}
 use Rattle.mv_calls.specs.Sections.{tells_grant}
 use Rattle.mv_calls.specs.Waits.{read_volume, write_volume, the_value, stored}
 use Rattle.mv_calls.proofs.Purged.{standing_from-append}
@@ -39,10 +41,11 @@ use Rattle.mv_latchset.specs.declared.token.LatchToken.{LatchToken}
 use Rattle.mv_latchset.specs.Obtaining.{IsObtainedBy}
 use Rattle.mv_attach.proofs.Always.{Always, always_says}
 use Rattle.mv_attach.proofs.Once.{Once, served_once}
-use Rattle.mv_ordered.specs.Held.{named, held, HasObtained}
+use Rattle.mv_attach.proofs.Says.{always_read, always_write}
+use Rattle.mv_ordered.specs.Held.{named, held, without, HasObtained}
 use Rattle.mv_ordered.specs.LatchOrder.{HasLockDiscipline}
 use Rattle.mv_ordered.proofs.Calls.{IsPlain, IsNoLatchOp, call_keeps_discipline, wait_keeps_discipline, obtain_holds, other_holds}
-use Rattle.mv_ordered.proofs.Calls.{below_held}
+use Rattle.mv_ordered.proofs.Calls.{below_held, release_holds}
 use Rattle.mv_guarded.specs.Guarded.{HoldsLatch, Reads, TakesAlone}
 
 -- ---- a task that was granted a latch holds it
@@ -220,3 +223,30 @@ obtain_takes c latch requestor most mode r t u s lower =
     taken_by latch (held t.log) (held u.log) r (subst (HasObtained latch (held t.log) (held u.log)) s.is
     (obtain_holds c latch requestor most t.number mode t.log u.log t.told u.told s.answer s.made
     (below_held latch (standing t.log) lower)))
+
+-- ---- a section of a task that has no other latch
+
+-- its obtain
+pub takes_only : (c : Setup) (latch requestor most : ℕ) (mode : Mode) (r : Result Obtained ObtainRefusal) (t u : CallerFace)
+    → IsServed most (obtain c latch requestor mode Waiting) (λ a. a ≡ obtain_answer r) t u → held t.log ≡ []
+    → HasTaken latch [] (held u.log) r
+takes_only c latch requestor most mode r t u s bare =
+    subst (λ old. HasTaken latch old (held u.log) r) bare
+    (obtain_takes c latch requestor most mode r t u s (subst (AllByRecursion (λ n. n.0 < latch)) (sym bare) tt))
+
+-- a read and a write in it
+pub read_held : (n x : ℕ) (t u : CallerFace) → IsServed 1 (read_volume n) (λ a. a ≡ x) t u → held u.log ≡ held t.log
+read_held n x t u s =
+    same_held 1 (read_volume n) (λ a. a ≡ x) t u s (always_read (λ o op. IsNoLatchOp op) n (kept_of t.number t.log) tt)
+
+pub write_held : (n x : ℕ) (Is : Unit {0} → Type 0) (t u : CallerFace) → IsServed 1 (write_volume n x) Is t u → held u.log ≡ held t.log
+write_held n x Is t u s =
+    same_held 1 (write_volume n x) Is t u s (always_write (λ o op. IsNoLatchOp op) n x (kept_of t.number t.log) tt)
+
+-- its release, which posts nothing
+pub release_bares : (c : Setup) (latch id : ℕ) (Is : Result ℕ Refusal → Type 0) (t u : CallerFace)
+    → IsServed (release_cost c) (release_latch c latch id false) Is t u → release_cost c ≤ 1 → held t.log ≡ (latch, id) ∷ []
+    → held u.log ≡ []
+release_bares c latch id Is t u s one has =
+    release_holds c latch id (release_cost c) t.number t.log u.log t.told u.told s.answer s.made one ∙ ap (without latch id) has
+    ∙ rw (eq-eqb latch latch refl, eq-eqb id id refl) refl

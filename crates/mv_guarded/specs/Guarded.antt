@@ -16,6 +16,7 @@ use Rattle.mv_machine.specs.Kept.{StandingRequest}
 use Rattle.mv_machine.specs.Legal.{Legal, after, of}
 use Rattle.mv_machine.specs.Setup.{Setup}
 use Rattle.mv_calls.specs.Sections.{HasGrant, is_write}
+use Rattle.mv_ordered.specs.Held.{held}
 
 -- ---- what a caller holds
 
@@ -35,6 +36,10 @@ KeepsLatch latch op = Unit {0}
 -- entries of a caller during which a section of this latch goes on: none of them releases the latch
 abbrev pub AreInside : ℕ → List Entry → Type 0
 AreInside latch es = AllByRecursion (λ e. KeepsLatch latch e.op) es
+
+-- after these entries no caller has a request at a latch, by its own entries
+abbrev pub AllReleased : Setup → List Entry → Type 0
+AllReleased c es = (k : ℕ) → k < c.callers → held (of k es) ≡ []
 
 -- ---- rules on a caller's log
 
