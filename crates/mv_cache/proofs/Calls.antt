@@ -51,10 +51,14 @@ obtain_quiet b requestor most mode Is t u s r = record {
       (subst (λ (c : Setup). c.quota ≤ 1) (sym r.config.2) (le_refl 1));
 }
 
+-- a release is one event
+pub cheap : (b : BoardFace) (t : CallerFace) → IsCareful b t → release_cost b.config ≤ 1
+cheap b t r = subst (λ (c : Setup). release_cost c ≤ 1) (sym r.config.2) (le_refl 1)
+
 pub release_quiet : (b : BoardFace) (latch id : ℕ) (Is : Result ℕ Refusal → Type 0) (t u : CallerFace)
     → IsServed (release_cost b.config) (release_latch b.config latch id false) Is t u → IsCareful b t → IsQuiet t u
 release_quiet b latch id Is t u s r =
-    let one : release_cost b.config ≤ 1 = subst (λ (c : Setup). release_cost c ≤ 1) (sym r.config.2) (le_refl 1) in
+    let one = cheap b t r in
     let next : Heard → Program (Result ℕ Refusal) =
     λ h. on_latch h.entry.reply (let_go b.config false h.wakes (kept_of t.number t.log)) in record {
       grown = once_grown IsCalm Latches (op_on.Latch (Release latch id false)) next s.answer t u

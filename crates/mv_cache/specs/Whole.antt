@@ -10,6 +10,7 @@ use Rattle.mv_machine.specs.declared.entry.Op.TheVariants as op_on
 use Rattle.mv_machine.specs.declared.entry.VolumeOp.TheVariants.{Write}
 use Rattle.mv_board.specs.Faces.{BoardFace, CallerFace, IsOf}
 use Rattle.mv_calls.specs.Rest.{IsAtRest}
+use Rattle.mv_ordered.specs.Held.{held}
 use Rattle.mv_ordered.specs.LatchOrder.{HasLockDiscipline}
 use Rattle.mv_guarded.specs.Guarded.{HoldsLatch, Keeps, value_from, Reads}
 use Rattle.mv_cache.specs.declared.cache.Pair.{Pair}
@@ -91,10 +92,11 @@ pub record IsSharing (b : BoardFace) (pairs : List Pair) (reads : ℕ) : Type 0 
   pub few_pairs : length pairs ≤ pairs_limit
   pub few_reads : reads ≤ reads_limit
 
--- the task of this number is back with this log: it has kept the rule and the lock discipline, the writer wrote whole pairs, and these pairs
--- were read under the latch
+-- the task of this number is back with this log: it has kept the rule and the lock discipline and released the latch, the writer wrote whole
+-- pairs, and these pairs were read under the latch
 pub record HasDone (pairs : List Pair) (k : ℕ) (log : List Entry) (got : List Pair) : Type 0 where
   pub allowed : Keeps IsAllowed k [] log
   pub discipline : HasLockDiscipline log
+  pub bare : held log ≡ []
   pub whole : k ≡ 0 → StaysWhole pairs [] log
   pub read : AllByRecursion (WasRead k log) got

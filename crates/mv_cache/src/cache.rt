@@ -1,11 +1,13 @@
-//! The writer and the readers. Clauses cite `specs/Setup.antt`, `specs/Whole.antt`, and `WaitChain.antt` of mv_ordered.
+//! The writer and the readers. Clauses cite `specs/Setup.antt`, `specs/Whole.antt`, and definitions of mv_ordered and mv_guarded.
 
 ghost use Rattle.std.specs.Prelude.{◌≡◌, ◌<◌, ◌≤◌, ◌+◌, ◌*◌, ◌∷◌, [], length, vec_capacity, IfOk, IfSome, All};
 ghost use Rattle.std.specs.List.{AllByRecursion, Contains};
 ghost use Rattle.mv_machine.specs.Legal.{Legal};
 ghost use Rattle.mv_machine.specs.Limits.{highest_place};
+ghost use Rattle.mv_ordered.specs.Held.{held};
 ghost use Rattle.mv_ordered.specs.WaitChain.{HasNoLatchDeadlock};
 ghost use Rattle.mv_attach.specs.Rooms.{HasRoom};
+ghost use Rattle.mv_guarded.specs.Guarded.{AllReleased};
 ghost use Rattle.mv_cache.specs.Setup.{pairs_limit, reads_limit, cache_setup};
 ghost use Rattle.mv_cache.specs.Whole.{IsSharing, IsWriting, IsReading, HasDone, WasRead, IsLonger, first_pair};
 
@@ -82,8 +84,10 @@ fn write_pair<R: Wait + Clock>(
 )
     requires number { number < length pairs.now }
     requires ready { IsWriting station.now pairs.now task.old }
+    requires bare { held task.old.log ≡ [] }
     requires left { 5 ≤ task.old.left }
     ensures ready { IsWriting station.now pairs.now task.new }
+    ensures bare { held task.new.log ≡ [] }
     ensures left { task.old.left ≤ task.new.left + 5 }
 {
     let pair = pairs[number];
@@ -104,9 +108,11 @@ fn write_pair<R: Wait + Clock>(
 // Reads the pair, under the latch shared.
 fn read_pair<R: Wait + Clock>(rt: &R, station: &Station, task: &mut Task) -> Option<Pair>
     requires ready { IsReading station.now task.old }
+    requires bare { held task.old.log ≡ [] }
     requires left { 5 ≤ task.old.left }
     ensures read { IfSome result (WasRead task.new.number task.new.log) }
     ensures ready { IsReading station.now task.new }
+    ensures bare { held task.new.log ≡ [] }
     ensures longer { IsLonger task.old task.new }
     ensures left { task.old.left ≤ task.new.left + 5 }
 {
@@ -128,8 +134,10 @@ fn read_pair<R: Wait + Clock>(rt: &R, station: &Station, task: &mut Task) -> Opt
 // The writer: each pair in turn.
 fn write_all<R: Wait + Clock>(rt: &R, station: &Station, task: &mut Task, pairs: &[Pair])
     requires ready { IsWriting station.now pairs.now task.old }
+    requires bare { held task.old.log ≡ [] }
     requires left { 5 * length pairs.now ≤ task.old.left }
     ensures ready { IsWriting station.now pairs.now task.new }
+    ensures bare { held task.new.log ≡ [] }
 {
     for number in 0..pairs.len() {
         write_pair(rt, station, task, pairs, number);
@@ -145,9 +153,11 @@ fn read_all<R: Wait + Clock>(
     room: &mut Vec<Pair>,
 )
     requires ready { IsReading station.now task.old }
+    requires bare { held task.old.log ≡ [] }
     requires left { 5 * reads ≤ task.old.left }
     requires room { (room.old.items ≡ []) × (reads ≤ vec_capacity room.old) }
     ensures ready { IsReading station.now task.new }
+    ensures bare { held task.new.log ≡ [] }
     ensures number { task.new.number ≡ task.old.number }
     ensures read { AllByRecursion (WasRead task.new.number task.new.log) room.new.items }
 {
@@ -218,6 +228,8 @@ pub fn share<R: Threads + Wait + Clock + Sync>(
         read.items) shared.read.items) }
     // At each moment a task that waits for the latch leads to one that can continue.
     ensures no_deadlock { IfOk result (λ shared. HasNoLatchDeadlock shared.history.config shared.history.coming) }
+    // Each task has released the latch in the end.
+    ensures released { IfOk result (λ shared. AllReleased shared.history.config shared.history.coming) }
     ensures config { IfOk result (λ shared. shared.history.config ≡ cache_setup (length pairs.now) reads) }
     ensures legal { IfOk result (λ shared. Legal shared.history.config shared.history.coming) }
     ensures places { IfOk result (λ shared. All (λ e. e.place ≤ highest_place) shared.history.coming) }

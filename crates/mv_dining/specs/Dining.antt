@@ -1,10 +1,11 @@
 -- What a philosopher keeps to, and that no fork has two holders.
-use Rattle.std.specs.Prelude.{◌≡◌, ℕ, ◌<◌, ◌≤◌, List, ◌++◌}
+use Rattle.std.specs.Prelude.{◌≡◌, ℕ, ◌<◌, ◌≤◌, List, [], ◌++◌}
 use Rattle.std.specs.List.{AllByRecursion}
 use Rattle.mv_machine.specs.declared.entry.Entry.{Entry}
 use Rattle.mv_machine.specs.Setup.{Setup}
 use Rattle.mv_board.specs.Faces.{BoardFace, CallerFace, IsOf}
 use Rattle.mv_calls.specs.Rest.{IsAtRest}
+use Rattle.mv_ordered.specs.Held.{held}
 use Rattle.mv_ordered.specs.LatchOrder.{HasLockDiscipline}
 use Rattle.mv_ordered.specs.WaitChain.{HoldsAt}
 use Rattle.mv_guarded.specs.Guarded.{AreAlone}
@@ -28,10 +29,11 @@ pub record IsTable (b : BoardFace) (meals : ℕ) : Type 0 where
   pub config : b.config ≡ dining_setup meals
   pub few : meals ≤ meals_limit
 
--- a philosopher with this log has kept the lock discipline and obtained each fork exclusively
+-- a philosopher with this log has kept the lock discipline, obtained each fork exclusively, and put them all back
 pub record HasDined (log : List Entry) : Type 0 where
   pub discipline : HasLockDiscipline log
   pub alone : AreAlone log
+  pub none : held log ≡ []
 
 -- at no moment of the history does a fork have two holders
 abbrev pub NoForkIsShared : Setup → List Entry → Type 0

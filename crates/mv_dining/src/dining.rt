@@ -1,10 +1,11 @@
-//! The philosophers. Clauses cite `specs/Setup.antt` and `specs/Dining.antt`, and `Held.antt` and `WaitChain.antt` of mv_ordered.
+//! The philosophers. Clauses cite `specs/Setup.antt` and `specs/Dining.antt`, and definitions of mv_ordered and mv_guarded.
 
 ghost use Rattle.std.specs.Prelude.{◌≡◌, ◌<◌, ◌≤◌, ◌+◌, ◌*◌, ◌++◌, ◌∷◌, [], IfOk, IfSome, MatchOption, All};
 ghost use Rattle.mv_machine.specs.Legal.{Legal};
 ghost use Rattle.mv_machine.specs.Limits.{highest_place};
 ghost use Rattle.mv_ordered.specs.Held.{held, without};
 ghost use Rattle.mv_ordered.specs.WaitChain.{HasNoLatchDeadlock};
+ghost use Rattle.mv_guarded.specs.Guarded.{AllReleased};
 ghost use Rattle.mv_dining.specs.Setup.{meals_limit, dining_setup};
 ghost use Rattle.mv_dining.specs.Dining.{AreLower, IsDining, IsTable, HasDined, NoForkIsShared};
 
@@ -113,6 +114,7 @@ fn eat_all<R: Wait + Clock>(rt: &R, station: &Station, task: &mut Task, meals: u
     requires ready { IsDining station.now task.old }
     requires left { 6 * meals ≤ task.old.left }
     requires none { held task.old.log ≡ [] }
+    ensures none { held task.new.log ≡ [] }
     ensures ready { IsDining station.now task.new }
     ensures number { task.new.number ≡ task.old.number }
 {
@@ -152,6 +154,8 @@ pub fn dine<R: Threads + Wait + Clock + Sync>(
     ensures apart { IfOk result (λ history. NoForkIsShared history.config history.coming) }
     // At each moment a philosopher that waits for a fork leads to one that can continue.
     ensures no_deadlock { IfOk result (λ history. HasNoLatchDeadlock history.config history.coming) }
+    // Each philosopher has put its forks back in the end.
+    ensures released { IfOk result (λ history. AllReleased history.config history.coming) }
     ensures config { IfOk result (λ history. history.config ≡ dining_setup meals) }
     ensures legal { IfOk result (λ history. Legal history.config history.coming) }
     ensures places { IfOk result (λ history. All (λ e. e.place ≤ highest_place) history.coming) }

@@ -20,6 +20,7 @@ loop-made-preserved g c =
     let spent = c.read_pair.ensures.left in
     let reads : AllByRecursion (WasRead u.number u.log) old = all_read_later t u old c.read_pair.ensures.longer since.read in record {
       ready = c.read_pair.ensures.ready;
+      bare = c.read_pair.ensures.bare;
       number = c.read_pair.ensures.longer.number ∙ since.number;
       left = omega arith;
       count = elim c.match-read_pair.branch [

@@ -1,11 +1,12 @@
-use Rattle.std.proofs.Common.{◌≡◌, ◌∷◌, ◌++◌, [], sym, ap, ◌∙◌, subst, append_assoc}
+use Rattle.std.proofs.Common.{◌≡◌, ◌∷◌, ◌++◌, [], Ok, sym, ap, ◌∙◌, subst, append_assoc}
 use Rattle.mv_latch.specs.declared.request.Mode.TheVariants.{Shared}
 use Rattle.mv_latch.specs.declared.operation.LatchOp.TheVariants.{Obtain}
 use Rattle.mv_latch.specs.declared.request.LatchForm.TheVariants.{Waiting}
-use Rattle.mv_latchset.specs.Obtaining.{IsObtainedBy}
+use Rattle.mv_latchset.specs.Obtaining.{IsObtainedBy, IsOfLatch}
+use Rattle.mv_ordered.specs.Held.{held}
 use Rattle.mv_guarded.specs.Guarded.{HoldsLatch}
-use Rattle.mv_guarded.proofs.Holding.{read_one, holds_granted}
-use Rattle.mv_cache.proofs.Calls.{obtain_quiet, release_quiet, still_reading, before_release}
+use Rattle.mv_guarded.proofs.Holding.{read_one, holds_granted, HasTaken, takes_only, read_held, release_bares}
+use Rattle.mv_cache.proofs.Calls.{obtain_quiet, cheap, release_quiet, still_reading, before_release}
 use Rattle.mv_cache.proofs.cache.read_pair.Goals as goal
 
 pub returns-in_default-clause-ready : goal.returns-in_default-clause-ready
@@ -57,3 +58,25 @@ returns-clause-ready g c =
     let ready = before_release b c.args.task.now c.obtain.new.task c.read_volume-left.new.task w c.from-reader.result _ _ _ _
     c.obtain.ensures.served c.read_volume-left.ensures.served c.read_volume-right.ensures.served c.requires.ready in
     still_reading b _ _ _ w x released (release_quiet b _ _ _ w x released ready.careful) ready
+
+pub returns-in_default-clause-bare : goal.returns-in_default-clause-bare
+returns-in_default-clause-bare g c =
+    subst (HasTaken 0 [] (held c.obtain.new.task.log)) c.in_default.is
+    (takes_only c.args.station.now.config 0 _ _ Shared c.obtain.result c.args.task.now c.obtain.new.task c.obtain.ensures.served
+    c.requires.bare)
+
+pub returns-clause-bare : goal.returns-clause-bare
+returns-clause-bare g c =
+    let b = c.args.station.now in
+    let u = c.obtain.new.task in
+    let v = c.read_volume-left.new.task in
+    let w = c.read_volume-right.new.task in
+    let token = c.in-Granted.token in
+    let asked = subst (HasTaken 0 [] (held u.log)) c.in-Ok.is
+    (takes_only b.config 0 _ _ Shared c.obtain.result c.args.task.now u c.obtain.ensures.served c.requires.bare) in
+    let taken : held u.log ≡ (0, token.id) ∷ [] = subst (λ got. HasTaken 0 [] (held u.log) (Ok got)) c.in-Granted.is asked in
+    let here : token.latch ≡ 0 = subst (IsOfLatch 0) c.in-Granted.is c.in-Ok.ensures.latch in
+    release_bares b.config token.latch token.id _ w c.release_latch.new.task c.release_latch.ensures.served
+    (cheap b c.args.task.now c.requires.ready.careful)
+    (read_held 1 c.read_volume-right.result v w c.read_volume-right.ensures.served
+    ∙ read_held 0 c.read_volume-left.result u v c.read_volume-left.ensures.served ∙ taken ∙ ap (λ n. (n, token.id) ∷ []) (sym here))

@@ -11,6 +11,7 @@ returns-else-number-eq-WRITER-clause-done g c =
     let number = c.read_all.ensures.number in record {
       allowed = subst (λ k. Keeps IsAllowed k [] u.log) number ready.careful.allowed;
       discipline = ready.careful.discipline;
+      bare = c.read_all.ensures.bare;
       whole = λ zero_is. absurd (ready.other (number ∙ zero_is));
       read = subst (λ k. AllByRecursion (WasRead k u.log) c.read_all.new.room.items) number c.read_all.ensures.read;
     }

@@ -14,5 +14,8 @@ eat_all-requires-clause-ready g c = record {
 }
 
 pub returns-clause-done : goal.returns-clause-done
-returns-clause-done g c =
-    record { discipline = c.eat_all.ensures.ready.discipline; alone = c.eat_all.ensures.ready.alone }
+returns-clause-done g c = record {
+  discipline = c.eat_all.ensures.ready.discipline;
+  alone = c.eat_all.ensures.ready.alone;
+  none = c.eat_all.ensures.none;
+}
