@@ -1,7 +1,7 @@
 -- What a call leaves of its task. Used by the functions that make one call.
 use Rattle.std.proofs.Common.{◌≡◌, ℕ, zero, suc, ◌+◌, ◌≤◌, ◌<◌, nat_lt, List, [], ◌∷◌, Result, Option, None, refl, sym, ap, ◌∙◌}
 use Rattle.std.proofs.Common.{subst, arith, le_refl, Bool, true, false, not, ◌&&◌}
-use Rattle.std.proofs.lemmas.Bool.{false≢true, eq-eqb}
+use Rattle.std.proofs.lemmas.Bool.{false≢true}
 use Rattle.std.specs.List.{AllByRecursion}
 use Rattle.mv_latch.specs.declared.operation.LatchOp.TheVariants.{Release}
 use Rattle.mv_latch.specs.declared.request.LatchForm.TheVariants.{Waiting}
@@ -24,15 +24,15 @@ use Rattle.mv_wait.proofs.Compose.{still_served}
 use Rattle.mv_attach.proofs.Always.{Always, Grown, served_grown}
 use Rattle.mv_attach.proofs.Once.{served_once, once_grown}
 use Rattle.mv_attach.proofs.Says.{always_obtain, always_read, always_write, always_wait, always_clear, always_post}
-use Rattle.mv_ordered.specs.Held.{held, without}
+use Rattle.mv_ordered.specs.Held.{held}
 use Rattle.mv_ordered.specs.LatchOrder.{HasLockDiscipline}
-use Rattle.mv_ordered.proofs.Calls.{IsPlain, IsNoLatchOp, one_request_keeps_discipline, release_keeps_discipline, release_holds}
+use Rattle.mv_ordered.proofs.Calls.{IsPlain, IsNoLatchOp, one_request_keeps_discipline, release_keeps_discipline}
 use Rattle.mv_guarded.specs.Guarded.{HoldsLatch, Keeps}
-use Rattle.mv_guarded.proofs.Holding.{still_holds, read_one, wrote_one, plain_keeps_discipline, wait_keeps, same_held}
+use Rattle.mv_guarded.proofs.Holding.{still_holds, read_one, wrote_one, plain_keeps_discipline, wait_keeps, same_held, read_held, write_held}
 use Rattle.mv_guarded.proofs.Rules.{keeps_push, keeps_append}
 use Rattle.mv_permits.specs.Setup.{pool_setup}
-use Rattle.mv_permits.specs.Permits.{Moves, IsMove, IsAllowed, IsPooled, has_permit}
-use Rattle.mv_permits.proofs.Logs.{IsCalm, calm_allowed, calm_permit, permit-append}
+use Rattle.mv_permits.specs.Permits.{Moves, IsMove, IsAllowed, IsPooled, has_permit, given_back, one}
+use Rattle.mv_permits.proofs.Logs.{IsCalm, calm_allowed, calm_permit, permit-append, calm_given, given-append, write_gives}
 
 -- a release is one event
 pub cheap : (c : Setup) → (tries : ℕ) × (c ≡ pool_setup tries) → release_cost c ≤ 1
@@ -113,14 +113,6 @@ release_quiet b latch id Is t u s r =
           one;
     }
 
--- the latch that was taken is the only one
-pub release_bares : (b : BoardFace) (latch id : ℕ) (Is : Result ℕ Refusal → Type 0) (t u : CallerFace)
-    → IsServed (release_cost b.config) (release_latch b.config latch id false) Is t u → IsPooled b t → latch ≡ 0
-    → held t.log ≡ (0, id) ∷ [] → held u.log ≡ []
-release_bares b latch id Is t u s r at has =
-    release_holds b.config latch id (release_cost b.config) t.number t.log u.log t.told u.told s.answer s.made (cheap b.config r.config)
-    ∙ ap (without latch id) has ∙ rw (at, eq-eqb id id refl) refl
-
 -- there are no exits
 pub no_exits : (c : Setup) → (tries : ℕ) × (c ≡ pool_setup tries) → c.exits ≡ []
 no_exits c has = ap (λ (s : Setup). s.exits) has.1
@@ -160,6 +152,9 @@ still_pooled b most call Is t u s q r = record {
 pub same_permit : (t u : CallerFace) → IsQuiet t u → has_permit u.log ≡ has_permit t.log
 same_permit t u q = ap has_permit q.grown.logged ∙ calm_permit t.log q.grown.more q.grown.each
 
+pub same_given : (t u : CallerFace) → IsQuiet t u → given_back u.log ≡ given_back t.log
+same_given t u q = ap given_back q.grown.logged ∙ calm_given t.log q.grown.more q.grown.each
+
 -- ---- a move
 
 pub read_quiet : (n x : ℕ) (t u : CallerFace) → IsServed 1 (read_volume n) (λ a. a ≡ x) t u → IsQuiet t u
@@ -168,20 +163,18 @@ read_quiet n x t u s = record {
   keeps = plain_keeps_discipline 1 (read_volume n) (λ a. a ≡ x) t u s (always_read (λ o op. IsPlain op) n (kept_of t.number t.log) tt);
 }
 
-pub read_has : (n x : ℕ) (t u : CallerFace) → IsServed 1 (read_volume n) (λ a. a ≡ x) t u → held u.log ≡ held t.log
-read_has n x t u s = same_held 1 (read_volume n) (λ a. a ≡ x) t u s (always_read (λ o op. IsNoLatchOp op) n (kept_of t.number t.log) tt)
-
 -- what a read and a write leave: a permit was taken or given back
 pub record HasMoved (b : BoardFace) (t v : CallerFace) : Type 0 where
   pub ready : IsPooled b v
   pub permit : has_permit v.log ≡ not (has_permit t.log)
+  pub given : given_back v.log ≡ given_back t.log + one (has_permit t.log)
   pub has : held v.log ≡ held t.log
 
 pub moves_permit : (b : BoardFace) (x y : ℕ) (Is : Unit {0} → Type 0) (t u v : CallerFace) → IsPooled b t
     → HoldsLatch 0 Exclusive t.number t.log → IsServed 1 (read_volume 0) (λ a. a ≡ x) t u → IsServed 1 (write_volume 0 y) Is u v
     → Moves (has_permit t.log) x y → HasMoved b t v
 moves_permit b x y Is t u v r holds read written moves =
-    let one = read_one 0 x t u read in
+    let seen = read_one 0 x t u read in
     let quiet = read_quiet 0 x t u read in
     let now = still_pooled b 1 (read_volume 0) (λ a. a ≡ x) t u read quiet r in
     let two = wrote_one 0 y Is u v written in
@@ -190,17 +183,17 @@ moves_permit b x y Is t u v r holds read written moves =
     let held : HoldsLatch 0 Exclusive u.number t.log = subst (λ k. HoldsLatch 0 Exclusive k t.log) (sym read.same.number) holds in
     let move : IsMove u.number 0 y u.log = record {
       here = refl;
-      holds = subst (HoldsLatch 0 Exclusive u.number) (sym one.logged)
-          (still_holds 0 Exclusive u.number 0 t.log one.entry one.reads.object held);
+      holds = subst (HoldsLatch 0 Exclusive u.number) (sym seen.logged)
+          (still_holds 0 Exclusive u.number 0 t.log seen.entry seen.reads.object held);
       old = x;
       read = record {
         before = t.log;
-        entry = one.entry;
+        entry = seen.entry;
         since = [];
-        split = one.logged;
+        split = seen.logged;
         asked = Exclusive;
         holds = held;
-        reads = one.reads;
+        reads = seen.reads;
         inside = tt;
         unwritten = tt;
       };
@@ -220,6 +213,7 @@ moves_permit b x y Is t u v r holds read written moves =
             (always_write (λ o op. IsPlain op) 0 y (kept_of u.number u.log) tt) now.discipline;
       };
       permit = ap has_permit two.logged ∙ permit-append false u.log (e ∷ []) ∙ rw (two.object, two.makes) (ap not same);
-      has = same_held 1 (write_volume 0 y) Is u v written (always_write (λ o op. IsNoLatchOp op) 0 y (kept_of u.number u.log) tt)
-          ∙ read_has 0 x t u read;
+      given = ap given_back two.logged ∙ given-append false u.log (e ∷ [])
+          ∙ (λ i. same_given t u quiet i + (write_gives (has_permit u.log) 0 y e two.object two.makes ∙ ap one same) i);
+      has = write_held 0 y Is u v written ∙ read_held 0 x t u read;
     }

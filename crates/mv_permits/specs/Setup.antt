@@ -2,6 +2,10 @@
 use Rattle.std.specs.Prelude.{ℕ, ◌+◌, ◌*◌, [], ◌∷◌}
 use Rattle.mv_machine.specs.Setup.{Setup}
 
+-- how many workers there are: callers 0 to 2
+abbrev pub workers : ℕ
+workers = 3
+
 -- how many permits there are
 abbrev pub permits : ℕ
 permits = 2

@@ -7,9 +7,9 @@ ghost use Rattle.mv_machine.specs.Limits.{highest_place};
 ghost use Rattle.mv_latch.specs.declared.request.Mode.TheVariants.{Exclusive};
 ghost use Rattle.mv_ordered.specs.Held.{held, without};
 ghost use Rattle.mv_ordered.specs.WaitChain.{HasNoLatchDeadlock};
-ghost use Rattle.mv_guarded.specs.Guarded.{HoldsLatch};
+ghost use Rattle.mv_guarded.specs.Guarded.{HoldsLatch, AllReleased};
 ghost use Rattle.mv_permits.specs.Setup.{permits, tries_limit, pool_setup};
-ghost use Rattle.mv_permits.specs.Permits.{IsPool, IsPooled, HasDone, IsBounded, IsCounted, has_permit};
+ghost use Rattle.mv_permits.specs.Permits.{IsPool, IsPooled, HasDone, IsBounded, IsCounted, HaveWorked, has_permit, given_back, one};
 
 use mv_attach::{Work, run_tasks};
 use mv_io::NoMemory;
@@ -46,7 +46,7 @@ const LEAVES: u32 = 2;
 /// The outcome of a pool.
 #[derive(Drop)]
 pub struct Shared {
-    /// How many shifts each task worked; the manager works none.
+    /// How many shifts each worker worked, and zero for the manager.
     pub shifts: Vec<u32>,
     /// All events, as one legal history, with the configuration that it ran with.
     pub history: History,
@@ -82,6 +82,7 @@ fn take_latch<R: Wait + Clock>(rt: &R, station: &Station, task: &mut Task) -> Op
     ensures token { IfSome result (λ token. token.latch ≡ 0) }
     ensures has { MatchOption result (held task.new.log ≡ []) (λ token. held task.new.log ≡ (0, token.id) ∷ []) }
     ensures permit { has_permit task.new.log ≡ has_permit task.old.log }
+    ensures given { given_back task.new.log ≡ given_back task.old.log }
     ensures left { task.old.left ≤ task.new.left + 2 }
     ensures ready { IsPooled station.now task.new }
     ensures number { task.new.number ≡ task.old.number }
@@ -106,6 +107,7 @@ fn put_latch<R: Wait>(rt: &R, station: &Station, task: &mut Task, token: LatchTo
     requires left { 1 ≤ task.old.left }
     ensures bare { held task.new.log ≡ [] }
     ensures permit { has_permit task.new.log ≡ has_permit task.old.log }
+    ensures given { given_back task.new.log ≡ given_back task.old.log }
     ensures left { task.old.left ≤ task.new.left + 1 }
     ensures ready { IsPooled station.now task.new }
     ensures number { task.new.number ≡ task.old.number }
@@ -120,6 +122,7 @@ fn count_up<R: Wait>(rt: &R, station: &Station, task: &mut Task) -> bool
     requires ready { IsPooled station.now task.old }
     requires left { 2 ≤ task.old.left }
     ensures permit { has_permit task.new.log ≡ result }
+    ensures given { given_back task.new.log ≡ given_back task.old.log }
     ensures has { held task.new.log ≡ held task.old.log }
     ensures left { task.old.left ≤ task.new.left + 2 }
     ensures ready { IsPooled station.now task.new }
@@ -140,6 +143,7 @@ fn count_down<R: Wait>(rt: &R, station: &Station, task: &mut Task) -> bool
     requires ready { IsPooled station.now task.old }
     requires left { 2 ≤ task.old.left }
     ensures permit { has_permit task.new.log ≡ not result }
+    ensures given { given_back task.new.log ≡ given_back task.old.log + one result }
     ensures has { held task.new.log ≡ held task.old.log }
     ensures left { task.old.left ≤ task.new.left + 2 }
     ensures ready { IsPooled station.now task.new }
@@ -160,6 +164,7 @@ fn take_permit<R: Wait + Clock>(rt: &R, station: &Station, task: &mut Task) -> b
     requires bare { held task.old.log ≡ [] }
     requires left { 5 ≤ task.old.left }
     ensures permit { has_permit task.new.log ≡ result }
+    ensures given { given_back task.new.log ≡ given_back task.old.log }
     ensures bare { held task.new.log ≡ [] }
     ensures left { task.old.left ≤ task.new.left + 5 }
     ensures ready { IsPooled station.now task.new }
@@ -180,6 +185,7 @@ fn give_permit<R: Wait + Clock>(rt: &R, station: &Station, task: &mut Task) -> b
     requires bare { held task.old.log ≡ [] }
     requires left { 5 ≤ task.old.left }
     ensures permit { has_permit task.new.log ≡ not result }
+    ensures given { given_back task.new.log ≡ given_back task.old.log + one result }
     ensures bare { held task.new.log ≡ [] }
     ensures left { task.old.left ≤ task.new.left + 5 }
     ensures ready { IsPooled station.now task.new }
@@ -202,6 +208,7 @@ fn tell<R: Wait>(rt: &R, station: &Station, task: &mut Task, block: u32, code: u
     requires ready { IsPooled station.now task.old }
     requires left { 1 ≤ task.old.left }
     ensures permit { has_permit task.new.log ≡ has_permit task.old.log }
+    ensures given { given_back task.new.log ≡ given_back task.old.log }
     ensures has { held task.new.log ≡ held task.old.log }
     ensures left { task.old.left ≤ task.new.left + 1 }
     ensures ready { IsPooled station.now task.new }
@@ -217,6 +224,7 @@ fn await_go<R: Wait + Clock>(rt: &R, station: &Station, task: &mut Task)
     requires bare { held task.old.log ≡ [] }
     requires left { 3 ≤ task.old.left }
     ensures permit { has_permit task.new.log ≡ has_permit task.old.log }
+    ensures given { given_back task.new.log ≡ given_back task.old.log }
     ensures bare { held task.new.log ≡ [] }
     ensures left { task.old.left ≤ task.new.left + 3 }
     ensures ready { IsPooled station.now task.new }
@@ -235,6 +243,7 @@ fn call<R: Wait + Clock>(rt: &R, station: &Station, task: &mut Task, code: u32)
     requires bare { held task.old.log ≡ [] }
     requires left { 4 ≤ task.old.left }
     ensures permit { has_permit task.new.log ≡ has_permit task.old.log }
+    ensures given { given_back task.new.log ≡ given_back task.old.log }
     ensures bare { held task.new.log ≡ [] }
     ensures left { task.old.left ≤ task.new.left + 4 }
     ensures ready { IsPooled station.now task.new }
@@ -255,6 +264,8 @@ fn try_shift<R: Wait + Clock>(rt: &R, station: &Station, task: &mut Task) -> Opt
     requires bare { held task.old.log ≡ [] }
     requires left { 14 ≤ task.old.left }
     ensures none { IfSome result (λ worked. has_permit task.new.log ≡ false) }
+    ensures given { MatchOption result (given_back task.new.log ≡ given_back task.old.log)
+        (λ worked. given_back task.new.log ≡ given_back task.old.log + one worked) }
     ensures bare { held task.new.log ≡ [] }
     ensures left { task.old.left ≤ task.new.left + 14 }
     ensures ready { IsPooled station.now task.new }
@@ -285,6 +296,8 @@ fn work_shifts<R: Wait + Clock>(
     requires ready { IsPooled station.now task.old }
     requires bare { held task.old.log ≡ [] }
     requires left { 14 * tries + 1 ≤ task.old.left }
+    ensures given { given_back task.new.log ≡ given_back task.old.log + result }
+    ensures bare { held task.new.log ≡ [] }
     ensures ready { IsPooled station.now task.new }
     ensures number { task.new.number ≡ task.old.number }
 {
@@ -429,6 +442,7 @@ fn manage<R: Wait + Clock>(rt: &R, station: &Station, task: &mut Task, calls: u3
     requires ready { IsPooled station.now task.old }
     requires bare { held task.old.log ≡ [] }
     requires left { 9 * calls ≤ task.old.left }
+    ensures bare { held task.new.log ≡ [] }
     ensures ready { IsPooled station.now task.new }
     ensures number { task.new.number ≡ task.old.number }
 {
@@ -476,7 +490,7 @@ impl Work for Pool {
 }
 
 /// Has three workers work `shifts` shifts each, each shift under one of two permits, by at most `tries` tries for a permit, and returns
-/// what happened.
+/// how many shifts each of them worked, and all events.
 ///
 /// # Errors
 ///
@@ -488,12 +502,16 @@ pub fn share<R: Threads + Wait + Clock + Sync>(
     tries: u32,
 ) -> Result<Shared, NoMemory>
     requires tries { tries ≤ tries_limit }
-    // At no moment are more permits out than there are.
+    // At no moment do more tasks have a permit than there are permits.
     ensures bounded { IfOk result (λ shared. IsBounded shared.history.coming) }
-    // At each moment the volume has the number of the permits that are out.
+    // At each moment the volume has the number of the tasks with a permit.
     ensures counted { IfOk result (λ shared. IsCounted shared.history.config shared.history.coming) }
+    // Each worker took a permit and gave it back once for each of its shifts.
+    ensures worked { IfOk result (λ shared. HaveWorked shared.history.coming shared.shifts.items) }
     // At each moment a task that waits for the latch leads to one that can continue.
     ensures no_deadlock { IfOk result (λ shared. HasNoLatchDeadlock shared.history.config shared.history.coming) }
+    // Each task has released the latch in the end.
+    ensures released { IfOk result (λ shared. AllReleased shared.history.config shared.history.coming) }
     ensures config { IfOk result (λ shared. shared.history.config ≡ pool_setup tries) }
     ensures legal { IfOk result (λ shared. Legal shared.history.config shared.history.coming) }
     ensures places { IfOk result (λ shared. All (λ e. e.place ≤ highest_place) shared.history.coming) }

@@ -1,6 +1,6 @@
 use Rattle.std.proofs.Common.{◌∷◌, [], ◌<◌, ◌+◌, length, sym, ◌∙◌, subst, arith}
 use Rattle.mv_machine.specs.Setup.{Setup}
-use Rattle.mv_permits.proofs.Calls.{wait_quiet, wait_has, clear_quiet, clear_has, still_pooled, same_permit, starts_none, own_block}
+use Rattle.mv_permits.proofs.Calls.{wait_quiet, wait_has, clear_quiet, clear_has, still_pooled, same_permit, same_given, starts_none, own_block}
 use Rattle.mv_permits.proofs.permits.await_go.Goals as goal
 
 pub wait_one-requires-clause-block : goal.wait_one-requires-clause-block
@@ -54,3 +54,12 @@ returns-clause-bare g c =
     let v = c.clear.new.task in
     clear_has b.config (3 + c.number-block.result) _ _ u v c.clear.ensures.served
     ∙ wait_has b.config 1 ((3 + c.number-block.result) ∷ []) _ _ t u c.wait_one.ensures.served ∙ c.requires.bare
+
+pub returns-clause-given : goal.returns-clause-given
+returns-clause-given g c =
+    let b = c.args.station.now in
+    let t = c.args.task.now in
+    let u = c.wait_one.new.task in
+    let v = c.clear.new.task in
+    same_given u v (clear_quiet b.config (3 + c.number-block.result) _ _ u v c.clear.ensures.served)
+    ∙ same_given t u (wait_quiet b.config 1 ((3 + c.number-block.result) ∷ []) _ _ t u c.wait_one.ensures.served c.requires.bare)

@@ -1,4 +1,5 @@
-use Rattle.mv_permits.proofs.Calls.{read_quiet, read_has, still_pooled}
+use Rattle.mv_guarded.proofs.Holding.{read_held}
+use Rattle.mv_permits.proofs.Calls.{read_quiet, still_pooled}
 use Rattle.mv_permits.proofs.permits.is_free.Goals as goal
 
 pub returns-clause-ready : goal.returns-clause-ready
@@ -10,4 +11,4 @@ returns-clause-ready c =
     still_pooled b _ _ _ t u served (read_quiet 0 c.read_volume.result t u served) c.requires.ready
 
 pub returns-clause-has : goal.returns-clause-has
-returns-clause-has c = read_has 0 c.read_volume.result c.args.task.now c.read_volume.new.task c.read_volume.ensures.served
+returns-clause-has c = read_held 0 c.read_volume.result c.args.task.now c.read_volume.new.task c.read_volume.ensures.served

@@ -1,13 +1,12 @@
-use Rattle.std.proofs.Common.{◌<◌, ◌∷◌, ◌++◌, [], Ok, sym, ap, ◌∙◌, subst}
-use Rattle.std.specs.List.{AllByRecursion}
+use Rattle.std.proofs.Common.{[], Ok, sym, subst}
 use Rattle.mv_latch.specs.declared.operation.LatchOp.TheVariants.{Obtain}
 use Rattle.mv_latch.specs.declared.request.LatchForm.TheVariants.{Waiting}
 use Rattle.mv_latch.specs.declared.request.Mode.TheVariants.{Exclusive}
 use Rattle.mv_latchset.specs.Obtaining.{IsObtainedBy, IsOfLatch}
 use Rattle.mv_guarded.specs.Guarded.{HoldsLatch}
 use Rattle.mv_ordered.specs.Held.{held}
-use Rattle.mv_guarded.proofs.Holding.{HasTaken, obtain_takes, holds_granted}
-use Rattle.mv_permits.proofs.Calls.{obtain_quiet, still_pooled, same_permit}
+use Rattle.mv_guarded.proofs.Holding.{HasTaken, takes_only, holds_granted}
+use Rattle.mv_permits.proofs.Calls.{obtain_quiet, still_pooled, same_permit, same_given}
 use Rattle.mv_permits.proofs.permits.take_latch.Goals as goal
 
 pub returns-in_default-clause-permit : goal.returns-in_default-clause-permit
@@ -51,9 +50,8 @@ pub returns-in_default-clause-has : goal.returns-in_default-clause-has
 returns-in_default-clause-has g c =
     let t = c.args.task.now in
     let u = c.obtain.new.task in
-    let none : AllByRecursion (λ n. n.0 < 0) (held t.log) = subst (AllByRecursion (λ n. n.0 < 0)) (sym c.requires.bare) tt in
-    let has = obtain_takes c.args.station.now.config 0 _ _ Exclusive c.obtain.result t u c.obtain.ensures.served none in
-    subst (HasTaken 0 (held t.log) (held u.log)) c.in_default.is has ∙ c.requires.bare
+    let has = takes_only c.args.station.now.config 0 _ _ Exclusive c.obtain.result t u c.obtain.ensures.served c.requires.bare in
+    subst (HasTaken 0 [] (held u.log)) c.in_default.is has
 
 pub returns-clause-token : goal.returns-clause-token
 returns-clause-token g c = subst (IsOfLatch 0) c.in-Granted.is c.in-Ok.ensures.latch
@@ -62,8 +60,17 @@ pub returns-clause-has : goal.returns-clause-has
 returns-clause-has g c =
     let t = c.args.task.now in
     let u = c.obtain.new.task in
-    let none : AllByRecursion (λ n. n.0 < 0) (held t.log) = subst (AllByRecursion (λ n. n.0 < 0)) (sym c.requires.bare) tt in
-    let has = obtain_takes c.args.station.now.config 0 _ _ Exclusive c.obtain.result t u c.obtain.ensures.served none in
-    let answered = subst (HasTaken 0 (held t.log) (held u.log)) c.in-Ok.is has in
-    subst (λ got. HasTaken 0 (held t.log) (held u.log) (Ok got)) c.in-Granted.is answered
-    ∙ ap (λ old. old ++ (0, c.in-Granted.token.id) ∷ []) c.requires.bare
+    let has = takes_only c.args.station.now.config 0 _ _ Exclusive c.obtain.result t u c.obtain.ensures.served c.requires.bare in
+    subst (λ got. HasTaken 0 [] (held u.log) (Ok got)) c.in-Granted.is (subst (HasTaken 0 [] (held u.log)) c.in-Ok.is has)
+
+pub returns-in_default-clause-given : goal.returns-in_default-clause-given
+returns-in_default-clause-given g c =
+    let t = c.args.task.now in
+    let u = c.obtain.new.task in
+    same_given t u (obtain_quiet c.args.station.now _ _ _ t u c.obtain.ensures.served c.requires.ready)
+
+pub returns-clause-given : goal.returns-clause-given
+returns-clause-given g c =
+    let t = c.args.task.now in
+    let u = c.obtain.new.task in
+    same_given t u (obtain_quiet c.args.station.now _ _ _ t u c.obtain.ensures.served c.requires.ready)

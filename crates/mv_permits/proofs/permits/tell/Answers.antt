@@ -1,7 +1,7 @@
 use Rattle.std.proofs.Common.{◌<◌, ◌≤◌, length, sym, subst, arith, le_refl}
 use Rattle.mv_machine.specs.Reach.{reach}
 use Rattle.mv_machine.specs.Setup.{Setup}
-use Rattle.mv_permits.proofs.Calls.{post_quiet, post_has, still_pooled, same_permit, no_exits}
+use Rattle.mv_permits.proofs.Calls.{post_quiet, post_has, still_pooled, same_permit, same_given, no_exits}
 use Rattle.mv_permits.proofs.permits.tell.Goals as goal
 
 pub post-requires-clause-block : goal.post-requires-clause-block
@@ -43,3 +43,10 @@ pub returns-clause-has : goal.returns-clause-has
 returns-clause-has g c =
     let b = c.args.station.now in
     post_has b.config _ _ _ _ c.args.task.now c.post.new.task (no_exits b.config c.requires.ready.config) c.post.ensures.served
+
+pub returns-clause-given : goal.returns-clause-given
+returns-clause-given g c =
+    let b = c.args.station.now in
+    let t = c.args.task.now in
+    let u = c.post.new.task in
+    same_given t u (post_quiet b.config _ _ _ _ t u (no_exits b.config c.requires.ready.config) c.post.ensures.served)
