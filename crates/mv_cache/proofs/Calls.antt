@@ -1,20 +1,17 @@
 -- What the calls of the writer and of a reader leave of their task. Used by write_pair and read_pair.
 use Rattle.std.proofs.Common.{◌≡◌, ℕ, ◌≤◌, false, List, [], ◌∷◌, ◌++◌, Result, inl, refl, sym, ap, ◌∙◌, subst, append_assoc, le_refl}
 use Rattle.std.specs.List.{AllByRecursion, Contains}
-use Rattle.mv_latch.specs.declared.operation.LatchOp.TheVariants.{Obtain, Release}
+use Rattle.mv_latch.specs.declared.operation.LatchOp.TheVariants.{Obtain}
 use Rattle.mv_latch.specs.declared.request.LatchForm.TheVariants.{Waiting}
 use Rattle.mv_latch.specs.declared.request.Mode.{Mode}
 use Rattle.mv_latch.specs.declared.request.Mode.TheVariants.{Exclusive, Shared}
 use Rattle.mv_latch.proofs.Members.{rest_is_in}
-use Rattle.mv_machine.specs.declared.entry.Entry.{Entry}
-use Rattle.mv_machine.specs.declared.entry.Object.TheVariants.{Latches}
-use Rattle.mv_machine.specs.declared.entry.Op.TheVariants as op_on
 use Rattle.mv_machine.specs.Reach.{release_cost}
 use Rattle.mv_machine.specs.Setup.{Setup}
 use Rattle.mv_board.specs.Faces.{BoardFace, CallerFace}
 use Rattle.mv_calls.specs.Keeping.{kept_of}
-use Rattle.mv_calls.specs.LatchCalls.{Requested, obtain, release_latch, let_go}
-use Rattle.mv_calls.specs.Program.{Program, Call, Heard, on_latch}
+use Rattle.mv_calls.specs.LatchCalls.{Requested, obtain, release_latch}
+use Rattle.mv_calls.specs.Program.{Call}
 use Rattle.mv_calls.specs.Refusal.{Refusal}
 use Rattle.mv_calls.specs.Waits.{read_volume, write_volume}
 use Rattle.mv_wait.specs.Run.{IsServed}
@@ -22,34 +19,24 @@ use Rattle.mv_wait.proofs.Compose.{still_served}
 use Rattle.mv_latchset.specs.declared.obtaining.Obtained.TheVariants as got
 use Rattle.mv_latchset.specs.declared.token.LatchToken.{LatchToken}
 use Rattle.mv_latchset.specs.Obtaining.{IsObtainedBy}
-use Rattle.mv_attach.proofs.Always.{Grown, served_grown}
-use Rattle.mv_attach.proofs.Once.{served_once, once_grown}
-use Rattle.mv_attach.proofs.Says.{always_obtain, always_read, always_write}
-use Rattle.mv_ordered.specs.LatchOrder.{HasLockDiscipline}
-use Rattle.mv_ordered.proofs.Calls.{IsPlain, release_keeps_discipline, one_request_keeps_discipline}
+use Rattle.mv_attach.proofs.Says.{always_write}
+use Rattle.mv_ordered.proofs.Calls.{IsPlain}
 use Rattle.mv_guarded.specs.Guarded.{HoldsLatch, Keeps, value_from}
 use Rattle.mv_guarded.proofs.Holding.{holds_granted, still_holds, wrote_one, plain_keeps_discipline}
-use Rattle.mv_guarded.proofs.Rules.{keeps_push, keeps_append}
+use Rattle.mv_guarded.proofs.Quiet.{IsQuiet, obtain_is_quiet, release_is_quiet, read_is_quiet, quiet_keeps}
+use Rattle.mv_guarded.proofs.Rules.{keeps_push}
 use Rattle.mv_guarded.proofs.Volumes.{value-append}
 use Rattle.mv_cache.specs.declared.cache.Pair.{Pair}
 use Rattle.mv_cache.specs.Whole.{pair_of, IsAllowed, IsCareful, StaysWhole, IsWriting, IsReading, IsLonger, WasRead, first_pair}
-use Rattle.mv_cache.proofs.Logs.{IsCalm, calm_allowed, whole_more, calm_pair, calm_stays_whole}
+use Rattle.mv_cache.proofs.Logs.{calm_allowed, whole_more, calm_pair, calm_stays_whole}
 
 -- ---- calls that write nothing and purge no requestor, and keep the lock discipline
-
-pub record IsQuiet (t u : CallerFace) : Type 0 where
-  pub grown : Grown IsCalm t u
-  pub keeps : HasLockDiscipline t.log → HasLockDiscipline u.log
 
 -- each task may have one request, so its obtain is at the only latch that it has
 pub obtain_quiet : (b : BoardFace) (requestor most : ℕ) (mode : Mode) (Is : Result Requested Refusal → Type 0) (t u : CallerFace)
     → IsServed most (obtain b.config 0 requestor mode Waiting) Is t u → IsCareful b t → IsQuiet t u
-obtain_quiet b requestor most mode Is t u s r = record {
-  grown = served_grown IsCalm most (obtain b.config 0 requestor mode Waiting) Is t u s
-      (always_obtain IsCalm b.config 0 requestor mode (kept_of t.number t.log) tt (λ id. tt));
-  keeps = one_request_keeps_discipline b.config 0 requestor most t.number mode Waiting t.log u.log t.told u.told s.answer s.made
-      (subst (λ (c : Setup). c.quota ≤ 1) (sym r.config.2) (le_refl 1));
-}
+obtain_quiet b requestor most mode Is t u s r =
+    obtain_is_quiet b.config 0 requestor most mode Is t u s (subst (λ (c : Setup). c.quota ≤ 1) (sym r.config.2) (le_refl 1))
 
 -- a release is one event
 pub cheap : (b : BoardFace) (t : CallerFace) → IsCareful b t → release_cost b.config ≤ 1
@@ -57,22 +44,7 @@ cheap b t r = subst (λ (c : Setup). release_cost c ≤ 1) (sym r.config.2) (le_
 
 pub release_quiet : (b : BoardFace) (latch id : ℕ) (Is : Result ℕ Refusal → Type 0) (t u : CallerFace)
     → IsServed (release_cost b.config) (release_latch b.config latch id false) Is t u → IsCareful b t → IsQuiet t u
-release_quiet b latch id Is t u s r =
-    let one = cheap b t r in
-    let next : Heard → Program (Result ℕ Refusal) =
-    λ h. on_latch h.entry.reply (let_go b.config false h.wakes (kept_of t.number t.log)) in record {
-      grown = once_grown IsCalm Latches (op_on.Latch (Release latch id false)) next s.answer t u
-          (served_once (release_cost b.config) (release_latch b.config latch id false) Is Latches (op_on.Latch (Release latch id false)) next
-          t u s one refl) tt;
-      keeps = release_keeps_discipline b.config latch id (release_cost b.config) t.number false t.log u.log t.told u.told s.answer s.made
-          one;
-    }
-
-pub read_quiet : (n x : ℕ) (t u : CallerFace) → IsServed 1 (read_volume n) (λ a. a ≡ x) t u → IsQuiet t u
-read_quiet n x t u s = record {
-  grown = served_grown IsCalm 1 (read_volume n) (λ a. a ≡ x) t u s (always_read IsCalm n (kept_of t.number t.log) tt);
-  keeps = plain_keeps_discipline 1 (read_volume n) (λ a. a ≡ x) t u s (always_read (λ o op. IsPlain op) n (kept_of t.number t.log) tt);
-}
+release_quiet b latch id Is t u s r = release_is_quiet b.config latch id Is t u s (cheap b t r)
 
 -- ---- the tasks after them
 
@@ -82,9 +54,7 @@ still_careful b most call Is t u s q r = record {
   config = r.config;
   task = still_served b most call Is t u s r.task;
   rest = s.made.rest;
-  allowed = subst (λ k. Keeps IsAllowed k [] u.log) (sym s.same.number)
-      (subst (Keeps IsAllowed t.number []) (sym q.grown.logged)
-      (keeps_append IsAllowed t.number IsCalm (calm_allowed t.number) t.log q.grown.more r.allowed q.grown.each));
+  allowed = quiet_keeps IsAllowed calm_allowed t u s.same.number q r.allowed;
   discipline = q.keeps r.discipline;
 }
 
@@ -181,8 +151,8 @@ pub before_release : (b : BoardFace) (t u v w : CallerFace) (requestor most left
     → IsServed most (obtain b.config 0 requestor Shared Waiting) Is t u → IsServed 1 (read_volume 0) (λ a. a ≡ left) u v
     → IsServed 1 (read_volume 1) (λ a. a ≡ right) v w → IsReading b t → IsReading b w
 before_release b t u v w requestor most left right Is asked first second r =
-    still_reading b 1 (read_volume 1) (λ a. a ≡ right) v w second (read_quiet 1 right v w second)
-    (still_reading b 1 (read_volume 0) (λ a. a ≡ left) u v first (read_quiet 0 left u v first)
+    still_reading b 1 (read_volume 1) (λ a. a ≡ right) v w second (read_is_quiet 1 right v w second)
+    (still_reading b 1 (read_volume 0) (λ a. a ≡ left) u v first (read_is_quiet 0 left u v first)
     (still_reading b most (obtain b.config 0 requestor Shared Waiting) Is t u asked
     (obtain_quiet b requestor most Shared Is t u asked r.careful) r))
 

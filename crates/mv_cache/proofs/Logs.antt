@@ -1,17 +1,16 @@
 -- What a log keeps to, with one entry more. Used by write_pair and read_pair.
-use Rattle.std.proofs.Common.{◌≡◌, ℕ, true, List, [], ◌∷◌, ◌++◌, inr, refl, sym, ◌∙◌, subst, append_assoc}
-use Rattle.std.proofs.lemmas.Bool.{false≢true}
+use Rattle.std.proofs.Common.{◌≡◌, ℕ, List, [], ◌∷◌, ◌++◌, inr, sym, ◌∙◌, subst, append_assoc}
 use Rattle.std.proofs.lemmas.List.{append-nil}
-use Rattle.std.specs.List.{AllByRecursion, Contains}
+use Rattle.std.specs.List.{Contains}
 use Rattle.mv_latch.specs.declared.operation.LatchOp.TheVariants.{Purge}
 use Rattle.mv_machine.specs.declared.entry.Entry.{Entry}
 use Rattle.mv_machine.specs.declared.entry.Object.{Object}
 use Rattle.mv_machine.specs.declared.entry.Op.{Op}
 use Rattle.mv_machine.specs.declared.entry.Op.TheVariants as op_on
 use Rattle.mv_machine.specs.declared.entry.VolumeOp.TheVariants.{Write}
-use Rattle.mv_calls.specs.Sections.{is_write}
-use Rattle.mv_guarded.specs.Guarded.{value_with, value_from}
-use Rattle.mv_guarded.proofs.Volumes.{value-append, unwritten}
+use Rattle.mv_guarded.specs.Guarded.{value_from}
+use Rattle.mv_guarded.proofs.Quiet.{IsCalm, AreCalm, calm_values}
+use Rattle.mv_guarded.proofs.Volumes.{value-append}
 use Rattle.mv_cache.specs.declared.cache.Pair.{Pair}
 use Rattle.mv_cache.specs.Whole.{pair_of, IsAllowed, IsWhole, StaysWhole, first_pair}
 
@@ -33,32 +32,12 @@ whole_at pairs before [] (e ∷ later) all = subst (IsWhole pairs) (sym (append-
 whole_at pairs before (x ∷ front) later all =
     subst (IsWhole pairs) (append_assoc before (x ∷ []) front) (whole_at pairs (before ++ x ∷ []) front later all.1)
 
--- ---- entries that write nothing, and purge nobody
-
-abbrev pub IsCalm : Object → Op → Type 0
-IsCalm object (op_on.Latch (Purge requestor)) = ⊥
-IsCalm object (op_on.Volume (Write x)) = ⊥
-IsCalm object op = Unit {0}
-
-abbrev pub AreCalm : List Entry → Type 0
-AreCalm es = AllByRecursion (λ e. IsCalm e.object e.op) es
+-- ---- entries that write nothing, and purge no requestor
 
 pub calm_allowed : (k : ℕ) (log : List Entry) (o : Object) (op : Op) → IsCalm o op → IsAllowed k log o op
 calm_allowed k log o (op_on.Latch (Purge requestor)) calm = absurd calm
 calm_allowed k log o (op_on.Volume (Write x)) calm = absurd calm
 calm_allowed k log o op calm = tt
-
-calm_is_no_write : (op : Op) (o : Object) → IsCalm o op → is_write op ≡ true → ⊥
-calm_is_no_write (op_on.Volume (Write x)) o calm is = absurd calm
-calm_is_no_write op o calm is = absurd (false≢true is)
-
-calm_value : (n x : ℕ) (o : Object) (op : Op) → IsCalm o op → value_with n x o op ≡ x
-calm_value n x o op calm = unwritten n x o op (λ at is. calm_is_no_write op o calm is)
-
-pub calm_values : (n x : ℕ) (es : List Entry) → AreCalm es → value_from n x es ≡ x
-calm_values n x [] calm = refl
-calm_values n x (e ∷ es) calm =
-    calm_values n (value_with n x e.object e.op) es calm.1 ∙ calm_value n x e.object e.op calm.0
 
 pub calm_pair : (log es : List Entry) → AreCalm es → pair_of (log ++ es) ≡ pair_of log
 calm_pair log es calm = λ i. record {

@@ -1,38 +1,31 @@
 -- What a call leaves of its task. Used by the functions that make one call.
-use Rattle.std.proofs.Common.{◌≡◌, ℕ, zero, suc, ◌+◌, ◌≤◌, ◌<◌, nat_lt, List, [], ◌∷◌, Result, Option, None, refl, sym, ap, ◌∙◌}
+use Rattle.std.proofs.Common.{◌≡◌, ℕ, zero, suc, ◌+◌, ◌≤◌, ◌<◌, nat_lt, [], ◌∷◌, Result, None, refl, sym, ap, ◌∙◌}
 use Rattle.std.proofs.Common.{subst, arith, le_refl, Bool, true, false, not, ◌&&◌}
 use Rattle.std.proofs.lemmas.Bool.{false≢true}
-use Rattle.std.specs.List.{AllByRecursion}
-use Rattle.mv_latch.specs.declared.operation.LatchOp.TheVariants.{Release}
 use Rattle.mv_latch.specs.declared.request.LatchForm.TheVariants.{Waiting}
 use Rattle.mv_latch.specs.declared.request.Mode.TheVariants.{Exclusive}
-use Rattle.mv_machine.specs.declared.entry.Object.TheVariants.{Volume, Latches}
-use Rattle.mv_machine.specs.declared.entry.Op.TheVariants as op_on
+use Rattle.mv_machine.specs.declared.entry.Object.TheVariants.{Volume}
 use Rattle.mv_machine.specs.Reach.{release_cost}
 use Rattle.mv_machine.specs.Setup.{Setup, owner_of, starts_from, is_exit_of}
 use Rattle.mv_board.specs.Faces.{BoardFace, CallerFace}
 use Rattle.mv_calls.specs.Keeping.{kept_of}
-use Rattle.mv_calls.specs.LatchCalls.{Requested, obtain, release_latch, let_go}
-use Rattle.mv_calls.specs.Program.{Program, Call, Heard, on_latch}
+use Rattle.mv_calls.specs.LatchCalls.{Requested, obtain, release_latch}
+use Rattle.mv_calls.specs.Program.{Call}
 use Rattle.mv_calls.specs.Refusal.{Refusal}
 use Rattle.mv_calls.specs.Exits.{StartsExit}
-use Rattle.mv_calls.specs.declared.outcomes.PostAnswer.{PostAnswer}
-use Rattle.mv_calls.specs.Posts.{post}
-use Rattle.mv_calls.specs.Waits.{wait, clear, read_volume, write_volume}
+use Rattle.mv_calls.specs.Waits.{read_volume, write_volume}
 use Rattle.mv_wait.specs.Run.{IsServed}
 use Rattle.mv_wait.proofs.Compose.{still_served}
-use Rattle.mv_attach.proofs.Always.{Always, Grown, served_grown}
-use Rattle.mv_attach.proofs.Once.{served_once, once_grown}
-use Rattle.mv_attach.proofs.Says.{always_obtain, always_read, always_write, always_wait, always_clear, always_post}
+use Rattle.mv_attach.proofs.Says.{always_write}
 use Rattle.mv_ordered.specs.Held.{held}
-use Rattle.mv_ordered.specs.LatchOrder.{HasLockDiscipline}
-use Rattle.mv_ordered.proofs.Calls.{IsPlain, IsNoLatchOp, one_request_keeps_discipline, release_keeps_discipline}
+use Rattle.mv_ordered.proofs.Calls.{IsPlain}
 use Rattle.mv_guarded.specs.Guarded.{HoldsLatch, Keeps}
-use Rattle.mv_guarded.proofs.Holding.{still_holds, read_one, wrote_one, plain_keeps_discipline, wait_keeps, same_held, read_held, write_held}
-use Rattle.mv_guarded.proofs.Rules.{keeps_push, keeps_append}
+use Rattle.mv_guarded.proofs.Holding.{still_holds, read_one, wrote_one, plain_keeps_discipline, read_held, write_held}
+use Rattle.mv_guarded.proofs.Quiet.{IsQuiet, obtain_is_quiet, release_is_quiet, read_is_quiet, quiet_keeps}
+use Rattle.mv_guarded.proofs.Rules.{keeps_push}
 use Rattle.mv_permits.specs.Setup.{pool_setup}
 use Rattle.mv_permits.specs.Permits.{Moves, IsMove, IsAllowed, IsPooled, has_permit, given_back, one}
-use Rattle.mv_permits.proofs.Logs.{IsCalm, calm_allowed, calm_permit, permit-append, calm_given, given-append, write_gives}
+use Rattle.mv_permits.proofs.Logs.{calm_allowed, calm_permit, permit-append, calm_given, given-append, write_gives}
 
 -- a release is one event
 pub cheap : (c : Setup) → (tries : ℕ) × (c ≡ pool_setup tries) → release_cost c ≤ 1
@@ -40,78 +33,15 @@ cheap c has = subst (λ (s : Setup). release_cost s ≤ 1) (sym has.1) (le_refl 
 
 -- ---- calls that write nothing and purge no requestor, and keep the lock discipline
 
-pub record IsQuiet (t u : CallerFace) : Type 0 where
-  pub grown : Grown IsCalm t u
-  pub keeps : HasLockDiscipline t.log → HasLockDiscipline u.log
-
+-- each task may have one request
 pub obtain_quiet : (b : BoardFace) (requestor most : ℕ) (Is : Result Requested Refusal → Type 0) (t u : CallerFace)
     → IsServed most (obtain b.config 0 requestor Exclusive Waiting) Is t u → IsPooled b t → IsQuiet t u
-obtain_quiet b requestor most Is t u s r = record {
-  grown = served_grown IsCalm most (obtain b.config 0 requestor Exclusive Waiting) Is t u s
-      (always_obtain IsCalm b.config 0 requestor Exclusive (kept_of t.number t.log) tt (λ id. tt));
-  keeps = one_request_keeps_discipline b.config 0 requestor most t.number Exclusive Waiting t.log u.log t.told u.told s.answer s.made
-      (subst (λ (c : Setup). c.quota ≤ 1) (sym r.config.1) (le_refl 1));
-}
-
--- what holds of each block
-all_of : {P : ℕ → Type 0} → ((e : ℕ) → P e) → (es : List ℕ) → AllByRecursion P es
-all_of each [] = tt
-all_of each (e ∷ es) = (each e, all_of each es)
-
-off_wait : (c : Setup) (count : ℕ) (es : List ℕ) (t : CallerFace) → Always (λ o op. IsNoLatchOp op) (wait c count es (kept_of t.number t.log))
-off_wait c count es t =
-    always_wait (λ o op. IsNoLatchOp op) c count es (kept_of t.number t.log) (all_of (λ e. tt) es) (all_of (λ e. tt) es)
-
--- a wait, while the task has no latch
-pub wait_quiet : (c : Setup) (count : ℕ) (es : List ℕ) (most : ℕ) (Is : Result (List (Option ℕ)) Refusal → Type 0) (t u : CallerFace)
-    → IsServed most (wait c count es) Is t u → held t.log ≡ [] → IsQuiet t u
-wait_quiet c count es most Is t u s bare = record {
-  grown = served_grown IsCalm most (wait c count es) Is t u s
-      (always_wait IsCalm c count es (kept_of t.number t.log) (all_of (λ e. tt) es) (all_of (λ e. tt) es));
-  keeps = wait_keeps most (wait c count es) Is t u s (off_wait c count es t) bare;
-}
-
-pub wait_has : (c : Setup) (count : ℕ) (es : List ℕ) (most : ℕ) (Is : Result (List (Option ℕ)) Refusal → Type 0) (t u : CallerFace)
-    → IsServed most (wait c count es) Is t u → held u.log ≡ held t.log
-wait_has c count es most Is t u s = same_held most (wait c count es) Is t u s (off_wait c count es t)
-
-pub clear_quiet : (c : Setup) (e most : ℕ) (Is : Result ℕ Refusal → Type 0) (t u : CallerFace)
-    → IsServed most (clear c e) Is t u → IsQuiet t u
-clear_quiet c e most Is t u s = record {
-  grown = served_grown IsCalm most (clear c e) Is t u s (always_clear IsCalm c e (kept_of t.number t.log) tt);
-  keeps = plain_keeps_discipline most (clear c e) Is t u s (always_clear (λ o op. IsPlain op) c e (kept_of t.number t.log) tt);
-}
-
-pub clear_has : (c : Setup) (e most : ℕ) (Is : Result ℕ Refusal → Type 0) (t u : CallerFace) → IsServed most (clear c e) Is t u
-    → held u.log ≡ held t.log
-clear_has c e most Is t u s =
-    same_held most (clear c e) Is t u s (always_clear (λ o op. IsNoLatchOp op) c e (kept_of t.number t.log) tt)
-
-pub post_quiet : (c : Setup) (e code most : ℕ) (Is : PostAnswer → Type 0) (t u : CallerFace) → c.exits ≡ []
-    → IsServed most (post c e code) Is t u → IsQuiet t u
-post_quiet c e code most Is t u none s = record {
-  grown = served_grown IsCalm most (post c e code) Is t u s (always_post IsCalm c e code (kept_of t.number t.log) none tt);
-  keeps = plain_keeps_discipline most (post c e code) Is t u s
-      (always_post (λ o op. IsPlain op) c e code (kept_of t.number t.log) none tt);
-}
-
-pub post_has : (c : Setup) (e code most : ℕ) (Is : PostAnswer → Type 0) (t u : CallerFace) → c.exits ≡ [] → IsServed most (post c e code) Is t u
-    → held u.log ≡ held t.log
-post_has c e code most Is t u none s =
-    same_held most (post c e code) Is t u s (always_post (λ o op. IsNoLatchOp op) c e code (kept_of t.number t.log) none tt)
+obtain_quiet b requestor most Is t u s r =
+    obtain_is_quiet b.config 0 requestor most Exclusive Is t u s (subst (λ (c : Setup). c.quota ≤ 1) (sym r.config.1) (le_refl 1))
 
 pub release_quiet : (b : BoardFace) (latch id : ℕ) (Is : Result ℕ Refusal → Type 0) (t u : CallerFace)
     → IsServed (release_cost b.config) (release_latch b.config latch id false) Is t u → IsPooled b t → IsQuiet t u
-release_quiet b latch id Is t u s r =
-    let one : release_cost b.config ≤ 1 = cheap b.config r.config in
-    let next : Heard → Program (Result ℕ Refusal) =
-    λ h. on_latch h.entry.reply (let_go b.config false h.wakes (kept_of t.number t.log)) in record {
-      grown = once_grown IsCalm Latches (op_on.Latch (Release latch id false)) next s.answer t u
-          (served_once (release_cost b.config) (release_latch b.config latch id false) Is Latches (op_on.Latch (Release latch id false)) next
-          t u s one refl) tt;
-      keeps = release_keeps_discipline b.config latch id (release_cost b.config) t.number false t.log u.log t.told u.told s.answer s.made
-          one;
-    }
+release_quiet b latch id Is t u s r = release_is_quiet b.config latch id Is t u s (cheap b.config r.config)
 
 -- there are no exits
 pub no_exits : (c : Setup) → (tries : ℕ) × (c ≡ pool_setup tries) → c.exits ≡ []
@@ -143,9 +73,7 @@ still_pooled b most call Is t u s q r = record {
   config = r.config;
   task = still_served b most call Is t u s r.task;
   rest = s.made.rest;
-  allowed = subst (λ k. Keeps IsAllowed k [] u.log) (sym s.same.number)
-      (subst (Keeps IsAllowed t.number []) (sym q.grown.logged)
-      (keeps_append IsAllowed t.number IsCalm (calm_allowed t.number) t.log q.grown.more r.allowed q.grown.each));
+  allowed = quiet_keeps IsAllowed calm_allowed t u s.same.number q r.allowed;
   discipline = q.keeps r.discipline;
 }
 
@@ -156,12 +84,6 @@ pub same_given : (t u : CallerFace) → IsQuiet t u → given_back u.log ≡ giv
 same_given t u q = ap given_back q.grown.logged ∙ calm_given t.log q.grown.more q.grown.each
 
 -- ---- a move
-
-pub read_quiet : (n x : ℕ) (t u : CallerFace) → IsServed 1 (read_volume n) (λ a. a ≡ x) t u → IsQuiet t u
-read_quiet n x t u s = record {
-  grown = served_grown IsCalm 1 (read_volume n) (λ a. a ≡ x) t u s (always_read IsCalm n (kept_of t.number t.log) tt);
-  keeps = plain_keeps_discipline 1 (read_volume n) (λ a. a ≡ x) t u s (always_read (λ o op. IsPlain op) n (kept_of t.number t.log) tt);
-}
 
 -- what a read and a write leave: a permit was taken or given back
 pub record HasMoved (b : BoardFace) (t v : CallerFace) : Type 0 where
@@ -175,7 +97,7 @@ pub moves_permit : (b : BoardFace) (x y : ℕ) (Is : Unit {0} → Type 0) (t u v
     → Moves (has_permit t.log) x y → HasMoved b t v
 moves_permit b x y Is t u v r holds read written moves =
     let seen = read_one 0 x t u read in
-    let quiet = read_quiet 0 x t u read in
+    let quiet = read_is_quiet 0 x t u read in
     let now = still_pooled b 1 (read_volume 0) (λ a. a ≡ x) t u read quiet r in
     let two = wrote_one 0 y Is u v written in
     let e = two.heard.entry in

@@ -1,7 +1,6 @@
 -- Whether a task has a permit, with more entries in its log; and entries that write nothing and purge no requestor. Used by the functions
 -- that make one call, and by share.
 use Rattle.std.proofs.Common.{◌≡◌, ℕ, ◌+◌, Bool, true, false, arith, List, [], ◌∷◌, ◌++◌, refl, sym, ap, ◌∙◌}
-use Rattle.std.specs.List.{AllByRecursion}
 use Rattle.mv_latch.specs.declared.operation.LatchOp.TheVariants.{Purge}
 use Rattle.mv_machine.specs.declared.entry.Entry.{Entry}
 use Rattle.mv_machine.specs.declared.entry.Object.{Object}
@@ -9,19 +8,12 @@ use Rattle.mv_machine.specs.declared.entry.Object.TheVariants.{Volume}
 use Rattle.mv_machine.specs.declared.entry.Op.{Op}
 use Rattle.mv_machine.specs.declared.entry.Op.TheVariants as op_on
 use Rattle.mv_machine.specs.declared.entry.VolumeOp.TheVariants.{Write}
+use Rattle.mv_guarded.proofs.Quiet.{IsCalm, AreCalm}
 use Rattle.mv_permits.specs.Permits.{permit_with, permit_from, has_permit, given_with, given_from, given_back, one, IsAllowed}
 
 pub permit-append : (has : Bool) (es fs : List Entry) → permit_from has (es ++ fs) ≡ permit_from (permit_from has es) fs
 permit-append has [] fs = refl
 permit-append has (e ∷ es) fs = permit-append (permit_with has e.object e.op) es fs
-
-abbrev pub IsCalm : Object → Op → Type 0
-IsCalm object (op_on.Latch (Purge requestor)) = ⊥
-IsCalm object (op_on.Volume (Write x)) = ⊥
-IsCalm object op = Unit {0}
-
-abbrev pub AreCalm : List Entry → Type 0
-AreCalm es = AllByRecursion (λ e. IsCalm e.object e.op) es
 
 pub calm_allowed : (k : ℕ) (log : List Entry) (o : Object) (op : Op) → IsCalm o op → IsAllowed k log o op
 calm_allowed k log o (op_on.Latch (Purge requestor)) calm = absurd calm

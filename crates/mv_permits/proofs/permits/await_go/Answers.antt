@@ -1,6 +1,7 @@
 use Rattle.std.proofs.Common.{◌∷◌, [], ◌<◌, ◌+◌, length, sym, ◌∙◌, subst, arith}
 use Rattle.mv_machine.specs.Setup.{Setup}
-use Rattle.mv_permits.proofs.Calls.{wait_quiet, wait_has, clear_quiet, clear_has, still_pooled, same_permit, same_given, starts_none, own_block}
+use Rattle.mv_guarded.proofs.Quiet.{wait_is_quiet, wait_held, clear_is_quiet, clear_held}
+use Rattle.mv_permits.proofs.Calls.{still_pooled, same_permit, same_given, starts_none, own_block}
 use Rattle.mv_permits.proofs.permits.await_go.Goals as goal
 
 pub wait_one-requires-clause-block : goal.wait_one-requires-clause-block
@@ -32,8 +33,8 @@ returns-clause-permit g c =
     let t = c.args.task.now in
     let u = c.wait_one.new.task in
     let v = c.clear.new.task in
-    same_permit u v (clear_quiet b.config (3 + c.number-block.result) _ _ u v c.clear.ensures.served)
-    ∙ same_permit t u (wait_quiet b.config 1 ((3 + c.number-block.result) ∷ []) _ _ t u c.wait_one.ensures.served c.requires.bare)
+    same_permit u v (clear_is_quiet b.config (3 + c.number-block.result) _ _ u v c.clear.ensures.served)
+    ∙ same_permit t u (wait_is_quiet b.config 1 ((3 + c.number-block.result) ∷ []) _ _ t u c.wait_one.ensures.served c.requires.bare)
 
 pub returns-clause-ready : goal.returns-clause-ready
 returns-clause-ready g c =
@@ -43,8 +44,8 @@ returns-clause-ready g c =
     let v = c.clear.new.task in
     let waited = c.wait_one.ensures.served in
     let cleared = c.clear.ensures.served in
-    still_pooled b _ _ _ u v cleared (clear_quiet b.config (3 + c.number-block.result) _ _ u v cleared)
-    (still_pooled b _ _ _ t u waited (wait_quiet b.config 1 ((3 + c.number-block.result) ∷ []) _ _ t u waited c.requires.bare) c.requires.ready)
+    still_pooled b _ _ _ u v cleared (clear_is_quiet b.config (3 + c.number-block.result) _ _ u v cleared)
+    (still_pooled b _ _ _ t u waited (wait_is_quiet b.config 1 ((3 + c.number-block.result) ∷ []) _ _ t u waited c.requires.bare) c.requires.ready)
 
 pub returns-clause-bare : goal.returns-clause-bare
 returns-clause-bare g c =
@@ -52,8 +53,8 @@ returns-clause-bare g c =
     let t = c.args.task.now in
     let u = c.wait_one.new.task in
     let v = c.clear.new.task in
-    clear_has b.config (3 + c.number-block.result) _ _ u v c.clear.ensures.served
-    ∙ wait_has b.config 1 ((3 + c.number-block.result) ∷ []) _ _ t u c.wait_one.ensures.served ∙ c.requires.bare
+    clear_held b.config (3 + c.number-block.result) _ _ u v c.clear.ensures.served
+    ∙ wait_held b.config 1 ((3 + c.number-block.result) ∷ []) _ _ t u c.wait_one.ensures.served ∙ c.requires.bare
 
 pub returns-clause-given : goal.returns-clause-given
 returns-clause-given g c =
@@ -61,5 +62,5 @@ returns-clause-given g c =
     let t = c.args.task.now in
     let u = c.wait_one.new.task in
     let v = c.clear.new.task in
-    same_given u v (clear_quiet b.config (3 + c.number-block.result) _ _ u v c.clear.ensures.served)
-    ∙ same_given t u (wait_quiet b.config 1 ((3 + c.number-block.result) ∷ []) _ _ t u c.wait_one.ensures.served c.requires.bare)
+    same_given u v (clear_is_quiet b.config (3 + c.number-block.result) _ _ u v c.clear.ensures.served)
+    ∙ same_given t u (wait_is_quiet b.config 1 ((3 + c.number-block.result) ∷ []) _ _ t u c.wait_one.ensures.served c.requires.bare)

@@ -1,7 +1,8 @@
 use Rattle.std.proofs.Common.{◌+◌, refl, not, sym, ap, ◌∙◌, subst}
 use Rattle.mv_guarded.proofs.Holding.{read_held}
+use Rattle.mv_guarded.proofs.Quiet.{read_is_quiet}
 use Rattle.mv_permits.specs.Permits.{Moves, given_back, one}
-use Rattle.mv_permits.proofs.Calls.{HasMoved, read_quiet, still_pooled, same_permit, same_given, moves_permit}
+use Rattle.mv_permits.proofs.Calls.{HasMoved, still_pooled, same_permit, same_given, moves_permit}
 use Rattle.mv_permits.proofs.Logs.{plus_none}
 use Rattle.mv_permits.proofs.permits.count_up.Goals as goal
 
@@ -9,7 +10,7 @@ pub returns-then-out-ge-PERMITS-clause-permit : goal.returns-then-out-ge-PERMITS
 returns-then-out-ge-PERMITS-clause-permit g c =
     let t = c.args.task.now in
     let u = c.read_volume-out.new.task in
-    same_permit t u (read_quiet 0 c.read_volume-out.result t u c.read_volume-out.ensures.served) ∙ c.requires.none
+    same_permit t u (read_is_quiet 0 c.read_volume-out.result t u c.read_volume-out.ensures.served) ∙ c.requires.none
 
 pub returns-then-out-ge-PERMITS-clause-ready : goal.returns-then-out-ge-PERMITS-clause-ready
 returns-then-out-ge-PERMITS-clause-ready g c =
@@ -17,7 +18,7 @@ returns-then-out-ge-PERMITS-clause-ready g c =
     let t = c.args.task.now in
     let u = c.read_volume-out.new.task in
     let served = c.read_volume-out.ensures.served in
-    still_pooled b _ _ _ t u served (read_quiet 0 c.read_volume-out.result t u served) c.requires.ready
+    still_pooled b _ _ _ t u served (read_is_quiet 0 c.read_volume-out.result t u served) c.requires.ready
 
 pub returns-clause-permit : goal.returns-clause-permit
 returns-clause-permit g c =
@@ -54,7 +55,7 @@ pub returns-then-out-ge-PERMITS-clause-given : goal.returns-then-out-ge-PERMITS-
 returns-then-out-ge-PERMITS-clause-given g c =
     let t = c.args.task.now in
     let u = c.read_volume-out.new.task in
-    same_given t u (read_quiet 0 c.read_volume-out.result t u c.read_volume-out.ensures.served)
+    same_given t u (read_is_quiet 0 c.read_volume-out.result t u c.read_volume-out.ensures.served)
 
 pub returns-clause-given : goal.returns-clause-given
 returns-clause-given g c =

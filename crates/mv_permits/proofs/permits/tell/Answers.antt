@@ -1,7 +1,8 @@
 use Rattle.std.proofs.Common.{◌<◌, ◌≤◌, length, sym, subst, arith, le_refl}
 use Rattle.mv_machine.specs.Reach.{reach}
 use Rattle.mv_machine.specs.Setup.{Setup}
-use Rattle.mv_permits.proofs.Calls.{post_quiet, post_has, still_pooled, same_permit, same_given, no_exits}
+use Rattle.mv_guarded.proofs.Quiet.{post_is_quiet, post_held}
+use Rattle.mv_permits.proofs.Calls.{still_pooled, same_permit, same_given, no_exits}
 use Rattle.mv_permits.proofs.permits.tell.Goals as goal
 
 pub post-requires-clause-block : goal.post-requires-clause-block
@@ -21,7 +22,7 @@ returns-clause-permit g c =
     let b = c.args.station.now in
     let t = c.args.task.now in
     let u = c.post.new.task in
-    same_permit t u (post_quiet b.config _ _ _ _ t u (no_exits b.config c.requires.ready.config) c.post.ensures.served)
+    same_permit t u (post_is_quiet b.config _ _ _ _ t u (no_exits b.config c.requires.ready.config) c.post.ensures.served)
 
 pub returns-clause-left : goal.returns-clause-left
 returns-clause-left g c =
@@ -37,16 +38,16 @@ returns-clause-ready g c =
     let t = c.args.task.now in
     let u = c.post.new.task in
     let served = c.post.ensures.served in
-    still_pooled b _ _ _ t u served (post_quiet b.config _ _ _ _ t u (no_exits b.config c.requires.ready.config) served) c.requires.ready
+    still_pooled b _ _ _ t u served (post_is_quiet b.config _ _ _ _ t u (no_exits b.config c.requires.ready.config) served) c.requires.ready
 
 pub returns-clause-has : goal.returns-clause-has
 returns-clause-has g c =
     let b = c.args.station.now in
-    post_has b.config _ _ _ _ c.args.task.now c.post.new.task (no_exits b.config c.requires.ready.config) c.post.ensures.served
+    post_held b.config _ _ _ _ c.args.task.now c.post.new.task (no_exits b.config c.requires.ready.config) c.post.ensures.served
 
 pub returns-clause-given : goal.returns-clause-given
 returns-clause-given g c =
     let b = c.args.station.now in
     let t = c.args.task.now in
     let u = c.post.new.task in
-    same_given t u (post_quiet b.config _ _ _ _ t u (no_exits b.config c.requires.ready.config) c.post.ensures.served)
+    same_given t u (post_is_quiet b.config _ _ _ _ t u (no_exits b.config c.requires.ready.config) c.post.ensures.served)
