@@ -170,10 +170,10 @@ ends_wrong v bytes c es ns line h t w =
 
 -- without one
 pub ends_right : (command : JournalCommand) (v : Version) (bytes : List ℕ) (c : Setup) (es : List Entry) (ns : List ℕ) (judged : Judged)
-    (j : Judge) (copy : Option JournalWriter) → IsRightTo v (is_copied command v) c es ns j copy → HasJournal c es
-    → IsTextIn (number_of v) bytes c es ns → judged.count ≡ length es
+    (copy : Option JournalWriter) → IsRightTo v (is_copied command v) c es ns judged.judge copy → HasJournal c es
+    → IsTextIn (number_of v) bytes c es ns → judged.count ≡ length es → judged.config ≡ c
     → IsMade (is_copied command v) c es (option_map (λ t. t.items) judged.second) → IsJudged command bytes judged
-ends_right command v bytes c es ns judged j copy h journal t number is =
+ends_right command v bytes c es ns judged copy h journal t number config is =
     let same = same_version v t.version t.number in
     record {
       legal = record {
@@ -187,4 +187,6 @@ ends_right command v bytes c es ns judged j copy h journal t number is =
         number = number;
       };
       made = is;
+      config = config;
+      judged = h.judged;
     }

@@ -63,10 +63,13 @@ IsMade true c es (Some text) = text ≡ journal_text c es
 IsMade false c es None = Unit {0}
 IsMade _ c es copy = ⊥
 
--- the text is a legal journal, and this was kept of it: its conversion if the command makes one
+-- the text is a legal journal, and this was kept of it: its conversion if the command makes one, its configuration, and the judge
+-- after its entries
 pub record IsJudged (command : JournalCommand) (bytes : List ℕ) (j : Judged) : Type 0 where
   pub legal : IsLegalJournal bytes j.count
   pub made : IsMade (is_copied command legal.version) legal.setup legal.entries (option_map (λ t. t.items) j.second)
+  pub config : j.config ≡ legal.setup
+  pub judged : HasJudged legal.setup legal.entries j.judge
 
 -- ---- the reports
 

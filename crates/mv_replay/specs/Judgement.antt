@@ -2,9 +2,12 @@
 -- machine's or has another number; or not a journal.
 use Rattle.std.specs.Prelude.{◌≡◌, ℕ, suc, ◌+◌, ◌<◌, List, [], take, length, Some}
 use Rattle.mv_machine.specs.declared.entry.Entry.{Entry}
-use Rattle.mv_machine.specs.Legal.{Legal}
+use Rattle.mv_machine.specs.Legal.{Legal, after}
 use Rattle.mv_calls.specs.Numbers.{calls}
 use Rattle.mv_machine.specs.Setup.{Setup}
+use Rattle.mv_machine.specs.System.{System}
+use Rattle.mv_machine.specs.Told.{last_wakes}
+use Rattle.mv_latch.specs.declared.operation.Wake.{Wake}
 use Rattle.mv_entrytext.specs.declared.version.Version.{Version}
 use Rattle.mv_entrytext.specs.declared.version.Version.TheVariants.{One, Two}
 use Rattle.mv_entrytext.specs.Journal.{first_line, text_of}
@@ -35,6 +38,14 @@ pub record IsLegalJournal (bytes : List ℕ) (count : ℕ) : Type 0 where
   pub text : bytes ≡ text_of version setup entries (calls_in version setup entries)
   pub legal : Legal setup entries
   pub number : count ≡ length entries
+
+-- the text of this number of legal entries, of this configuration: after them the machine is in this state, and these are the wakes of
+-- their last operation on the latch set
+pub record IsReplayed (bytes : List ℕ) (count : ℕ) (c : Setup) (s : System) (wakes : List Wake) : Type 0 where
+  pub journal : IsLegalJournal bytes count
+  pub config : journal.setup ≡ c
+  pub state : s ≡ after journal.setup journal.entries
+  pub shown : wakes ≡ last_wakes journal.setup journal.entries
 
 -- the entries before this index are right, but not with the one at this index, which is not the machine's next or has another
 -- number

@@ -56,6 +56,12 @@ abbrev pub Asks : List ℕ → ReplayStatus → Type 0
 Asks bytes TooLong = journal_limit < length bytes
 Asks bytes status = (length bytes ≤ journal_limit) × IsFound bytes status
 
+-- the same of a status that is returned as an error: the text calls for it, or memory ran out
+abbrev pub IsAsked : List ℕ → ReplayStatus → Type 0
+IsAsked bytes NoMemory = Unit {0}
+IsAsked bytes Done = ⊥
+IsAsked bytes status = Asks bytes status
+
 -- how a command has to end: if reading did not fail, and writing did not fail if there is a report to write, it ends as the
 -- input calls for, or out of memory
 abbrev pub Owes : (read wrote : Type 0) → (input : Option (List ℕ)) → ReplayStatus → Type 0

@@ -29,6 +29,10 @@ pub(crate) struct Judged {
     pub(crate) count: u32,
     /// Its conversion, if the command makes one and the text is not in version 2 already.
     pub(crate) second: Option<Vec<u8>>,
+    /// Its configuration.
+    pub(crate) config: ValidConfig,
+    /// The judge after its last entry.
+    pub(crate) judge: Judge,
 }
 
 // How far a text has been judged. It keeps none of the entries.
@@ -129,10 +133,15 @@ impl Course {
     fn end(self, count: u32) -> Result<Judged, ReplayStatus>
         ensures { (command : AnyCommand) (v : AnyVersion) (bytes : List ℕ) (c : Setup) (es : List AnyEntry) (ns : List ℕ)
             → IsCourse v (is_copied command v) c es ns self.wrong self.judge self.copy → HasJournal c es
-            → IsTextIn (number_of v) bytes c es ns → count ≡ length es
+            → IsTextIn (number_of v) bytes c es ns → count ≡ length es → self.config ≡ c
             → MatchResult result (λ j. IsJudged command bytes j) (λ s. IsRefused bytes s) }
     {
-        let Course { wrong, copy, .. } = self;
+        let Course {
+            config,
+            judge,
+            wrong,
+            copy,
+        } = self;
         if let Some(line) = wrong {
             return Err(ReplayStatus::Illegal(line));
         }
@@ -142,11 +151,15 @@ impl Course {
                 Ok(Judged {
                     count,
                     second: Some(text),
+                    config,
+                    judge,
                 })
             }
             None => Ok(Judged {
                 count,
                 second: None,
+                config,
+                judge,
             }),
         }
     }

@@ -9,8 +9,10 @@ mod reading;
 mod replaying;
 mod reporting;
 mod status;
+mod text;
 
 pub use command::JournalCommand;
 pub use laws::{legal_lists_are_done, no_text_asks_for_two_endings};
 pub use replaying::{convert_command, judge_journal, replay_command};
 pub use status::ReplayStatus;
+pub use text::{ReplayedJournal, judge_text};

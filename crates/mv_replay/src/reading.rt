@@ -13,7 +13,7 @@ use mv_io::{Source, read_limited};
 use std::alloc::Global;
 
 /// The most bytes of a journal.
-const JOURNAL_LIMIT: usize = 67_108_864;
+pub(crate) const JOURNAL_LIMIT: usize = 67_108_864;
 
 /// The text of a legal journal, and what was kept of it.
 #[derive(Drop)]
@@ -28,7 +28,8 @@ impl LegalText {
         ensures { result.items ≡ conversion_of self }
     {
         let LegalText { text, judged } = self;
-        match judged.second {
+        let Judged { second, .. } = judged;
+        match second {
             Some(second) => second,
             None => text,
         }

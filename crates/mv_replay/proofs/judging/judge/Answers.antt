@@ -1,5 +1,5 @@
 -- The course is one entry further with each that is read.
-use Rattle.std.proofs.Common.{ℕ, ◌∷◌, ◌++◌, [], List, Option, sym, subst}
+use Rattle.std.proofs.Common.{ℕ, ◌∷◌, ◌++◌, [], List, Option, refl, sym, subst}
 use Rattle.mv_machine.specs.declared.entry.Entry.{Entry}
 use Rattle.mv_machine.specs.Setup.{Setup}
 use Rattle.mv_entrytext.specs.Lines.{with_call}
@@ -44,3 +44,4 @@ returns-in-Ok-None c =
     subst (λ (o : Option (Option ℕ × Entry)). IsNextOf w.0 bytes config w.1 w.2 o c.next.new.self) c.in-Ok-None.field-0-is
     (c.in-Ok-None.ensures.read w.0 bytes config w.1 w.2 w.3) in
     c.end.ensures c.args.command w.0 bytes config w.1 w.2 w.4 whole.journal whole.text (c.count.ensures w.0 bytes config w.1 w.2 whole.read)
+    refl
