@@ -1,0 +1,20 @@
+//! The judge of journals and the machine of one thread, in structs of numbers: an oracle for tests of an implementation of these
+//! services in another language.
+#![tactic(auto)]
+
+mod answer;
+mod handle;
+mod latch;
+mod machine;
+mod operation;
+mod oracle;
+mod service;
+mod status;
+mod verdict;
+
+pub use answer::Answer;
+pub use handle::MachineHandle;
+pub use latch::{LatchRequest, LatchWake};
+pub use operation::Operation;
+pub use oracle::Oracle;
+pub use verdict::{Verdict, judge};
