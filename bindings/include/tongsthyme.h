@@ -1,0 +1,261 @@
+/* The proved judge of journals, and the proved machine of one thread, one operation at a time.
+
+   docs/FORMATS.md has the text of journals, and docs/MODEL.md the objects. Link libtongsthyme.a, or libtongsthyme.so.
+
+   What the library promises is proved of its Rattle source, and nothing checks that a caller of another language does its part. The
+   caller's part is this:
+
+   - Each pointer leads to what its type says, and no two pointers of one call lead to the same memory. None is null: an empty journal
+     needs a pointer too.
+   - A machine begins as `struct tongsthyme_machine machine = {0};`. Only these functions touch it, it is not copied, and it is in one
+     call at a time, on the thread that opened it. Calls with different machines may run at once, and so may calls of the judge.
+   - The program's malloc, realloc and free are the C library's, or do what those do. No call is made from a signal handler, or from
+     the child of a fork of a program with threads.
+
+   No function keeps a pointer that it is given, or prints, or reads or writes a file. */
+#ifndef TONGSTHYME_H
+#define TONGSTHYME_H
+
+#include <stddef.h>
+#include <stdint.h>
+
+#ifdef __cplusplus
+extern "C" {
+#endif
+
+/* ---- The judge */
+
+/* What a text is. */
+enum tongsthyme_verdict_status {
+    TONGSTHYME_LEGAL = 0,        /* the journal of a legal history, in version 2 with the right call numbers */
+    TONGSTHYME_ILLEGAL = 1,      /* a journal in which an entry is not what the services do, or has another call number */
+    TONGSTHYME_MALFORMED = 2,    /* not a journal */
+    TONGSTHYME_TOO_LONG = 3,     /* more than 67,108,864 bytes; it was not read */
+    TONGSTHYME_OUT_OF_MEMORY = 4 /* memory ran out before the text was judged */
+};
+
+/* Why a text is not a journal. */
+enum tongsthyme_fault {
+    TONGSTHYME_FAULT_FORM = 1,          /* the line does not have a form that is allowed at its place */
+    TONGSTHYME_FAULT_NUMBER = 2,        /* a number has a leading zero or is beyond its range */
+    TONGSTHYME_FAULT_CONFIGURATION = 3, /* at EVENTS: the configuration is refused */
+    TONGSTHYME_FAULT_COUNT = 4,         /* at END: the number is not that of the events */
+    TONGSTHYME_FAULT_CUT = 5            /* the line does not end with LF, or the text ends before its END line */
+};
+
+/* A field to which the status gives no meaning is 0. */
+struct tongsthyme_verdict {
+    uint32_t status; /* enum tongsthyme_verdict_status */
+    uint32_t events; /* LEGAL: the number of events */
+    uint32_t line;   /* ILLEGAL: the line of the first wrong entry, counted from 1. MALFORMED: the line of the first fault */
+    uint32_t kind;   /* MALFORMED: enum tongsthyme_fault */
+};
+
+/* Judges the `length` bytes at `journal`, writes the verdict, and returns its status. */
+uint32_t tongsthyme_judge(const uint8_t *journal, size_t length, struct tongsthyme_verdict *verdict);
+
+/* ---- The machine: what an implementation of the services has to answer */
+
+/* How a call on a machine went. */
+enum tongsthyme_status {
+    TONGSTHYME_DONE = 0,              /* the operation was made, or what was looked for is there */
+    TONGSTHYME_NOT_ADMITTED = 1,      /* no such caller or object, or the caller may not do this; nothing changed */
+    TONGSTHYME_FULL = 2,              /* the object has had 524,287 events; nothing changed */
+    TONGSTHYME_NO_SUCH_OPERATION = 3, /* a number of the operation has no meaning; nothing changed */
+    TONGSTHYME_NO_MACHINE = 4,        /* the handle holds no machine */
+    TONGSTHYME_ABSENT = 5             /* what was looked for is not there */
+};
+
+/* Kinds of objects. */
+enum tongsthyme_kind {
+    TONGSTHYME_ECB = 0,     /* an event control block */
+    TONGSTHYME_ELEMENT = 1, /* a pause element */
+    TONGSTHYME_VOLUME = 2,  /* a shared number of 32 bits */
+    TONGSTHYME_LATCHES = 3  /* the latch set */
+};
+
+/* Operations on an event control block, with their field. */
+enum tongsthyme_ecb_operation {
+    TONGSTHYME_ECB_ARM = 0,
+    TONGSTHYME_ECB_EXTEND = 1, /* a: the exit, counted from 1 */
+    TONGSTHYME_ECB_SETTLE = 2,
+    TONGSTHYME_ECB_CLEAR = 3,
+    TONGSTHYME_ECB_POST = 4, /* a: the completion code, below 2^30 */
+    TONGSTHYME_ECB_TEST = 5
+};
+
+/* Operations on a pause element. */
+enum tongsthyme_element_operation {
+    TONGSTHYME_ELEMENT_OPEN = 0,
+    TONGSTHYME_ELEMENT_PAUSE = 1,   /* a: the generation of the token */
+    TONGSTHYME_ELEMENT_RESUME = 2,  /* a: the same */
+    TONGSTHYME_ELEMENT_RELEASE = 3, /* a: the same; b: the release code, below 2^24 */
+    TONGSTHYME_ELEMENT_CLOSE = 4,   /* a: the generation */
+    TONGSTHYME_ELEMENT_TEST = 5
+};
+
+/* Operations on a volume. */
+enum tongsthyme_volume_operation {
+    TONGSTHYME_VOLUME_READ = 0,
+    TONGSTHYME_VOLUME_WRITE = 1 /* a: the number */
+};
+
+/* Operations on the latch set. */
+enum tongsthyme_latch_operation {
+    TONGSTHYME_LATCH_OBTAIN = 0,  /* a: the latch; requestor; b: enum tongsthyme_mode; c: enum tongsthyme_form; d: the block of POSTED */
+    TONGSTHYME_LATCH_CONFIRM = 1, /* a: the latch; b: the number of the request */
+    TONGSTHYME_LATCH_RELEASE = 2, /* a: the latch; b: the number of the request; c: 1 if it is conditional, otherwise 0 */
+    TONGSTHYME_LATCH_PURGE = 3    /* requestor */
+};
+
+/* How a requestor holds a latch. */
+enum tongsthyme_mode {
+    TONGSTHYME_SHARED = 0,
+    TONGSTHYME_EXCLUSIVE = 1
+};
+
+/* What becomes of a request that is not granted at once. */
+enum tongsthyme_form {
+    TONGSTHYME_CONDITIONAL = 0, /* it is dropped */
+    TONGSTHYME_WAITING = 1,     /* it is queued, and its task is woken at the grant */
+    TONGSTHYME_POSTED = 2       /* it is queued, and a block is posted at the grant */
+};
+
+/* An operation of a caller on an object. Fields that the operation does not use are ignored. */
+struct tongsthyme_operation {
+    uint32_t caller;    /* counted from 0 */
+    uint32_t kind;      /* enum tongsthyme_kind */
+    uint32_t object;    /* the number of the object, counted from 0; the latch set has none */
+    uint32_t operation; /* of the enum of its kind */
+    uint32_t a;
+    uint32_t b;
+    uint32_t c;
+    uint32_t d;
+    uint64_t requestor;
+};
+
+/* Replies of an event control block. */
+enum tongsthyme_ecb_reply {
+    TONGSTHYME_ECB_ARMED = 0,
+    TONGSTHYME_ECB_LINKED = 1,   /* a: the exit */
+    TONGSTHYME_ECB_COMPLETE = 2, /* a: the completion code */
+    TONGSTHYME_ECB_WAITING = 3,
+    TONGSTHYME_ECB_OPEN = 4,
+    TONGSTHYME_ECB_POSTED = 5,
+    TONGSTHYME_ECB_WOKE = 6,    /* a: the exit, or 0 if there is none */
+    TONGSTHYME_ECB_ALREADY = 7, /* a: the completion code of the first post */
+    TONGSTHYME_ECB_WORD = 8     /* a: the fullword */
+};
+
+/* Replies of a pause element. */
+enum tongsthyme_element_reply {
+    TONGSTHYME_ELEMENT_OPENED = 0, /* a: the generation */
+    TONGSTHYME_ELEMENT_INUSE = 1,
+    TONGSTHYME_ELEMENT_PARKED = 2,
+    TONGSTHYME_ELEMENT_GIVEN = 3, /* a: the release code; b: the generation of the next token */
+    TONGSTHYME_ELEMENT_SPENT = 4, /* a: the generation */
+    TONGSTHYME_ELEMENT_BUSY = 5,
+    TONGSTHYME_ELEMENT_NOTYET = 6,
+    TONGSTHYME_ELEMENT_EARLY = 7,
+    TONGSTHYME_ELEMENT_WOKE = 8,
+    TONGSTHYME_ELEMENT_ALREADY = 9,
+    TONGSTHYME_ELEMENT_CLOSED = 10,
+    TONGSTHYME_ELEMENT_STATE = 11 /* a: the generation; b: enum tongsthyme_phase; c: the release code that is kept */
+};
+
+/* Phases of a pause element. */
+enum tongsthyme_phase {
+    TONGSTHYME_FREE = 0,
+    TONGSTHYME_RESET = 1,
+    TONGSTHYME_PRERELEASED = 2,
+    TONGSTHYME_PAUSED = 3,
+    TONGSTHYME_RELEASED = 4
+};
+
+/* Replies of a volume. */
+enum tongsthyme_volume_reply {
+    TONGSTHYME_VOLUME_VALUE = 0, /* a: the number */
+    TONGSTHYME_VOLUME_STORED = 1
+};
+
+/* Replies of the latch set. */
+enum tongsthyme_latch_reply {
+    TONGSTHYME_LATCH_GRANTED = 0, /* a: the number of the request */
+    TONGSTHYME_LATCH_QUEUED = 1,  /* a: the number of the request */
+    TONGSTHYME_LATCH_NOTNOW = 2,  /* a: the number of the request that is in the way */
+    TONGSTHYME_LATCH_WAITING = 3,
+    TONGSTHYME_LATCH_GONE = 4,
+    TONGSTHYME_LATCH_RELEASED = 5, /* a: how many others were granted */
+    TONGSTHYME_LATCH_PURGED = 6    /* a: how many requests were removed; b: how many others were granted */
+};
+
+/* The place of an event, and its reply. Fields that the reply does not use are 0. */
+struct tongsthyme_answer {
+    uint32_t place; /* how many events the object had before this one */
+    uint32_t reply; /* of the enum of the object's kind */
+    uint32_t a;
+    uint32_t b;
+    uint32_t c;
+};
+
+/* One machine, or none. */
+struct tongsthyme_machine {
+    void *at;
+};
+
+/* Judges a journal, writes the verdict, and returns its status, as tongsthyme_judge. If it is LEGAL, the handle then holds the machine
+   after the journal's entries, and a machine that it held is freed. A journal with `END 0` opens a new machine. Otherwise the handle
+   keeps what it holds. */
+uint32_t tongsthyme_machine_open(const uint8_t *journal, size_t length, struct tongsthyme_machine *machine,
+                                 struct tongsthyme_verdict *verdict);
+
+/* Makes an operation, and returns DONE, NOT_ADMITTED, FULL, NO_SUCH_OPERATION or NO_MACHINE. With DONE the answer is written, otherwise it
+   is as it was. The call takes no memory, and never waits: a reply says that the caller has to. */
+uint32_t tongsthyme_machine_step(struct tongsthyme_machine *machine, const struct tongsthyme_operation *operation,
+                                 struct tongsthyme_answer *answer);
+
+/* Shows an object and changes nothing: the answer is its place, and its state as the reply of a TEST or, for a volume, of a READ. Returns
+   DONE, ABSENT or NO_MACHINE. For the latch set it returns ABSENT: tongsthyme_machine_request shows that. This call and the next two write
+   what they found only with DONE. */
+uint32_t tongsthyme_machine_object(struct tongsthyme_machine *machine, uint32_t kind, uint32_t number,
+                                   struct tongsthyme_answer *answer);
+
+/* What became of a request that waited. */
+enum tongsthyme_wake_code {
+    TONGSTHYME_WAKE_GRANTED = 0,
+    TONGSTHYME_WAKE_PURGED = 1
+};
+
+/* What has to be done for a request that the last operation on the latch set granted, or purged while it waited. */
+struct tongsthyme_wake {
+    uint32_t caller;  /* the caller that made the request */
+    uint32_t request; /* its number */
+    uint32_t code;    /* enum tongsthyme_wake_code */
+    uint32_t posts;   /* 1 if a block has to be posted with the code, 0 if the task has to be woken */
+    uint32_t ecb;     /* the block */
+};
+
+/* Shows the wake of this index, in order from 0, among those of the last operation on the latch set. Returns DONE, ABSENT or NO_MACHINE. */
+uint32_t tongsthyme_machine_wake(struct tongsthyme_machine *machine, uint32_t index, struct tongsthyme_wake *wake);
+
+/* A request in the list of a latch. */
+struct tongsthyme_request {
+    uint64_t requestor;
+    uint32_t request; /* its number */
+    uint32_t caller;  /* the caller that made it */
+    uint32_t mode;    /* enum tongsthyme_mode */
+    uint32_t form;    /* enum tongsthyme_form */
+    uint32_t ecb;     /* the block of POSTED */
+};
+
+/* Shows the request of this index, in order of arrival from 0, in the list of a latch. Returns DONE, ABSENT or NO_MACHINE. */
+uint32_t tongsthyme_machine_request(struct tongsthyme_machine *machine, uint32_t latch, uint32_t index,
+                                    struct tongsthyme_request *request);
+
+/* Frees the machine, if there is one. The handle holds none then, and may be opened again. */
+void tongsthyme_machine_close(struct tongsthyme_machine *machine);
+
+#ifdef __cplusplus
+}
+#endif
+#endif

@@ -1,0 +1,31 @@
+"""example.py FILE: judges a journal, and looks at the machine after its entries."""
+
+import sys
+
+import tongsthyme
+
+
+def main() -> int:
+    if len(sys.argv) != 2:
+        print("usage: example.py FILE", file=sys.stderr)
+        return 2
+    with open(sys.argv[1], "rb") as file:
+        journal = file.read()
+    verdict = tongsthyme.judge(journal)
+    if not verdict.is_legal:
+        at = f" at line {verdict.line}" if verdict.line else ""
+        print(f"{verdict.status}{at}" + (f", kind {verdict.kind}" if verdict.kind else ""))
+        return 1
+    print(f"legal, {verdict.events} events")
+    with tongsthyme.Machine(journal) as machine:
+        # Caller 0 posts event control block 0.
+        answer = machine.step(0, "E0", "POST 7")
+        print(f"the block had {answer.place} events before the post")
+        block = machine.object("E0")
+        if block:
+            print(f"now it has had {block.place}, and its word is {block.reply.split(' ')[1]}")
+    return 0
+
+
+if __name__ == "__main__":
+    sys.exit(main())
