@@ -31,22 +31,16 @@ pub(crate) fn meet<R: Wait + Clock>(
         Need::Blocks(blocks) => {
             let mut found = ArrayVec::from([WaitSlot::Open; MOST_BLOCKS]);
             found.truncate(blocks.ecbs.len());
-            match station.wait(rt, task, blocks.count, &blocks.ecbs, &mut found) {
-                Ok(()) => Ok(Got::Slots(found)),
-                Err(_) => Err(Lost),
-            }
+            station.wait(rt, task, blocks.count, &blocks.ecbs, &mut found)?;
+            Ok(Got::Slots(found))
         }
         Need::Block(ecb) => Ok(Got::Code(station.wait_one(rt, task, ecb))),
-        Need::Pause(token) => match pause(station, rt, task, token) {
-            Ok(given) => Ok(Got::Given(given)),
-            Err(_) => Err(Lost),
-        },
+        Need::Pause(token) => Ok(Got::Given(pause(station, rt, task, token)?)),
         Need::Latch(latch, requestor, mode) => {
             let form = LatchForm::Waiting;
-            match obtain(station, rt, task, latch, requestor, mode, form) {
-                Ok(Obtained::Granted(token)) => Ok(Got::Granted(token)),
-                Ok(Obtained::Pending(_)) => Err(Lost),
-                Err(_) => Err(Lost),
+            match obtain(station, rt, task, latch, requestor, mode, form)? {
+                Obtained::Granted(token) => Ok(Got::Granted(token)),
+                Obtained::Pending(_) => Err(Lost),
             }
         }
     }
