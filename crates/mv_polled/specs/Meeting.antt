@@ -1,5 +1,5 @@
 -- The polled call of what a task waits for. Here u is the task before the call's first poll, and v the task now.
-use Rattle.std.specs.Prelude.{◌≡◌, ℕ, ◌≤◌, [], ◌∷◌, length}
+use Rattle.std.specs.Prelude.{◌≡◌, ℕ, ◌≤◌, [], ◌∷◌, length, Result, Ok, Err}
 use Rattle.mv_board.specs.Faces.{CallerFace}
 use Rattle.mv_element.specs.declared.element.Token.{Token}
 use Rattle.mv_latch.specs.declared.request.Mode.{Mode}
@@ -10,6 +10,8 @@ use Rattle.mv_polled.specs.Obtaining.{ObtainFace, new_obtain, IsObtainAt}
 use Rattle.mv_polled.specs.declared.meeting.Call.{Call}
 use Rattle.mv_polled.specs.declared.meeting.Call.TheVariants as call
 use Rattle.mv_polled.specs.declared.meeting.Meeting.{Meeting}
+use Rattle.mv_polled.specs.declared.turn.Turn.{Turn}
+use Rattle.mv_polled.specs.declared.turn.Turn.TheVariants.{Ready, Pending}
 use Rattle.mv_work.specs.declared.need.Blocks.{Blocks}
 use Rattle.mv_work.specs.declared.need.Need.{Need}
 use Rattle.mv_work.specs.declared.need.Need.TheVariants as need
@@ -60,3 +62,9 @@ IsCallOf c n k w u v = ⊥
 -- the meeting has the call for this need, which may be polled
 abbrev pub IsMeeting : Setup → Need → Meeting → CallerFace → CallerFace → Type 0
 IsMeeting c n m u v = IsCallOf c n m.call m.wait u v
+
+-- P holds of the answer of a poll or of its error, or Q holds if there is neither yet
+abbrev pub MatchPolled : {A E : Type 0} → Result (Turn A) E → (Result A E → Type 0) → Type 0 → Type 0
+MatchPolled (Ok (Ready a)) P Q = P (Ok a)
+MatchPolled (Ok Pending) P Q = Q
+MatchPolled (Err e) P Q = P (Err e)

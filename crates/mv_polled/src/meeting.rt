@@ -6,9 +6,8 @@ ghost use Rattle.mv_element.specs.declared.element.Token.{Token as TokenValue};
 ghost use Rattle.mv_latch.specs.declared.request.Mode.{Mode as ModeValue};
 ghost use Rattle.mv_polled.specs.Obtaining.{IsObtainAt};
 ghost use Rattle.mv_polled.specs.Pausing.{IsPauseAt};
-ghost use Rattle.mv_polled.specs.Turn.{MatchTurn};
 ghost use Rattle.mv_polled.specs.Waiting.{IsWaitAt};
-ghost use Rattle.mv_polled.specs.Meeting.{HasRoom, IsMeeting, IsTakenUp, IsWaitFor, IsBlockFor, IsPauseFor, IsObtainFor};
+ghost use Rattle.mv_polled.specs.Meeting.{HasRoom, IsMeeting, IsTakenUp, IsWaitFor, IsBlockFor, IsPauseFor, IsObtainFor, MatchPolled};
 ghost use Rattle.mv_work.specs.Meeting.{IsMet};
 ghost use Rattle.mv_work.specs.Needs.{most_blocks};
 ghost use Rattle.mv_work.specs.declared.need.Blocks.{Blocks as BlocksValue};
@@ -80,20 +79,23 @@ impl Meeting {
         }
     }
 
-    /// Polls the call. Returns its answer once it has one, or `Lost` if the call was refused or has an answer that the task does
-    /// not foresee.
+    /// Polls the call, and returns its answer once it has one.
+    ///
+    /// # Errors
+    ///
+    /// `Lost` if the call was refused or has an answer that the task does not foresee.
     pub(crate) fn poll<R: Wait>(
         &mut self,
         rt: &R,
         station: &Station,
         task: &mut Task,
-    ) -> Turn<Result<Got, Lost>>
+    ) -> Result<Turn<Got>, Lost>
         requires task { IsOf station.now task.old }
         requires room { HasRoom self.old }
         requires meeting { (n : NeedValue) × (t : CallerFace) × IsMeeting station.now.config n self.old t task.old }
         ensures room { HasRoom self.new }
         ensures same { IsSame task.old task.new }
-        ensures turn { (n : NeedValue) (t : CallerFace) → IsMeeting station.now.config n self.old t task.old → MatchTurn result
+        ensures turn { (n : NeedValue) (t : CallerFace) → IsMeeting station.now.config n self.old t task.old → MatchPolled result
             (λ r. IsMet station.now.config n t r task.new) (IsMeeting station.now.config n self.new t task.new) }
     {
         match &mut self.call {
@@ -112,24 +114,24 @@ fn await_blocks<R: Wait>(
     station: &Station,
     task: &mut Task,
     call: &mut WaitCall,
-) -> Turn<Result<Got, Lost>>
+) -> Result<Turn<Got>, Lost>
     requires task { IsOf station.now task.old }
     requires stage { (t : CallerFace) × IsWaitAt station.now.config call.old t task.old }
     requires few { length call.old.ecbs ≤ most_blocks }
     ensures room { call.new.room ≡ call.old.room }
     ensures same { IsSame task.old task.new }
-    ensures turn { (b : BlocksValue) (t : CallerFace) → IsWaitFor station.now.config b call.old t task.old → MatchTurn result
+    ensures turn { (b : BlocksValue) (t : CallerFace) → IsWaitFor station.now.config b call.old t task.old → MatchPolled result
         (λ r. IsMet station.now.config (need.Blocks b) t r task.new) (IsWaitFor station.now.config b call.new t task.new) }
 {
     match call.poll(station, rt, task) {
-        Turn::Pending => Turn::Pending,
-        Turn::Ready(Ok(())) => {
+        Turn::Pending => Ok(Turn::Pending),
+        Turn::Ready(waited) => {
+            waited?;
             let Ok(found) = ArrayVec::try_from(call.slots()) else {
                 unreachable!()
             };
-            Turn::Ready(Ok(Got::Slots(found)))
+            Ok(Turn::Ready(Got::Slots(found)))
         }
-        Turn::Ready(Err(_)) => Turn::Ready(Err(Lost)),
     }
 }
 
@@ -139,21 +141,23 @@ fn await_block<R: Wait>(
     station: &Station,
     task: &mut Task,
     call: &mut WaitCall,
-) -> Turn<Result<Got, Lost>>
+) -> Result<Turn<Got>, Lost>
     requires task { IsOf station.now task.old }
     requires stage { (e : ℕ) × (t : CallerFace) × IsBlockFor station.now.config e call.old t task.old }
     ensures room { call.new.room ≡ call.old.room }
     ensures same { IsSame task.old task.new }
-    ensures turn { (e : ℕ) (t : CallerFace) → IsBlockFor station.now.config e call.old t task.old → MatchTurn result
+    ensures turn { (e : ℕ) (t : CallerFace) → IsBlockFor station.now.config e call.old t task.old → MatchPolled result
         (λ r. IsMet station.now.config (need.Block e) t r task.new) (IsBlockFor station.now.config e call.new t task.new) }
 {
     match call.poll(station, rt, task) {
-        Turn::Pending => Turn::Pending,
-        Turn::Ready(Ok(())) => match call.slots()[0] {
-            WaitSlot::Complete(code) => Turn::Ready(Ok(Got::Code(code))),
-            WaitSlot::Open => unreachable!(),
-        },
-        Turn::Ready(Err(_)) => Turn::Ready(Err(Lost)),
+        Turn::Pending => Ok(Turn::Pending),
+        Turn::Ready(waited) => {
+            waited?;
+            match call.slots()[0] {
+                WaitSlot::Complete(code) => Ok(Turn::Ready(Got::Code(code))),
+                WaitSlot::Open => unreachable!(),
+            }
+        }
     }
 }
 
@@ -163,17 +167,16 @@ fn await_release<R: Wait>(
     station: &Station,
     task: &mut Task,
     call: &mut PauseCall,
-) -> Turn<Result<Got, Lost>>
+) -> Result<Turn<Got>, Lost>
     requires task { IsOf station.now task.old }
     requires stage { (t : CallerFace) × IsPauseAt station.now.config call.old t task.old }
     ensures same { IsSame task.old task.new }
-    ensures turn { (token : TokenValue) (t : CallerFace) → IsPauseFor station.now.config token call.old t task.old → MatchTurn result
+    ensures turn { (token : TokenValue) (t : CallerFace) → IsPauseFor station.now.config token call.old t task.old → MatchPolled result
         (λ r. IsMet station.now.config (need.Pause token) t r task.new) (IsPauseFor station.now.config token call.new t task.new) }
 {
     match call.poll(station, rt, task) {
-        Turn::Pending => Turn::Pending,
-        Turn::Ready(Ok(given)) => Turn::Ready(Ok(Got::Given(given))),
-        Turn::Ready(Err(_)) => Turn::Ready(Err(Lost)),
+        Turn::Pending => Ok(Turn::Pending),
+        Turn::Ready(paused) => Ok(Turn::Ready(Got::Given(paused?))),
     }
 }
 
@@ -183,19 +186,20 @@ fn await_grant<R: Wait>(
     station: &Station,
     task: &mut Task,
     call: &mut ObtainCall,
-) -> Turn<Result<Got, Lost>>
+) -> Result<Turn<Got>, Lost>
     requires task { IsOf station.now task.old }
     requires stage { (t : CallerFace) × IsObtainAt station.now.config call.old t task.old }
     ensures same { IsSame task.old task.new }
     ensures turn { (latch requestor : ℕ) (mode : ModeValue) (t : CallerFace)
-        → IsObtainFor station.now.config latch requestor mode call.old t task.old → MatchTurn result
+        → IsObtainFor station.now.config latch requestor mode call.old t task.old → MatchPolled result
         (λ r. IsMet station.now.config (need.Latch latch requestor mode) t r task.new)
         (IsObtainFor station.now.config latch requestor mode call.new t task.new) }
 {
     match call.poll(station, rt, task) {
-        Turn::Pending => Turn::Pending,
-        Turn::Ready(Ok(Obtained::Granted(token))) => Turn::Ready(Ok(Got::Granted(token))),
-        Turn::Ready(Ok(Obtained::Pending(_))) => Turn::Ready(Err(Lost)),
-        Turn::Ready(Err(_)) => Turn::Ready(Err(Lost)),
+        Turn::Pending => Ok(Turn::Pending),
+        Turn::Ready(obtained) => match obtained? {
+            Obtained::Granted(token) => Ok(Turn::Ready(Got::Granted(token))),
+            Obtained::Pending(_) => Err(Lost),
+        },
     }
 }

@@ -114,14 +114,14 @@ impl Polled {
             → IsPolled spool.now k self.new }
     {
         match self.meeting.poll(rt, spool.station(), &mut self.task) {
-            Turn::Pending => false,
-            Turn::Ready(Err(_)) => {
-                self.state = State::Finished;
-                true
-            }
-            Turn::Ready(Ok(got)) => {
+            Ok(Turn::Pending) => false,
+            Ok(Turn::Ready(got)) => {
                 let next = self.work.go_on(rt, spool, &mut self.task, got);
                 self.take_up(next);
+                true
+            }
+            Err(Lost) => {
+                self.state = State::Finished;
                 true
             }
         }

@@ -1,4 +1,5 @@
 use Rattle.std.proofs.Common.{[], ◌∷◌, List, refl, ap, ◌∙◌, subst}
+use Rattle.std.proofs.lemmas.Result.{err_from_is_err_and}
 use Rattle.mv_calls.specs.Program.{Done}
 use Rattle.mv_wait.specs.Answers.{slots_of}
 use Rattle.mv_wait.specs.declared.waiting.WaitSlot.{WaitSlot}
@@ -16,7 +17,7 @@ returns-in-Complete-clause-turn g c e t does =
     let config = c.args.station.now.config in
     let u = c.poll.new.task in
     let call = c.poll.ensures.call in
-    let waited = rw c.in-Ready-Ok.field-0-is at c.in-Ready-Ok.ensures.turn t does.2 in
+    let waited = rw c.in_ok-waited-in-Ready.was at c.in-Ready.ensures.turn t does.2 in
     let served = rw (call.0 ∙ does.0, call.1 ∙ does.1) at waited.served in
     let accepted = rw (call.0 ∙ does.0, call.1 ∙ does.1) at waited.causes.0 in
     let found = waited_made config e _ t u served accepted in
@@ -27,3 +28,10 @@ returns-in-Complete-clause-turn g c e t does =
           (slots ∙ ap (λ n. Complete n ∷ []) code) (met _ served refl),
       served_few served,
     )
+
+pub returns-in_err-waited-in-Ready-clause-turn : goal.returns-in_err-waited-in-Ready-clause-turn
+returns-in_err-waited-in-Ready-clause-turn g c e t does =
+    let call = c.poll.ensures.call in
+    let waited = rw c.in_err-waited-in-Ready.was at c.in-Ready.ensures.turn t does.2 in
+    let p = err_from_is_err_and c.from_residual.result c.from_residual.ensures.1 in
+    rw p.1 (met _ (rw (call.0 ∙ does.0, call.1 ∙ does.1) at waited.served) refl)

@@ -7,7 +7,7 @@ use Rattle.mv_work.specs.Works.{WasTold}
 use Rattle.mv_work.proofs.Runs.{still_of}
 use Rattle.mv_polled.proofs.polled.Polled.advance.Given as bound
 use Rattle.mv_polled.proofs.polled.Polled.advance.Goals as goal
-use Rattle.mv_polled.proofs.polled.Polled.advance.Goals.{In-Ready-Ok}
+use Rattle.mv_polled.proofs.polled.Polled.advance.Goals.{In-Ok-Ready}
 
 pub poll-requires-clause-task : goal.poll-requires-clause-task
 poll-requires-clause-task g c =
@@ -24,15 +24,15 @@ poll-requires-clause-meeting g c =
     let at = waits c.args.spool.now c.requires.spool.config p.0 c.args.self.now p.2 c.requires.waits in
     rw c.station.ensures (at.need, at.began, at.meeting)
 
-pub returns-in-Pending : goal.returns-in-Pending
-returns-in-Pending g c = record {
+pub returns-in-Ok-Pending : goal.returns-in-Ok-Pending
+returns-in-Ok-Pending g c = record {
   polled = λ k lt old.
       let s = c.args.spool.now in
       let was = c.args.self.now in
       let u = c.poll.new.task in
       let p : Polled = record was { task = u; meeting = c.poll.new.self } in
       let at = waits s c.requires.spool.config k was old c.requires.waits in
-      let turn = rw c.station.ensures at c.in-Pending.ensures.turn in
+      let turn = rw c.station.ensures at c.in-Ok-Pending.ensures.turn in
       record {
         new = old.new;
         fresh = old.fresh;
@@ -42,41 +42,41 @@ returns-in-Pending g c = record {
           at.began,
           at.come,
           same_then at.began was.task u at.same c.poll.ensures.same,
-          turn at.need at.began at.meeting,
+          rw c.in-Ok-Pending.field-0-is at (turn at.need at.began at.meeting),
         );
       };
 }
 
-pub returns-in-Ready-Err : goal.returns-in-Ready-Err
-returns-in-Ready-Err g c = record {
+pub returns-in-Err : goal.returns-in-Err
+returns-in-Err g c = record {
   polled = λ k lt old.
       let at = waits c.args.spool.now c.requires.spool.config k c.args.self.now old c.requires.waits in
-      let turn = rw c.station.ensures at c.in-Ready-Err.ensures.turn in
-      let met = rw c.in-Ready-Err.field-0-is at (turn at.need at.began at.meeting) in
+      let turn = rw c.station.ensures at c.in-Err.ensures.turn in
+      let met = turn at.need at.began at.meeting in
       record { new = old.new; fresh = old.fresh; room = c.poll.ensures.room; stands = at.ready.lost c.poll.new.task met };
 }
 
 -- the task was told an answer
-told : (g : bound.Over) (c : In-Ready-Ok g) (k : _) (is : IsPolled c.args.spool.now k c.args.self.now)
-    → WasTold c.args.spool.now c.args.self.now.work is.new c.in-Ready-Ok.got c.poll.new.task
+told : (g : bound.Over) (c : In-Ok-Ready g) (k : _) (is : IsPolled c.args.spool.now k c.args.self.now)
+    → WasTold c.args.spool.now c.args.self.now.work is.new c.in-Ok-Ready.got c.poll.new.task
 told g c k is =
     let at = waits c.args.spool.now c.requires.spool.config k c.args.self.now is c.requires.waits in
-    let turn = rw c.station.ensures at c.in-Ready-Ok.ensures.turn in
-    let met = rw c.in-Ready-Ok.field-0-is at (turn at.need at.began at.meeting) in
-    at.ready.told c.in-Ready-Ok.got c.poll.new.task met.0 met.1 met.2
+    let turn = rw c.station.ensures at c.in-Ok-Ready.ensures.turn in
+    let met = rw c.in-Ok-Ready.field-0-is at (turn at.need at.began at.meeting) in
+    at.ready.told c.in-Ok-Ready.got c.poll.new.task met.0 met.1 met.2
 
 pub go_on-next-requires : goal.go_on-next-requires
 go_on-next-requires g c =
-    let p = c.requires.polled in record { told = (p.2.new, told g (goal.at.go_on-next-requires g c).In-Ready-Ok p.0 p.2) }
+    let p = c.requires.polled in record { told = (p.2.new, told g (goal.at.go_on-next-requires g c).In-Ok-Ready p.0 p.2) }
 
-pub returns-in-Ready-Ok : goal.returns-in-Ready-Ok
-returns-in-Ready-Ok g c = record {
+pub returns-in-Ok-Ready : goal.returns-in-Ok-Ready
+returns-in-Ok-Ready g c = record {
   polled = λ k lt old. record {
     new = old.new;
     fresh = old.fresh;
     room = c.take_up.ensures.room;
     stands = stands_next c.args.spool.now c.requires.spool.config k old.new c.take_up.new.self c.go_on-next.result
-        c.take_up.ensures.same (c.go_on-next.ensures old.new (told g (goal.at.returns-in-Ready-Ok g c).In-Ready-Ok k old))
+        c.take_up.ensures.same (c.go_on-next.ensures old.new (told g (goal.at.returns-in-Ok-Ready g c).In-Ok-Ready k old))
         c.take_up.ensures.taken;
   };
 }
