@@ -1,5 +1,3 @@
--- push_runs
-pub mod Initiators
 -- judge_journal, refused_text
 pub mod JournalFacts
 -- read_and_explain and explain: what was read and written, and how it ends

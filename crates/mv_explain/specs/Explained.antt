@@ -3,9 +3,9 @@ use Rattle.std.specs.Prelude.{◌≡◌, ℕ, List, ◌++◌}
 use Rattle.mv_explain.specs.declared.sentences.TheConstants.{NOTHING, OTHER}
 use Rattle.mv_explain.specs.declared.subject.Subject.{Subject}
 use Rattle.mv_explain.specs.declared.subject.Subject.TheVariants.{Nothing, Deck, Script, Journal, Other}
-use Rattle.mv_explain.specs.Deck.{deck_text}
+use Rattle.mv_diagnostics.specs.Deck.{deck_text}
 use Rattle.mv_explain.specs.Journal.{IsJournalExplained}
-use Rattle.mv_explain.specs.Script.{script_text}
+use Rattle.mv_diagnostics.specs.Script.{script_text}
 use Rattle.mv_explain.specs.Subject.{subject_of}
 
 -- the text explains the bytes as one of these

@@ -16,8 +16,8 @@ use Rattle.mv_explain.specs.declared.sentences.TheConstants.{DRAW_JOURNAL, ILLEG
 use Rattle.mv_explain.specs.declared.sentences.TheConstants.{BELONGS_TO, HAS_NUMBER, OF_ITS_TASK}
 use Rattle.mv_explain.specs.declared.sentences.TheConstants.{ON_BLOCKS, ON_ELEMENTS, ON_LATCHES, ON_VOLUMES}
 use Rattle.mv_explain.specs.Judged.{IsVerdict}
-use Rattle.mv_explain.specs.Quote.{fault_text, place_text}
-use Rattle.mv_explain.specs.Sentence.{journal_sentence}
+use Rattle.mv_diagnostics.specs.Quote.{fault_text, place_text}
+use Rattle.mv_diagnostics.specs.Sentence.{journal_sentence}
 
 -- a fault of the text
 abbrev pub fault_of_journal_text : List ℕ → TextFault → List ℕ

@@ -1,8 +1,4 @@
 pub mod Subject
-pub mod Sentence
-pub mod Quote
-pub mod Deck
-pub mod Script
 pub mod Judged
 pub mod Journal
 pub mod Explained

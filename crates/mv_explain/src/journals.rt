@@ -8,11 +8,11 @@ ghost use Rattle.mv_explain.specs.Journal.{illegal_text, misnumbered_text, numbe
 ghost use Rattle.mv_explain.specs.Journal.{belongs_text, is_on_block, is_on_element, is_on_volume, is_on_latches};
 
 use crate::judging::{Verdict, judge_journal};
-use crate::quoting::{push_fault, push_place};
 use crate::sentences::{
     BELONGS_TO, DRAW_JOURNAL, HAS_NUMBER, ILLEGAL, JOURNAL_LINE, LEGAL_EVENTS, MACHINE,
-    NOT_ADMITTED, OF_ITS_TASK, ON_BLOCKS, ON_ELEMENTS, ON_LATCHES, ON_VOLUMES, journal_sentence,
+    NOT_ADMITTED, OF_ITS_TASK, ON_BLOCKS, ON_ELEMENTS, ON_LATCHES, ON_VOLUMES,
 };
+use mv_diagnostics::{journal_sentence, push_fault, push_place};
 use mv_entrytext::{Journal, TextFault, TextRefusal, push_entry_line, read_journal};
 use mv_io::NoMemory;
 use mv_line::push_number;

@@ -1,14 +1,11 @@
 //! `tongsthyme explain`: what is wrong with the deck, script or journal on standard input, in words; or what is in it.
 #![tactic(auto)]
 
-mod decks;
 mod explaining;
 mod journals;
 mod judging;
 mod laws;
 mod naming;
-mod quoting;
-mod scripts;
 mod sentences;
 mod status;
 mod subject;

@@ -1,15 +1,14 @@
 //! The explanation of any input: `specs/Explained.antt`.
 
 ghost use Rattle.std.specs.Prelude.{◌≡◌, ◌<◌, ◌-◌, ◌^◌, ◌++◌, length, IfOk};
-ghost use Rattle.mv_explain.specs.Deck.{deck_text as text_of_deck};
+ghost use Rattle.mv_diagnostics.specs.Deck.{deck_text as text_of_deck};
+ghost use Rattle.mv_diagnostics.specs.Script.{script_text as text_of_script};
 ghost use Rattle.mv_explain.specs.Explained.{IsExplained};
-ghost use Rattle.mv_explain.specs.Script.{script_text as text_of_script};
 
-use crate::decks::push_deck;
 use crate::journals::journal_text;
-use crate::scripts::push_script;
 use crate::sentences::{NOTHING, OTHER};
 use crate::subject::{Subject, subject_of};
+use mv_diagnostics::{push_deck, push_script};
 use mv_io::NoMemory;
 use std::alloc::Global;
 

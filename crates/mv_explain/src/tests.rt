@@ -1,9 +1,10 @@
 //! Each kind of fault through the whole command, with its exact text; and what is said of texts without fault.
 //!
-//! A row is an input, and behind a line `--` the whole report on it. Rows are parted by a line `==`.
+//! A row is an input, a line `--` and the whole report on the input. A line `==` is between two rows.
 
 use super::*;
 use mv_io::{MemSink, MemSource};
+use std::alloc::{AllocError, Global};
 use std::process::Abort;
 
 mod deck_rows;
@@ -43,7 +44,7 @@ fn assert_explained<X: Abort + AllocGlobal>(rt: &X, bytes: &[u8], expected: &str
     assert_exit(rt, status, 0, expected);
 }
 
-// What stands before and behind a piece of a text, which has it.
+// The parts of a text before and after the first place of a piece. The text has the piece.
 fn parted<'a, X: Abort>(rt: &X, text: &'a str, piece: &str) -> (&'a str, &'a str) {
     let Some(parts) = text.split_once(piece) else {
         panic!(rt; "{text} has no {piece}")
@@ -91,6 +92,25 @@ fn scripts(rt: HostRuntime) {
 fn journals(rt: HostRuntime) {
     assert_rows(&rt, journal_rows::FAULTS);
     assert_rows(&rt, journal_rows::JUDGED);
+}
+
+// A deck of this many jobs without steps.
+fn deck_of_jobs(alloc: Global, count: u32) -> Result<String, AllocError> {
+    let mut text = String::new(alloc);
+    for number in 0..count {
+        text.push_str(&format!(in alloc; "//J{number} JOB\n")?)?;
+    }
+    text.push_str("//\n")?;
+    Ok(text)
+}
+
+// A deck that seven initiators can run, and eight cannot.
+#[test]
+fn a_deck_that_is_heavy(rt: HostRuntime) {
+    let Ok(text) = deck_of_jobs(rt.alloc(), 6553) else {
+        panic!(&rt; "no memory for a deck")
+    };
+    assert_explained(&rt, text.as_bytes(), deck_rows::HEAVY);
 }
 
 // A deck and a script of one byte more than the limit.

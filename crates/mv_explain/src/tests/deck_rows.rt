@@ -1,6 +1,6 @@
 //! Decks, and what is said of them.
 
-// One row for each kind, from 1 on, and for what a byte is; then a line that is too long to be shown whole.
+// One row for each kind, from 1 on, and for what a byte is, and a second one of kind 10; then a line that is too long to be shown whole.
 pub(crate) const FAULTS: &str = "\
 //A JOB
 // PRINT \tX
@@ -69,6 +69,7 @@ deck, line 2, kind 8: an invalid number or code; latches and volumes are 0 to 7,
 --
 deck, line 3, kind 9: USE of a latch that is not above every latch that the job holds; obtain latches in rising order, or FREE the higher ones first
   | // USE 1 X
+  job A holds latch 2 X
 ==
 //A JOB
 // FREE 1
@@ -76,6 +77,22 @@ deck, line 3, kind 9: USE of a latch that is not above every latch that the job 
 --
 deck, line 2, kind 10: the job does not hold this latch as it must; FREE and SCAN need a USE of it before, and COUNT a USE with X
   | // FREE 1
+  job A holds no latch
+==
+//A JOB
+// USE 0 X
+//B JOB AFTER=A
+// USE 1 S
+// USE 2 X
+// FREE 2
+// USE 4 X
+// COUNT 1 5
+//
+--
+deck, line 8, kind 10: the job does not hold this latch as it must; FREE and SCAN need a USE of it before, and COUNT a USE with X
+  | // COUNT 1 5
+  job B holds latch 1 S
+  job B holds latch 4 X
 ==
 // PRINT X
 //
@@ -125,14 +142,28 @@ deck, line 1, kind 3: this is no statement of a deck; expected // and then JOB (
 //
 --
 a deck without fault; jobs: 2
-initiators 1: can run it
-initiators 2: can run it
-initiators 3: can run it
-initiators 4: can run it
-initiators 5: can run it
-initiators 6: can run it
-initiators 7: can run it
-initiators 8: can run it
+initiators 1: weight 45 of at most 524287, can run it
+initiators 2: weight 72 of at most 524287, can run it
+initiators 3: weight 99 of at most 524287, can run it
+initiators 4: weight 126 of at most 524287, can run it
+initiators 5: weight 153 of at most 524287, can run it
+initiators 6: weight 180 of at most 524287, can run it
+initiators 7: weight 207 of at most 524287, can run it
+initiators 8: weight 234 of at most 524287, can run it
+run it: tongsthyme spool I < FILE, for I initiators
+";
+
+// A deck of 6553 jobs without steps: with 6552 jobs its weight for eight initiators would be 524232.
+pub(crate) const HEAVY: &str = "\
+a deck without fault; jobs: 6553
+initiators 1: weight 111410 of at most 524287, can run it
+initiators 2: weight 170396 of at most 524287, can run it
+initiators 3: weight 229382 of at most 524287, can run it
+initiators 4: weight 288368 of at most 524287, can run it
+initiators 5: weight 347354 of at most 524287, can run it
+initiators 6: weight 406340 of at most 524287, can run it
+initiators 7: weight 465326 of at most 524287, can run it
+initiators 8: weight 524312 of at most 524287, too heavy from line 6553
 run it: tongsthyme spool I < FILE, for I initiators
 ";
 

@@ -1,5 +1,0 @@
-use Rattle.std.proofs.Common.{◌-◌}
-use Rattle.mv_explain.proofs.decks.+push_runs.Given as goal
-
-abbrev pub decreases-push_runs : goal.decreases-push_runs
-decreases-push_runs l = 9 - l.from

@@ -1,5 +1,0 @@
-use Rattle.std.proofs.Common.{length}
-use Rattle.mv_explain.proofs.scripts.+push_tasks.Given as goal
-
-abbrev pub decreases-push_tasks : goal.decreases-push_tasks
-decreases-push_tasks l = length l.tasks.now
