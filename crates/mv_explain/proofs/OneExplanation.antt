@@ -27,7 +27,8 @@ use Rattle.mv_explain.specs.declared.judging.Verdict.TheVariants as verdict
 use Rattle.mv_explain.specs.declared.subject.Subject.{Subject}
 use Rattle.mv_explain.specs.declared.subject.Subject.TheVariants.{Nothing, Deck, Script, Journal, Other}
 use Rattle.mv_explain.specs.Explained.{IsExplainedAs}
-use Rattle.mv_explain.specs.Journal.{IsFaultSo, IsJournalExplained, IsJudgedSo, fault_of_journal_text, illegal_at, verdict_text}
+use Rattle.mv_explain.specs.Journal.{IsFaultSo, IsJournalExplained, IsJudgedSo, before_text, fault_of_journal_text, illegal_at}
+use Rattle.mv_explain.specs.Journal.{illegal_text, verdict_text}
 use Rattle.mv_explain.specs.Judged.{IsVerdict}
 
 -- ---- the first illegal event
@@ -57,6 +58,13 @@ same_answer c es i j p q at =
     let entry : p.entry ≡ q.entry = head_same p.entry q.entry p.later q.later rest in
     p.machine ∙ ap (λ (e : Entry). answer c (after_from (opening c) p.before) e.caller e.object e.op) entry
     ∙ ap (λ (xs : List Entry). answer c (after_from (opening c) xs) q.entry.caller q.entry.object q.entry.op) before ∙ sym q.machine
+
+-- what is said of one place and one answer
+same_text : (bytes : List ℕ) (c : Setup) (first : ℕ) (es : List Entry) (i j : Illegal) (x : Option Entry) → i.index ≡ j.index
+    → i.machine ≡ j.machine → illegal_at bytes c first es i x ≡ illegal_at bytes c first es j x
+same_text bytes c first es i j None at machine = refl
+same_text bytes c first es i j (Some e) at machine =
+    λ k. illegal_text bytes (first + at k) e (machine k) ++ before_text c first es (at k) e
 
 -- the events up to it and further are not legal
 past_illegal : (c : Setup) (es : List Entry) (i : Illegal) (n : ℕ) → IsFirstIllegal c (opening c) es i → i.index < n → Legal c (take n es)
@@ -157,7 +165,7 @@ not_both c es ns i k x y p right w = elim (cases_lt k i.index) [
 
 -- so what is said by two verdicts is one text
 one_verdict : (bytes : List ℕ) (first version : ℕ) (c : Setup) (es : List Entry) (ns : List ℕ) (v w : Verdict)
-    → IsVerdict version c es ns v → IsVerdict version c es ns w → verdict_text bytes first es v ≡ verdict_text bytes first es w
+    → IsVerdict version c es ns v → IsVerdict version c es ns w → verdict_text bytes c first es v ≡ verdict_text bytes c first es w
 one_verdict bytes first version c es ns verdict.Legal verdict.Legal p q = refl
 one_verdict bytes first version c es ns verdict.Legal (verdict.Illegal j) p q = absurd (not_legal c (opening c) es j q.0 p.0)
 one_verdict bytes first version c es ns verdict.Legal (verdict.Misnumbered l u v) p q =
@@ -165,8 +173,8 @@ one_verdict bytes first version c es ns verdict.Legal (verdict.Misnumbered l u v
 one_verdict bytes first version c es ns (verdict.Illegal i) verdict.Legal p q = absurd (not_legal c (opening c) es i p.0 q.0)
 one_verdict bytes first version c es ns (verdict.Illegal i) (verdict.Illegal j) p q =
     let at : i.index ≡ j.index = one_illegal c es i j p.0 q.0 in
-    ap (λ (k : ℕ). illegal_at bytes (first + k) (slice_get es k) i.machine) at
-    ∙ ap (λ (m : Option (ℕ × Reply)). illegal_at bytes (first + j.index) (slice_get es j.index) m) (same_answer c es i j p.0 q.0 at)
+    ap (λ (k : ℕ). illegal_at bytes c first es i (slice_get es k)) at
+    ∙ same_text bytes c first es i j (slice_get es j.index) at (same_answer c es i j p.0 q.0 at)
 one_verdict bytes first version c es ns (verdict.Illegal i) (verdict.Misnumbered l u v) p q =
     absurd (not_both c es ns i l u v p.0 (p.1 q.0) q.1)
 one_verdict bytes first version c es ns (verdict.Misnumbered k x y) verdict.Legal p q =
@@ -177,9 +185,9 @@ one_verdict bytes first version c es ns (verdict.Misnumbered k x y) (verdict.Mis
     let at : k ≡ l = one_wrong c es ns k x y l u v p.1 q.1 in
     let kept : x ≡ u = one_kept c es ns k x y l u v p.1 q.1 at in
     let machine : y ≡ v = one_machine c es ns k x y l u v p.1 q.1 at in
-    ap (λ (n : ℕ). verdict_text bytes first es (verdict.Misnumbered n x y)) at
-    ∙ ap (λ (n : ℕ). verdict_text bytes first es (verdict.Misnumbered l n y)) kept
-    ∙ ap (λ (n : ℕ). verdict_text bytes first es (verdict.Misnumbered l u n)) machine
+    ap (λ (n : ℕ). verdict_text bytes c first es (verdict.Misnumbered n x y)) at
+    ∙ ap (λ (n : ℕ). verdict_text bytes c first es (verdict.Misnumbered l n y)) kept
+    ∙ ap (λ (n : ℕ). verdict_text bytes c first es (verdict.Misnumbered l u n)) machine
 
 -- ---- a journal
 
@@ -204,8 +212,8 @@ one_judgement bytes s t a b =
     b.read.calls (sym a.read.text ∙ b.read.text) in
     let version : a.version ≡ b.version = a.read.number ∙ ap (λ (x : Version). number_of x) same.0 ∙ sym b.read.number in
     let judged : IsVerdict b.version b.setup b.entries b.calls a.verdict = rw (← version, ← same.1, ← same.2, ← same.3) a.judged in
-    a.written ∙ ap (λ (d : Setup). verdict_text bytes (first_line d) a.entries a.verdict) same.1
-    ∙ ap (λ (es : List Entry). verdict_text bytes (first_line b.setup) es a.verdict) same.2
+    a.written ∙ ap (λ (d : Setup). verdict_text bytes d (first_line d) a.entries a.verdict) same.1
+    ∙ ap (λ (es : List Entry). verdict_text bytes b.setup (first_line b.setup) es a.verdict) same.2
     ∙ one_verdict bytes (first_line b.setup) b.version b.setup b.entries b.calls a.verdict b.verdict judged b.judged ∙ sym b.written
 
 one_of_journal : (bytes s t : List ℕ) → IsJournalExplained bytes s → IsJournalExplained bytes t → s ≡ t

@@ -1,12 +1,13 @@
 -- What is said of a journal: its first fault; or the first event that is not the machine's, and what the machine answers there; or the
 -- first call number that is wrong, and the right one; or how many events it has.
-use Rattle.std.specs.Prelude.{◌≡◌, ℕ, ◌+◌, ◌⊎◌, Bool, true, false, nat_le, List, [], ◌++◌, length, count_by, slice_get, codes, decimal}
+use Rattle.std.specs.Prelude.{◌≡◌, ℕ, ◌+◌, ◌⊎◌, Bool, true, false, nat_le, List, [], ◌++◌, length, count_by, slice_get, take, codes, decimal}
 use Rattle.std.specs.Prelude.{Option, Some, None, if◌then◌else◌}
 use Rattle.mv_line.specs.declared.fault.TextFault.{TextFault}
 use Rattle.mv_machine.specs.declared.entry.Entry.{Entry}
 use Rattle.mv_machine.specs.declared.entry.Object.{Object}
 use Rattle.mv_machine.specs.declared.entry.Object.TheVariants.{Ecb, Element, Volume, Latches}
 use Rattle.mv_machine.specs.declared.entry.Reply.{Reply}
+use Rattle.mv_machine.specs.declared.replaying.Illegal.{Illegal}
 use Rattle.mv_machine.specs.Setup.{Setup}
 use Rattle.mv_entrytext.specs.Fault.{HasJournal, IsTextIn, text_fault}
 use Rattle.mv_entrytext.specs.Journal.{EntryOf, first_line, line}
@@ -15,6 +16,8 @@ use Rattle.mv_explain.specs.declared.judging.Verdict.TheVariants as verdict
 use Rattle.mv_explain.specs.declared.sentences.TheConstants.{DRAW_JOURNAL, ILLEGAL, JOURNAL_LINE, LEGAL_EVENTS, MACHINE, NOT_ADMITTED}
 use Rattle.mv_explain.specs.declared.sentences.TheConstants.{BELONGS_TO, HAS_NUMBER, OF_ITS_TASK}
 use Rattle.mv_explain.specs.declared.sentences.TheConstants.{ON_BLOCKS, ON_ELEMENTS, ON_LATCHES, ON_VOLUMES}
+use Rattle.mv_explain.specs.Before.{earlier_text, state_text}
+use Rattle.mv_explain.specs.ByTask.{from_task_text}
 use Rattle.mv_explain.specs.Judged.{IsVerdict}
 use Rattle.mv_diagnostics.specs.Quote.{fault_text, place_text}
 use Rattle.mv_diagnostics.specs.Sentence.{journal_sentence}
@@ -70,8 +73,9 @@ unfoldable pub counts_text : List Entry → List ℕ
 counts_text es = waits_text es ++ shared_text es ++ codes "\n"
 
 -- how many events a legal journal has
-unfoldable pub legal_text : List Entry → List ℕ
-legal_text es = (LEGAL_EVENTS.now ++ decimal (length es)) ++ codes "\n" ++ counts_text es ++ DRAW_JOURNAL.now
+unfoldable pub legal_text : Setup → List Entry → List ℕ
+legal_text c es =
+    (LEGAL_EVENTS.now ++ decimal (length es)) ++ codes "\n" ++ from_task_text es 0 c.callers ++ counts_text es ++ DRAW_JOURNAL.now
 
 -- ---- one that is not
 
@@ -102,18 +106,22 @@ unfoldable pub misnumbered_text : List ℕ → (number kept machine : ℕ) → L
 misnumbered_text bytes number kept machine =
     (JOURNAL_LINE.now ++ decimal number) ++ numbers_text kept machine ++ place_text bytes number
 
--- the same, of an event that there is
-abbrev pub illegal_at : List ℕ → ℕ → Option Entry → Option (ℕ × Reply) → List ℕ
-illegal_at bytes number None machine = []
-illegal_at bytes number (Some e) machine = illegal_text bytes number e machine
+-- what there was before an event at this place: the state of its object, and the last three events on it
+unfoldable pub before_text : Setup → (first : ℕ) → List Entry → (index : ℕ) → Entry → List ℕ
+before_text c first es index e = state_text c (take index es) e ++ earlier_text first es e.object index 3
+
+-- all this of an event that there is
+abbrev pub illegal_at : List ℕ → Setup → (first : ℕ) → List Entry → Illegal → Option Entry → List ℕ
+illegal_at bytes c first es i None = []
+illegal_at bytes c first es i (Some e) = illegal_text bytes (first + i.index) e i.machine ++ before_text c first es i.index e
 
 -- ---- any
 
 -- what is said by what the events are found to be, of which the first is on this line
-abbrev pub verdict_text : List ℕ → (first : ℕ) → List Entry → Verdict → List ℕ
-verdict_text bytes first es verdict.Legal = legal_text es
-verdict_text bytes first es (verdict.Illegal i) = illegal_at bytes (first + i.index) (slice_get es i.index) i.machine
-verdict_text bytes first es (verdict.Misnumbered index kept machine) =
+abbrev pub verdict_text : List ℕ → Setup → (first : ℕ) → List Entry → Verdict → List ℕ
+verdict_text bytes c first es verdict.Legal = legal_text c es
+verdict_text bytes c first es (verdict.Illegal i) = illegal_at bytes c first es i (slice_get es i.index)
+verdict_text bytes c first es (verdict.Misnumbered index kept machine) =
     if nat_le (length es) index then [] else misnumbered_text bytes (first + index) kept machine
 
 -- the bytes are the text of a journal, whose events are judged
@@ -126,7 +134,7 @@ pub record IsJudgedSo (bytes text : List ℕ) : Type 0 where
   pub journal : HasJournal setup entries
   pub read : IsTextIn version bytes setup entries calls
   pub judged : IsVerdict version setup entries calls verdict
-  pub written : text ≡ verdict_text bytes (first_line setup) entries verdict
+  pub written : text ≡ verdict_text bytes setup (first_line setup) entries verdict
 
 -- they have a fault
 pub record IsFaultSo (bytes text : List ℕ) : Type 0 where

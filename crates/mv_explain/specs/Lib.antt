@@ -1,5 +1,8 @@
 pub mod Subject
 pub mod Judged
+pub mod LatchState
+pub mod Before
+pub mod ByTask
 pub mod Journal
 pub mod Explained
 pub mod Status

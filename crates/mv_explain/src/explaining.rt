@@ -50,8 +50,9 @@ fn write_out<R: Sink>(report: &mut R, text: &[u8]) -> ExplainStatus
 ///
 /// For a fault the report gains its line, its kind, what the kind means and what was expected, and the line itself; the fault is the one
 /// that `read_deck` (for one initiator), `read_script` or `read_journal` reports. For a journal that is not legal it gains the line of the
-/// first event that is not the machine's, and what the machine answers there, or the right call number, as `replay_calls` and `replay`
-/// name them. For any other input it gains a summary. Any other ending than `Done` has its line on the notes, last of all.
+/// first event that is not the machine's, what the machine answers there, the state of the event's object before it and the last three
+/// events on that object; or the right call number; as `replay_calls` and `replay` name them. For any other input it gains a summary. Any
+/// other ending than `Done` has its line on the notes, last of all.
 ///
 /// Time is linear in the text, but for the events on a latch set. It waits as long as its streams do, and for nothing else.
 ///

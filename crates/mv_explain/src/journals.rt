@@ -1,12 +1,20 @@
 //! What is said of a journal: `specs/Journal.antt`.
 
-ghost use Rattle.std.specs.Prelude.{◌≡◌, ◌<◌, ◌-◌, ◌^◌, ◌++◌, length, count_by, OnOk, IfOk};
+ghost use Rattle.std.specs.Prelude.{◌≡◌, ℕ, ◌<◌, ◌≤◌, ◌-◌, ◌^◌, ◌++◌, List, All, length, count_by, slice_get, take, OnOk, IfOk};
+ghost use Rattle.mv_machine.specs.Config.{setup_of};
+ghost use Rattle.mv_machine.specs.Legal.{Legal};
+ghost use Rattle.mv_machine.specs.Limits.{highest_place};
+ghost use Rattle.mv_machine.specs.Replay.{IsFirstIllegal};
+ghost use Rattle.mv_machine.specs.System.{opening};
 ghost use Rattle.mv_entrytext.specs.Fault.{HasJournal, IsTextIn, TellsFirst, text_fault};
 ghost use Rattle.mv_entrytext.specs.Journal.{first_line};
 ghost use Rattle.mv_explain.specs.Journal.{IsJournalExplained, answer_text, counts_text, fault_of_journal_text, legal_text, machine_text};
-ghost use Rattle.mv_explain.specs.Journal.{illegal_text, misnumbered_text, numbers_text, shared_text, verdict_text, waits_text};
+ghost use Rattle.mv_explain.specs.Journal.{before_text, illegal_at, illegal_text, misnumbered_text, numbers_text, shared_text, verdict_text, waits_text};
 ghost use Rattle.mv_explain.specs.Journal.{belongs_text, is_on_block, is_on_element, is_on_volume, is_on_latches};
+ghost use Rattle.mv_explain.specs.Judged.{IsVerdict};
 
+use crate::before::{push_earlier, push_state};
+use crate::by_task::push_by_task;
 use crate::judging::{Verdict, judge_journal};
 use crate::sentences::{
     BELONGS_TO, DRAW_JOURNAL, HAS_NUMBER, ILLEGAL, JOURNAL_LINE, LEGAL_EVENTS, MACHINE,
@@ -16,7 +24,7 @@ use mv_diagnostics::{journal_sentence, push_fault, push_place};
 use mv_entrytext::{Journal, TextFault, TextRefusal, push_entry_line, read_journal};
 use mv_io::NoMemory;
 use mv_line::push_number;
-use mv_machine::{Entry, Object, Reply};
+use mv_machine::{Config, Entry, Illegal, Object, Reply, ValidConfig};
 use std::alloc::Global;
 
 // Says what is wrong with the text of a journal.
@@ -106,11 +114,12 @@ fn push_counts(out: &mut Vec<u8>, entries: &[Entry]) -> Result<(), NoMemory>
 
 // Says that a journal is legal, and what is in it.
 #[tactic(auto, unfolding(crate::specs::Journal::legal_text))]
-fn push_legal(out: &mut Vec<u8>, entries: &[Entry]) -> Result<(), NoMemory>
-    ensures { OnOk result (out.new.items ≡ out.old.items ++ legal_text entries.now) }
+fn push_legal(out: &mut Vec<u8>, config: &Config, entries: &[Entry]) -> Result<(), NoMemory>
+    ensures { OnOk result (out.new.items ≡ out.old.items ++ legal_text (setup_of config.now) entries.now) }
 {
     push_number(out, LEGAL_EVENTS, entries.len() as u64)?;
     out.push(b'\n')?;
+    push_by_task(out, entries, 0, config.callers)?;
     push_counts(out, entries)?;
     out.extend_from_slice(DRAW_JOURNAL)?;
     Ok(())
@@ -204,27 +213,75 @@ fn push_misnumbered(
     push_place(out, bytes, line)
 }
 
+// Says what there was before an event: the state of its object, and the last events on it.
+#[tactic(auto, unfolding(crate::specs::Journal::before_text))]
+fn push_before(
+    out: &mut Vec<u8>,
+    alloc: Global,
+    config: &ValidConfig,
+    first: u32,
+    entries: &[Entry],
+    index: usize,
+    entry: &Entry,
+) -> Result<(), NoMemory>
+    requires index { index ≤ length entries.now }
+    requires few { length entries.now < 2 ^ 32 }
+    requires places { All (λ e. e.place ≤ highest_place) entries.now }
+    requires legal { Legal config.now (take index entries.now) }
+    ensures { OnOk result (out.new.items ≡ out.old.items ++ before_text config.now first entries.now index entry.now) }
+{
+    push_state(out, alloc, config, &entries[..index], entry)?;
+    push_earlier(out, first, entries, entry.object, index, 0)
+}
+
+// Says which event is the first that the machine does not make so, and what there was before it.
+fn push_illegal_at(
+    out: &mut Vec<u8>,
+    alloc: Global,
+    bytes: &[u8],
+    config: &ValidConfig,
+    first: u32,
+    entries: &[Entry],
+    illegal: Illegal,
+) -> Result<(), NoMemory>
+    requires short { length bytes.now < 2 ^ 32 - 1 }
+    requires few { length entries.now < 2 ^ 32 }
+    requires places { All (λ e. e.place ≤ highest_place) entries.now }
+    requires illegal { IsFirstIllegal config.now (opening config.now) entries.now illegal }
+    ensures { OnOk result (out.new.items
+        ≡ out.old.items ++ illegal_at bytes.now config.now first entries.now illegal (slice_get entries.now illegal.index)) }
+{
+    match entries.get(illegal.index) {
+        Some(entry) => {
+            let line = u64::from(first) + illegal.index as u64;
+            push_illegal(out, bytes, line, entry, illegal.machine)?;
+            push_before(out, alloc, config, first, entries, illegal.index, entry)
+        }
+        None => Ok(()),
+    }
+}
+
 // Says what the events of a journal were found to be, of which the first is on this line.
 fn push_verdict(
     out: &mut Vec<u8>,
+    alloc: Global,
     bytes: &[u8],
+    config: &ValidConfig,
     first: u32,
     entries: &[Entry],
     verdict: Verdict,
 ) -> Result<(), NoMemory>
     requires short { length bytes.now < 2 ^ 32 - 1 }
     requires few { length entries.now < 2 ^ 32 }
-    ensures { OnOk result (out.new.items ≡ out.old.items ++ verdict_text bytes.now first entries.now verdict) }
+    requires places { All (λ e. e.place ≤ highest_place) entries.now }
+    requires judged { (version : ℕ) × (ns : List ℕ) × IsVerdict version config.now entries.now ns verdict }
+    ensures { OnOk result (out.new.items ≡ out.old.items ++ verdict_text bytes.now config.now first entries.now verdict) }
 {
     match verdict {
-        Verdict::Legal => push_legal(out, entries),
-        Verdict::Illegal(illegal) => match entries.get(illegal.index) {
-            Some(entry) => {
-                let line = u64::from(first) + illegal.index as u64;
-                push_illegal(out, bytes, line, entry, illegal.machine)
-            }
-            None => Ok(()),
-        },
+        Verdict::Legal => push_legal(out, config.config(), entries),
+        Verdict::Illegal(illegal) => {
+            push_illegal_at(out, alloc, bytes, config, first, entries, illegal)
+        }
         Verdict::Misnumbered {
             index,
             kept,
@@ -247,13 +304,17 @@ fn text_of_verdict(
 ) -> Result<Vec<u8>, NoMemory>
     requires short { length bytes.now < 2 ^ 32 - 1 }
     requires few { length journal.now.entries.items < 2 ^ 32 }
-    ensures { IfOk result (λ text.
-        text.items ≡ verdict_text bytes.now journal.now.first_line journal.now.entries.items verdict) }
+    requires journal { HasJournal journal.now.config journal.now.entries.items }
+    requires judged { IsVerdict journal.now.version journal.now.config journal.now.entries.items journal.now.calls.items verdict }
+    ensures { IfOk result (λ text. text.items
+        ≡ verdict_text bytes.now journal.now.config journal.now.first_line journal.now.entries.items verdict) }
 {
     let mut out = Vec::new(alloc);
     push_verdict(
         &mut out,
+        alloc,
         bytes,
+        &journal.config,
         journal.first_line,
         &journal.entries,
         verdict,

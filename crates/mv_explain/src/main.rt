@@ -1,9 +1,12 @@
 //! `tongsthyme explain`: what is wrong with the deck, script or journal on standard input, in words; or what is in it.
 #![tactic(auto)]
 
+mod before;
+mod by_task;
 mod explaining;
 mod journals;
 mod judging;
+mod latch_state;
 mod laws;
 mod naming;
 mod sentences;

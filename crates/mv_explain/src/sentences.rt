@@ -7,6 +7,10 @@ pub(crate) const OTHER: &[u8] =
 
 pub(crate) const LEGAL_EVENTS: &[u8] = b"a legal journal; events: ";
 
+pub(crate) const BY_TASK: &[u8] = b"task ";
+
+pub(crate) const MADE: &[u8] = b", events: ";
+
 pub(crate) const ON_BLOCKS: &[u8] = b"on event control blocks ";
 
 pub(crate) const ON_ELEMENTS: &[u8] = b", on pause elements ";
@@ -31,3 +35,19 @@ pub(crate) const MACHINE: &[u8] = b"the machine answers: ";
 
 pub(crate) const NOT_ADMITTED: &[u8] =
     b"the machine does not admit this operation: there is no such task, object or exit, the object is another task's, or the task's requests for latches are at their quota\n";
+
+pub(crate) const STATE: &[u8] = b"before it: ";
+
+pub(crate) const AT_LATCH: &[u8] = b"before it, latch ";
+
+pub(crate) const REQUEST: &[u8] = b": request ";
+
+pub(crate) const OF_TASK: &[u8] = b" of task ";
+
+pub(crate) const OF_REQUESTOR: &[u8] = b", requestor ";
+
+pub(crate) const SHARED: &[u8] = b", S\n";
+
+pub(crate) const EXCLUSIVE: &[u8] = b", X\n";
+
+pub(crate) const AT: &[u8] = b"earlier, line ";

@@ -48,8 +48,9 @@ CALLERS 1
 journal, line 3, kind 5: the journal is cut off; this line does not end with LF, or the END line is missing
 ";
 
-// Journals of two posts by one caller: legal in both versions; with another reply, of which the machine's is told; with an operation that
-// is not for this caller; and with another call number.
+// Journals of a post or two: legal, in both versions; with another reply; with another place; with an operation that is not for this
+// caller; and with another call number. Then illegal events after four, one, three and no events on their objects, the third on a latch
+// that has requests.
 pub(crate) const JUDGED: &str = "\
 JOURNAL 1
 CALLERS 1
@@ -66,6 +67,7 @@ EVENTS
 END 2
 --
 a legal journal; events: 2
+task 0, events: 2
 on event control blocks 2, on pause elements 0, on volumes 0, on the latch set 0
 draw it: tools/picture FILE > FILE.svg
 ==
@@ -85,6 +87,7 @@ EVENTS
 END 4
 --
 a legal journal; events: 4
+task 0, events: 4
 on event control blocks 1, on pause elements 1, on volumes 1, on the latch set 1
 draw it: tools/picture FILE > FILE.svg
 ==
@@ -105,6 +108,7 @@ END 2
 journal, line 12: the services do not do this here
   | 0 E1 0 POST 16777228 = WOKE 0
 the machine answers: 0 E1 0 POST 16777228 = POSTED
+before it: 0 E1 0 TEST = WORD 0
 ==
 JOURNAL 2
 CALLERS 1
@@ -121,6 +125,7 @@ END 1
 journal, line 10: the services do not do this here
   | 0.0 E0 1 POST 7 = POSTED
 the machine answers: 0 E0 0 POST 7 = POSTED
+before it: 0 E0 0 TEST = WORD 0
 ==
 JOURNAL 2
 CALLERS 2
@@ -138,6 +143,7 @@ END 1
 journal, line 11: the services do not do this here
   | 1.0 E0 0 ARM = ARMED
 the machine does not admit this operation: there is no such task, object or exit, the object is another task's, or the task's requests for latches are at their quota
+before it: 1 E0 0 TEST = WORD 0
 ==
 JOURNAL 2
 CALLERS 1
@@ -154,4 +160,87 @@ END 2
 --
 journal, line 11: the event has call number 0, and belongs to call 1 of its task
   | 0.0 E0 1 TEST = WORD 1073741831
+==
+JOURNAL 1
+CALLERS 1
+ELEMENTS 1
+VOLUMES 8
+LATCHES 8
+QUOTA 8 0
+BUDGET 9
+ECB 0
+EVENTS
+0 E0 0 POST 7 = POSTED
+0 V0 0 READ = VALUE 0
+0 E0 1 TEST = WORD 1073741831
+0 E0 2 CLEAR = WORD 1073741831
+0 E0 3 TEST = WORD 0
+0 E0 4 POST 5 = WOKE 0
+END 6
+--
+journal, line 15: the services do not do this here
+  | 0 E0 4 POST 5 = WOKE 0
+the machine answers: 0 E0 4 POST 5 = POSTED
+before it: 0 E0 4 TEST = WORD 0
+earlier, line 12: 0 E0 1 TEST = WORD 1073741831
+earlier, line 13: 0 E0 2 CLEAR = WORD 1073741831
+earlier, line 14: 0 E0 3 TEST = WORD 0
+==
+JOURNAL 1
+CALLERS 1
+ELEMENTS 1
+VOLUMES 8
+LATCHES 8
+QUOTA 8 0
+BUDGET 9
+EVENTS
+0 P0 0 OPEN = OPENED 0
+0 L 0 PURGE 5 = PURGED 0 0
+0 P0 1 CLOSE 0 = SPENT 1
+END 3
+--
+journal, line 11: the services do not do this here
+  | 0 P0 1 CLOSE 0 = SPENT 1
+the machine answers: 0 P0 1 CLOSE 0 = CLOSED
+before it: 0 P0 1 TEST = STATE 0 RESET 0
+earlier, line 9: 0 P0 0 OPEN = OPENED 0
+==
+JOURNAL 1
+CALLERS 2
+ELEMENTS 1
+VOLUMES 8
+LATCHES 8
+QUOTA 8 0
+BUDGET 9
+BUDGET 9
+EVENTS
+0 L 0 OBTAIN 2 5 X W = GRANTED 0
+1 L 1 OBTAIN 2 6 S W = QUEUED 1
+0 L 2 OBTAIN 3 5 S W = GRANTED 2
+1 L 3 CONFIRM 2 1 = GRANTED 1
+END 4
+--
+journal, line 13: the services do not do this here
+  | 1 L 3 CONFIRM 2 1 = GRANTED 1
+the machine answers: 1 L 3 CONFIRM 2 1 = WAITING
+before it, latch 2: request 0 of task 0, requestor 5, X
+before it, latch 2: request 1 of task 1, requestor 6, S
+earlier, line 10: 0 L 0 OBTAIN 2 5 X W = GRANTED 0
+earlier, line 11: 1 L 1 OBTAIN 2 6 S W = QUEUED 1
+earlier, line 12: 0 L 2 OBTAIN 3 5 S W = GRANTED 2
+==
+JOURNAL 1
+CALLERS 1
+ELEMENTS 1
+VOLUMES 8
+LATCHES 8
+QUOTA 8 0
+BUDGET 9
+EVENTS
+0 L 0 PURGE 5 = PURGED 1 0
+END 1
+--
+journal, line 9: the services do not do this here
+  | 0 L 0 PURGE 5 = PURGED 1 0
+the machine answers: 0 L 0 PURGE 5 = PURGED 0 0
 ";

@@ -20,5 +20,5 @@ returns c =
       journal = c.requires.journal;
       read = c.requires.read;
       judged = c.in_ok-verdict.ensures;
-      written = c.in_ok-text.ensures ∙ ap (λ (first : ℕ). verdict_text bytes first j.entries.items verdict) c.requires.first;
+      written = c.in_ok-text.ensures ∙ ap (λ (first : ℕ). verdict_text bytes j.config first j.entries.items verdict) c.requires.first;
     }
