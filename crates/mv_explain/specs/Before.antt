@@ -64,14 +64,14 @@ unfoldable pub seen_text : Entry → Op → ℕ × Reply → List ℕ
 seen_text e op a = STATE.now ++ line (EntryOf None (record e { place = a.0; op = op; reply = a.1 }))
 
 -- the same, if it answers
-unfoldable pub answer_text : Entry → Op → Option (ℕ × Reply) → List ℕ
-answer_text e op None = []
-answer_text e op (Some a) = seen_text e op a
+unfoldable pub look_answer_text : Entry → Op → Option (ℕ × Reply) → List ℕ
+look_answer_text e op None = []
+look_answer_text e op (Some a) = seen_text e op a
 
 -- what a look at the object of an event shows in this system; nothing after the last place
 abbrev pub look_text : Setup → System → Entry → Op → List ℕ
 look_text c s e op =
-    if nat_lt highest_place (place_of s e.object) then [] else answer_text e op (answer c s e.caller e.object op)
+    if nat_lt highest_place (place_of s e.object) then [] else look_answer_text e op (answer c s e.caller e.object op)
 
 -- the same, if the object has such an operation
 unfoldable pub looked_text : Setup → System → Entry → Option Op → List ℕ

@@ -7,8 +7,8 @@ ghost use Rattle.mv_machine.specs.Legal.{Legal, after, same_object as is_one_obj
 ghost use Rattle.mv_machine.specs.Limits.{highest_place};
 ghost use Rattle.mv_machine.specs.State.{IsOpenedWith, system_of};
 ghost use Rattle.mv_machine.specs.System.{place_of};
-ghost use Rattle.mv_explain.specs.Before.{answer_text, earlier_text, event_at, event_text, is_on as is_event_on, last_below as last_event_below};
-ghost use Rattle.mv_explain.specs.Before.{look_at, look_text, looked_text, object_text, seen_text, state_text};
+ghost use Rattle.mv_explain.specs.Before.{earlier_text, event_at, event_text, is_on as is_event_on, last_below as last_event_below};
+ghost use Rattle.mv_explain.specs.Before.{look_answer_text, look_at, look_text, looked_text, object_text, seen_text, state_text};
 
 use crate::latch_state::{latch_of, push_latch};
 use crate::sentences::{AT, STATE};
@@ -171,14 +171,14 @@ fn push_seen(out: &mut Vec<u8>, entry: &Entry, op: Op, answer: (u32, Reply)) -> 
 }
 
 // The same, if it answers.
-#[tactic(auto, unfolding(crate::specs::Before::answer_text))]
-fn push_answer(
+#[tactic(auto, unfolding(crate::specs::Before::look_answer_text))]
+fn push_look_answer(
     out: &mut Vec<u8>,
     entry: &Entry,
     op: Op,
     answer: Option<(u32, Reply)>,
 ) -> Result<(), NoMemory>
-    ensures { OnOk result (out.new.items ≡ out.old.items ++ answer_text entry.now op answer) }
+    ensures { OnOk result (out.new.items ≡ out.old.items ++ look_answer_text entry.now op answer) }
 {
     match answer {
         Some(answer) => push_seen(out, entry, op, answer),
@@ -201,7 +201,7 @@ fn push_look(
         return Ok(());
     }
     let answer = state.step(config, entry.caller, entry.object, op);
-    push_answer(out, entry, op, answer)
+    push_look_answer(out, entry, op, answer)
 }
 
 // The same, if the object has such an operation.

@@ -1,5 +1,5 @@
 -- What the input asks for, by what was read, and what was written.
-use Rattle.std.proofs.Common.{ℕ, List, Option, rules, subst, sym}
+use Rattle.std.proofs.Common.{ℕ, List, rules, subst, sym}
 use Rattle.std.specs.Prelude.{IfSome}
 use Rattle.mv_io.specs.Fault.{Rose}
 use Rattle.mv_explain.specs.Explained.{IsExplained}

@@ -1,6 +1,6 @@
 -- What is said is so.
 use Rattle.std.proofs.Common.{ℕ, ap, ◌∙◌, inr}
-use Rattle.mv_explain.specs.Journal.{IsJudgedSo, verdict_text}
+use Rattle.mv_explain.specs.Journal.{verdict_text}
 use Rattle.mv_explain.proofs.journals.judged_text.Goals as goal
 
 pub judge_journal-requires-clause-read : goal.judge_journal-requires-clause-read
