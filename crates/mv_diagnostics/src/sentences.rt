@@ -14,13 +14,13 @@ pub(crate) const TOO_LONG: &[u8] = b"the line has more than 80 bytes; shorten it
 // ---- decks
 
 pub(crate) const NO_STATEMENT: &[u8] =
-    b"this is no statement of a deck; expected // and then JOB (directly after // and a name), PRINT, USE, FREE, COUNT, SCAN or ABEND, in capitals and with their operands, or // alone; RETURN only after // DECK 2";
+    b"this is not a statement of a deck; expected // and then JOB (directly after // and a name), PRINT, USE, FREE, COUNT, SCAN or ABEND, in capitals and with their operands, or // with nothing after it; RETURN only after // DECK 2";
 
 pub(crate) const BAD_NAME: &[u8] =
     b"an invalid name; a job's name has 1 to 8 of A to Z, 0 to 9, @, # and $, and does not begin with a digit";
 
 pub(crate) const REPEATED_NAME: &[u8] =
-    b"an earlier job has this name; give each job a name of its own";
+    b"an earlier job has this name; give each job a different name";
 
 pub(crate) const UNKNOWN_AFTER: &[u8] =
     b"AFTER names a job that is not above this line; a job can only wait for earlier ones";
@@ -53,7 +53,7 @@ pub(crate) const LATE_DECK: &[u8] = b"// DECK 2 must be the first statement";
 // ---- scripts
 
 pub(crate) const NO_LINE: &[u8] =
-    b"this is no line of a script; expected SCRIPT, ECB, EXIT, TABLE, TASK, END or a call, in capitals, with its fields and no space in front";
+    b"this is not a line of a script; expected SCRIPT, ECB, EXIT, TABLE, TASK, END or a call, in capitals, with its fields and no space in front";
 
 pub(crate) const BAD_NUMBER: &[u8] =
     b"a number with a leading zero, out of its range, or of a task, block, volume, element, event or position that this script does not have";
@@ -78,7 +78,7 @@ pub(crate) const USES_TABLE: &[u8] =
     b"this call names a block of the TABLE, its volume or its latch, or a requestor of 2^63 or more; beside EVPOST, EVNEXT and TEST no call may";
 
 pub(crate) const BAD_TABLE: &[u8] =
-    b"this table cannot be; it has 1 to 32 events and as many slots, in blocks of its owner that no EXIT names and that do not overlap, and a latch that exists";
+    b"an invalid table; a table has 1 to 32 events and as many slots, in blocks of its owner that no EXIT names and that do not overlap, and a latch that exists";
 
 // ---- journals
 
@@ -87,7 +87,7 @@ pub(crate) const NO_ENTRY: &[u8] =
 
 pub(crate) const BAD_DIGITS: &[u8] = b"a number with a leading zero or beyond its range";
 
-pub(crate) const BAD_CONFIG: &[u8] = b"the lines above EVENTS state a configuration that cannot be";
+pub(crate) const BAD_CONFIG: &[u8] = b"the lines above EVENTS state an invalid configuration";
 
 pub(crate) const WRONG_COUNT: &[u8] = b"END does not have the number of the events above it";
 

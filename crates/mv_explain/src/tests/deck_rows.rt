@@ -25,7 +25,7 @@ deck, line 1, kind 2: the line has more than 80 bytes; shorten it
 //A job
 //
 --
-deck, line 1, kind 3: this is no statement of a deck; expected // and then JOB (directly after // and a name), PRINT, USE, FREE, COUNT, SCAN or ABEND, in capitals and with their operands, or // alone; RETURN only after // DECK 2
+deck, line 1, kind 3: this is not a statement of a deck; expected // and then JOB (directly after // and a name), PRINT, USE, FREE, COUNT, SCAN or ABEND, in capitals and with their operands, or // with nothing after it; RETURN only after // DECK 2
   | //A job
 ==
 //9A JOB
@@ -38,7 +38,7 @@ deck, line 1, kind 4: an invalid name; a job's name has 1 to 8 of A to Z, 0 to 9
 //A JOB
 //
 --
-deck, line 2, kind 5: an earlier job has this name; give each job a name of its own
+deck, line 2, kind 5: an earlier job has this name; give each job a different name
   | //A JOB
 ==
 //A JOB AFTER=B
@@ -132,7 +132,7 @@ pub(crate) const OTHERS: &str = "\
 PRINT X
 --
 this does not begin as a deck (//), a script (SCRIPT) or a journal (JOURNAL); read as a deck:
-deck, line 1, kind 3: this is no statement of a deck; expected // and then JOB (directly after // and a name), PRINT, USE, FREE, COUNT, SCAN or ABEND, in capitals and with their operands, or // alone; RETURN only after // DECK 2
+deck, line 1, kind 3: this is not a statement of a deck; expected // and then JOB (directly after // and a name), PRINT, USE, FREE, COUNT, SCAN or ABEND, in capitals and with their operands, or // with nothing after it; RETURN only after // DECK 2
   | PRINT X
 ==
 

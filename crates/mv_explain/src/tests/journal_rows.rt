@@ -26,7 +26,7 @@ LATCHES 1
 QUOTA 1 0
 EVENTS
 --
-journal, line 7, kind 3: the lines above EVENTS state a configuration that cannot be
+journal, line 7, kind 3: the lines above EVENTS state an invalid configuration
   | EVENTS
 ==
 JOURNAL 1

@@ -20,7 +20,7 @@ TASK
 read 0
 END
 --
-script, line 3, kind 3: this is no line of a script; expected SCRIPT, ECB, EXIT, TABLE, TASK, END or a call, in capitals, with its fields and no space in front
+script, line 3, kind 3: this is not a line of a script; expected SCRIPT, ECB, EXIT, TABLE, TASK, END or a call, in capitals, with its fields and no space in front
   | read 0
 ==
 SCRIPT 9
@@ -78,7 +78,7 @@ ECB 0
 ECB 0
 TABLE 0 0 0 0 0 1
 --
-script, line 4, kind 12: this table cannot be; it has 1 to 32 events and as many slots, in blocks of its owner that no EXIT names and that do not overlap, and a latch that exists
+script, line 4, kind 12: an invalid table; a table has 1 to 32 events and as many slots, in blocks of its owner that no EXIT names and that do not overlap, and a latch that exists
   | TABLE 0 0 0 0 0 1
 ";
 
