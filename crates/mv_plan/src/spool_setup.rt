@@ -118,7 +118,7 @@ fn exits_of(alloc: Global, jobs: u32) -> Result<Vec<Exit>, NoMemory>
 ///
 /// # Examples
 ///
-/// From `crates/mv_polled/src/spool.rt`:
+/// From `crates/mv_polledspool/src/spool.rt`:
 ///
 /// ```
 /// let config = spool_config(alloc, deck, initiators)?;

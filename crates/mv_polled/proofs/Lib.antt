@@ -13,9 +13,3 @@ pub mod Obtains
 pub mod Listening
 -- the wakers that are left with sources, and those that a ring takes
 pub mod Wakers
--- the polled spool: the call for a need, from its first poll to its answer
-pub mod Calls
--- a polled task, from one state to the next
-pub mod Polling
--- from tasks that are all finished to the run that they made
-pub mod Running

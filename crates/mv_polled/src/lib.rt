@@ -1,4 +1,4 @@
-//! Waits, pauses and obtains that are polled and never park, as calls and as futures; and a spool on one thread.
+//! Waits, pauses and obtains that are polled and never park, as calls and as futures.
 //!
 //! Each poll makes the events of its call as far as it can, and returns the answer, or `Pending`: then the task is to be polled
 //! again once what it waits for may have happened. So one thread can run as many tasks as a station has, in an order that the
@@ -10,12 +10,12 @@
 //!   `ObtainCall`, polled by a loop of the program.
 //! - Tasks are futures: `WaitFuture` and `PauseFuture`, for an executor of `futures`. A waker is kept in the future, so the
 //!   program hands the key of each event to `ring` of the futures.
-//! - A deck is to be run on one thread: `run_polled`, in the order that an `Order` picks.
 //!
 //! Use another crate:
 //!
 //! - if each task has a thread: `wait` of mv_wait, `pause` of mv_pause and `obtain` of mv_latchset, which park
 //! - for calls that never wait, such as a post or a release: those of mv_wait, mv_pause and mv_latchset, unchanged
+//! - to run a deck on one thread: `run_polled` of mv_polledspool
 //!
 //! # Examples
 //!
@@ -69,8 +69,8 @@
 //!
 //! - Events: as many as the call that parks makes, in the first and the last poll. A poll between them makes none. They must be
 //!   left to the task, which makes no other event between two polls of one call.
-//! - Memory: `WaitCall::new` and `WaitCall::with_room` take it, and `run_polled` for all its polls. No poll takes any, except
-//!   that a future's poll takes memory for a waker; if there is none, it asks for another poll.
+//! - Memory: `WaitCall::new` and `WaitCall::with_room` take it. No poll takes any, except that a future's poll takes memory for a
+//!   waker; if there is none, it asks for another poll.
 //! - What parks: nothing. A poll of an `ObtainCall` spins until it gets the turn at the lists of the latch set, and then
 //!   yields.
 //! - System calls: a poll makes none, except those yields.
@@ -88,37 +88,29 @@
 //! - A future is `Pending` without being registered with the source of each block that is not complete, or of the element,
 //!   unless it asks for another poll: its clause `registered`.
 //! - A ring wakes a task that waits for another key: clause `wakers` of `WaitFuture::ring`, `waker` of `PauseFuture::ring`.
-//! - `run_polled` returns another report than a run on threads: its clauses `ends`, `lines` and `volumes`, which are those of
-//!   `run_deck` of mv_spool.
 //!
 //! It can happen that a task is never polled again: no clause says that an executor rings each key. A release of a latch and a
 //! purge ring none, so poll an `ObtainCall` again after each event on the latch set.
 //!
 //! # Errors
 //!
-//! - `NoMemory`: of `WaitCall::new`, `WaitCall::with_room` and `run_polled`.
+//! - `NoMemory`: of `WaitCall::new` and `WaitCall::with_room`.
 //! - An answer is an error in the cases in which the call that parks returns that error: `WaitRefusal` of mv_wait,
 //!   `PauseRefusal` of mv_pause, `ObtainRefusal` of mv_latchset.
 #![tactic(auto)]
 
 mod keys;
-mod meeting;
 mod obtaining;
-mod order;
 mod pause_future;
 mod pausing;
-mod polled;
-mod spool;
 mod turn;
 mod wait_future;
 mod waiting;
 
 pub use keys::{key, rung};
 pub use obtaining::ObtainCall;
-pub use order::{Order, RoundOrder};
 pub use pause_future::PauseFuture;
 pub use pausing::PauseCall;
-pub use spool::run_polled;
 pub use turn::{Stage, Turn};
 pub use wait_future::WaitFuture;
 pub use waiting::WaitCall;

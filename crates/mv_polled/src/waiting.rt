@@ -86,7 +86,7 @@ impl WaitCall {
     ///
     /// # Examples
     ///
-    /// From `crates/mv_polled/src/meeting.rt`, which makes room for each later wait of a task:
+    /// From `crates/mv_polledspool/src/meeting.rt`, which makes room for each later wait of a task:
     ///
     /// ```
     /// Ok(Meeting {
@@ -112,7 +112,7 @@ impl WaitCall {
     ///
     /// # Examples
     ///
-    /// From `crates/mv_polled/src/meeting.rt`:
+    /// From `crates/mv_polledspool/src/meeting.rt`:
     ///
     /// ```
     /// self.wait.renew(blocks.count, &blocks.ecbs);

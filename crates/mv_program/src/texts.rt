@@ -22,7 +22,7 @@ use crate::status::Status;
 use mv_deck::{Deck, load_deck, read_deck};
 use mv_entrytext::HistoryText;
 use mv_io::NoMemory;
-use mv_polled::{RoundOrder, run_polled};
+use mv_polledspool::{RoundOrder, run_polled};
 use mv_report::{write_report, write_summary};
 use mv_runscript::{run_script, write_answers};
 use mv_script::{Script, read_script};

@@ -33,8 +33,8 @@ pub fn prefixes_of_runs_have_no_doomed_task()
 {}
 
 /// No run deadlocks, whatever the schedule: at each moment all tasks are done or one of them can make its next event, and no task is
-/// doomed. `run_deck` of mv_spool and `run_polled` of mv_polled return the history of a run (their clauses `run`), and the journal of a
-/// deck's run tells one. That a thread runs, that a wake arrives and that a call returns is not said.
+/// doomed. `run_deck` of mv_spool and `run_polled` of mv_polledspool return the history of a run (their clauses `run`), and the journal
+/// of a deck's run tells one. That a thread runs, that a wake arrives and that a call returns is not said.
 pub fn runs_do_not_deadlock()
     ensures { (deck : List JobData) (initiators : ℕ) (es before later : List Entry) → 1 ≤ initiators → IsSound deck initiators
         → IsRun deck initiators es → es ≡ before ++ later → CannotDeadlock deck initiators before }

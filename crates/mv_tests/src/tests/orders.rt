@@ -7,7 +7,7 @@ ghost use Rattle.mv_deck.specs.Sound.{IsSound};
 ghost use Rattle.mv_deck.specs.Weight.{most_initiators};
 
 use mv_deck::{Deck, read_deck};
-use mv_polled::{Order, RoundOrder, run_polled};
+use mv_polledspool::{Order, RoundOrder, run_polled};
 use mv_report::outcome_of;
 use std::alloc::Global;
 use std::process::Abort;

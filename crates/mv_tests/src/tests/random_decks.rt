@@ -5,7 +5,7 @@ ghost use Rattle.std.specs.Prelude.{◌≤◌, ◌<◌};
 
 use super::orders::deck_of;
 use mv_deck::{Deck, MOST_INITIATORS, step_events};
-use mv_polled::{Order, RoundOrder, run_polled};
+use mv_polledspool::{Order, RoundOrder, run_polled};
 use std::alloc::Global;
 use std::process::Abort;
 

@@ -1,6 +1,0 @@
-use Rattle.std.proofs.Common.{ℕ, ◌+◌, ◌<◌}
-use Rattle.mv_polled.specs.Polled.{IsPolled}
-use Rattle.mv_polled.proofs.polled.Polled.poll.Given as goal
-
-abbrev pub invariant-loop : goal.invariant-loop
-invariant-loop g l = (k : ℕ) → k < l.spool.initiators + 3 → IsPolled l.spool k l.fn.self → IsPolled l.spool k l.self

@@ -1,9 +1,0 @@
-use Rattle.std.proofs.Common.{◌≡◌, ◌+◌, length}
-use Rattle.mv_polled.specs.Polled.{ArePolled}
-use Rattle.mv_polled.proofs.spool.poll_all.Given as goal
-
-abbrev pub invariant-loop : goal.invariant-loop
-invariant-loop g l = record {
-  count : length l.tasks.items ≡ l.spool.initiators + 3;
-  polled : ArePolled l.spool l.tasks.items;
-}
