@@ -2,6 +2,8 @@
 pub mod Verdicts
 -- step, object
 pub mod Steps
+-- write_line
+pub mod Replies
 -- empty, of, into_box
 pub mod Walks
 pub mod HandleSteps

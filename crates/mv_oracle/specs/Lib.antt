@@ -1,8 +1,10 @@
 pub mod Answer
 pub mod Held
 pub mod Latch
+pub mod Line
 pub mod Machine
 pub mod Operation
 pub mod Reading
+pub mod Reply
 pub mod Stepping
 pub mod Verdict
