@@ -1,5 +1,6 @@
-//! The judge of journals and the machine for programs in other languages: the calls of mv_oracle with a C ABI.
+//! The judge of journals, the machine and the lines of journals for programs in other languages: the calls of mv_oracle with a C ABI.
 #![tactic(auto)]
 
 mod judging;
+mod line;
 mod machine;
