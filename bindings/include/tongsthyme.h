@@ -76,42 +76,46 @@ enum tongsthyme_kind {
 
 /* Operations on an event control block, with their field. */
 enum tongsthyme_ecb_operation {
-    TONGSTHYME_ECB_ARM = 0,
-    TONGSTHYME_ECB_EXTEND = 1, /* a: the exit, counted from 1 */
-    TONGSTHYME_ECB_SETTLE = 2,
-    TONGSTHYME_ECB_CLEAR = 3,
-    TONGSTHYME_ECB_POST = 4, /* a: the completion code, below 2^30 */
-    TONGSTHYME_ECB_TEST = 5
+    TONGSTHYME_ECB_ARM = 0,    /* begins a wait: sets the wait bit if the word is zero */
+    TONGSTHYME_ECB_EXTEND = 1, /* begins a wait, and keeps the exit that a post is to run; a: the exit, counted from 1 */
+    TONGSTHYME_ECB_SETTLE = 2, /* ends a wait: clears the wait bit if the block is not complete */
+    TONGSTHYME_ECB_CLEAR = 3,  /* sets the word to zero */
+    TONGSTHYME_ECB_POST = 4,   /* completes the block; a: the completion code, below 2^30 */
+    TONGSTHYME_ECB_TEST = 5    /* reads the word */
 };
 
 /* Operations on a pause element. */
 enum tongsthyme_element_operation {
-    TONGSTHYME_ELEMENT_OPEN = 0,
-    TONGSTHYME_ELEMENT_PAUSE = 1,   /* a: the generation of the token */
-    TONGSTHYME_ELEMENT_RESUME = 2,  /* a: the same */
-    TONGSTHYME_ELEMENT_RELEASE = 3, /* a: the same; b: the release code, below 2^24 */
-    TONGSTHYME_ELEMENT_CLOSE = 4,   /* a: the generation */
-    TONGSTHYME_ELEMENT_TEST = 5
+    TONGSTHYME_ELEMENT_OPEN = 0,    /* allocates the element */
+    TONGSTHYME_ELEMENT_PAUSE = 1,   /* begins a pause, or takes the code that was kept for it; a: the generation of the token */
+    TONGSTHYME_ELEMENT_RESUME = 2,  /* ends a pause that was released, and takes its code; a: the generation */
+    TONGSTHYME_ELEMENT_RELEASE = 3, /* releases a pause, or keeps the code for it; a: the generation; b: the release code, below 2^24 */
+    TONGSTHYME_ELEMENT_CLOSE = 4,   /* frees the element; a: the generation */
+    TONGSTHYME_ELEMENT_TEST = 5     /* reads the state */
 };
 
 /* Operations on a volume. */
 enum tongsthyme_volume_operation {
-    TONGSTHYME_VOLUME_READ = 0,
-    TONGSTHYME_VOLUME_WRITE = 1 /* a: the number */
+    TONGSTHYME_VOLUME_READ = 0, /* reads the number */
+    TONGSTHYME_VOLUME_WRITE = 1 /* replaces the number; a: the new one */
 };
 
 /* Operations on the latch set. */
 enum tongsthyme_latch_operation {
-    TONGSTHYME_LATCH_OBTAIN = 0,  /* a: the latch; requestor; b: enum tongsthyme_mode; c: enum tongsthyme_form; d: the block of POSTED */
-    TONGSTHYME_LATCH_CONFIRM = 1, /* a: the latch; b: the number of the request */
-    TONGSTHYME_LATCH_RELEASE = 2, /* a: the latch; b: the number of the request; c: 1 if it is conditional, otherwise 0 */
-    TONGSTHYME_LATCH_PURGE = 3    /* requestor */
+    /* Requests a latch. a: the latch; requestor; b: enum tongsthyme_mode; c: enum tongsthyme_form; d: the block of POSTED */
+    TONGSTHYME_LATCH_OBTAIN = 0,
+    /* Asks for the state of a request. a: the latch; b: the number of the request */
+    TONGSTHYME_LATCH_CONFIRM = 1,
+    /* Takes a request out. a: the latch; b: the number of the request; c: 1 if a request that waits is to stay, otherwise 0 */
+    TONGSTHYME_LATCH_RELEASE = 2,
+    /* Takes all requests of a requestor out of all latches. requestor */
+    TONGSTHYME_LATCH_PURGE = 3
 };
 
 /* How a requestor holds a latch. */
 enum tongsthyme_mode {
-    TONGSTHYME_SHARED = 0,
-    TONGSTHYME_EXCLUSIVE = 1
+    TONGSTHYME_SHARED = 0,   /* beside other shared holders */
+    TONGSTHYME_EXCLUSIVE = 1 /* with no other holder */
 };
 
 /* What becomes of a request that is not granted at once. */
@@ -136,57 +140,57 @@ struct tongsthyme_operation {
 
 /* Replies of an event control block. */
 enum tongsthyme_ecb_reply {
-    TONGSTHYME_ECB_ARMED = 0,
-    TONGSTHYME_ECB_LINKED = 1,   /* a: the exit */
-    TONGSTHYME_ECB_COMPLETE = 2, /* a: the completion code */
-    TONGSTHYME_ECB_WAITING = 3,
-    TONGSTHYME_ECB_OPEN = 4,
-    TONGSTHYME_ECB_POSTED = 5,
-    TONGSTHYME_ECB_WOKE = 6,    /* a: the exit, or 0 if there is none */
-    TONGSTHYME_ECB_ALREADY = 7, /* a: the completion code of the first post */
-    TONGSTHYME_ECB_WORD = 8     /* a: the fullword */
+    TONGSTHYME_ECB_ARMED = 0,    /* the wait bit is set now */
+    TONGSTHYME_ECB_LINKED = 1,   /* the block waits, and has an exit; a: the exit */
+    TONGSTHYME_ECB_COMPLETE = 2, /* the block is complete; a: the completion code */
+    TONGSTHYME_ECB_WAITING = 3,  /* the block waits already, and has no exit */
+    TONGSTHYME_ECB_OPEN = 4,     /* the block is not complete and had no exit; its word is zero now */
+    TONGSTHYME_ECB_POSTED = 5,   /* the post completed a block on which no task waited */
+    TONGSTHYME_ECB_WOKE = 6,     /* the post ended a wait, and the task has to be woken; a: the block's exit, or 0 if it has none */
+    TONGSTHYME_ECB_ALREADY = 7,  /* the block was complete before the post; a: the completion code that it keeps */
+    TONGSTHYME_ECB_WORD = 8      /* a: the fullword before the operation: 2^31 is the wait bit, 2^30 the completion bit */
 };
 
 /* Replies of a pause element. */
 enum tongsthyme_element_reply {
-    TONGSTHYME_ELEMENT_OPENED = 0, /* a: the generation */
-    TONGSTHYME_ELEMENT_INUSE = 1,
-    TONGSTHYME_ELEMENT_PARKED = 2,
-    TONGSTHYME_ELEMENT_GIVEN = 3, /* a: the release code; b: the generation of the next token */
-    TONGSTHYME_ELEMENT_SPENT = 4, /* a: the generation */
-    TONGSTHYME_ELEMENT_BUSY = 5,
-    TONGSTHYME_ELEMENT_NOTYET = 6,
-    TONGSTHYME_ELEMENT_EARLY = 7,
-    TONGSTHYME_ELEMENT_WOKE = 8,
-    TONGSTHYME_ELEMENT_ALREADY = 9,
-    TONGSTHYME_ELEMENT_CLOSED = 10,
-    TONGSTHYME_ELEMENT_STATE = 11 /* a: the generation; b: enum tongsthyme_phase; c: the release code that is kept */
+    TONGSTHYME_ELEMENT_OPENED = 0,  /* the element is allocated now; a: its generation */
+    TONGSTHYME_ELEMENT_INUSE = 1,   /* the element is allocated already */
+    TONGSTHYME_ELEMENT_PARKED = 2,  /* the pause began, and the task has to wait for its release */
+    TONGSTHYME_ELEMENT_GIVEN = 3,   /* the pause is over; a: the release code; b: the generation of the next token */
+    TONGSTHYME_ELEMENT_SPENT = 4,   /* another generation than the element's, or the element is free; a: the element's generation */
+    TONGSTHYME_ELEMENT_BUSY = 5,    /* the element's phase does not allow the operation */
+    TONGSTHYME_ELEMENT_NOTYET = 6,  /* the pause was not released yet */
+    TONGSTHYME_ELEMENT_EARLY = 7,   /* released before its pause: the code is kept */
+    TONGSTHYME_ELEMENT_WOKE = 8,    /* released, and the task that pauses has to be woken */
+    TONGSTHYME_ELEMENT_ALREADY = 9, /* released before; the first code is kept */
+    TONGSTHYME_ELEMENT_CLOSED = 10, /* the element is free now */
+    TONGSTHYME_ELEMENT_STATE = 11   /* a: the generation; b: enum tongsthyme_phase; c: the release code that is kept, otherwise 0 */
 };
 
 /* Phases of a pause element. */
 enum tongsthyme_phase {
-    TONGSTHYME_FREE = 0,
-    TONGSTHYME_RESET = 1,
-    TONGSTHYME_PRERELEASED = 2,
-    TONGSTHYME_PAUSED = 3,
-    TONGSTHYME_RELEASED = 4
+    TONGSTHYME_FREE = 0,        /* not allocated */
+    TONGSTHYME_RESET = 1,       /* allocated, and neither paused nor released */
+    TONGSTHYME_PRERELEASED = 2, /* released before its pause, for which the code is kept */
+    TONGSTHYME_PAUSED = 3,      /* a task pauses */
+    TONGSTHYME_RELEASED = 4     /* the pause was released, and its task has not resumed yet */
 };
 
 /* Replies of a volume. */
 enum tongsthyme_volume_reply {
     TONGSTHYME_VOLUME_VALUE = 0, /* a: the number */
-    TONGSTHYME_VOLUME_STORED = 1
+    TONGSTHYME_VOLUME_STORED = 1 /* the number was written */
 };
 
 /* Replies of the latch set. */
 enum tongsthyme_latch_reply {
-    TONGSTHYME_LATCH_GRANTED = 0, /* a: the number of the request */
-    TONGSTHYME_LATCH_QUEUED = 1,  /* a: the number of the request */
-    TONGSTHYME_LATCH_NOTNOW = 2,  /* a: the number of the request that is in the way */
-    TONGSTHYME_LATCH_WAITING = 3,
-    TONGSTHYME_LATCH_GONE = 4,
-    TONGSTHYME_LATCH_RELEASED = 5, /* a: how many others were granted */
-    TONGSTHYME_LATCH_PURGED = 6    /* a: how many requests were removed; b: how many others were granted */
+    TONGSTHYME_LATCH_GRANTED = 0,  /* the request holds the latch; a: its number */
+    TONGSTHYME_LATCH_QUEUED = 1,   /* the request was queued; a: its number */
+    TONGSTHYME_LATCH_NOTNOW = 2,   /* nothing was queued; a: the number of the request that is in the way */
+    TONGSTHYME_LATCH_WAITING = 3,  /* the request is in the list, and not granted */
+    TONGSTHYME_LATCH_GONE = 4,     /* the latch has no such request of this caller */
+    TONGSTHYME_LATCH_RELEASED = 5, /* the request was taken out; a: how many others this granted */
+    TONGSTHYME_LATCH_PURGED = 6    /* a: how many requests were taken out; b: how many others this granted */
 };
 
 /* The place of an event, and its reply. Fields that the reply does not use are 0. */
@@ -222,8 +226,8 @@ uint32_t tongsthyme_machine_object(struct tongsthyme_machine *machine, uint32_t 
 
 /* What became of a request that waited. */
 enum tongsthyme_wake_code {
-    TONGSTHYME_WAKE_GRANTED = 0,
-    TONGSTHYME_WAKE_PURGED = 1
+    TONGSTHYME_WAKE_GRANTED = 0, /* it holds the latch now */
+    TONGSTHYME_WAKE_PURGED = 1   /* it was taken out of the list */
 };
 
 /* What has to be done for a request that the last operation on the latch set granted, or purged while it waited. */
