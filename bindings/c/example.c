@@ -1,4 +1,4 @@
-/* example FILE: judges a journal, and looks at the machine after its entries. */
+/* example FILE: judges a journal, makes an operation on the machine after its entries, and looks at the object. */
 #include "tongsthyme.h"
 #include <stdio.h>
 #include <stdlib.h>
@@ -48,10 +48,12 @@ int main(int argc, char **argv) {
     struct tongsthyme_operation post = {
         .caller = 0, .kind = TONGSTHYME_ECB, .object = 0, .operation = TONGSTHYME_ECB_POST, .a = 7};
     struct tongsthyme_answer answer;
-    if (tongsthyme_machine_step(&machine, &post, &answer) == TONGSTHYME_DONE)
-        printf("the block had %u events before the post\n", answer.place);
+    uint8_t line[TONGSTHYME_LINE_ROOM];
+    if (tongsthyme_machine_step(&machine, &post, &answer) == TONGSTHYME_DONE &&
+        tongsthyme_line(&post, &answer, line, sizeof line, &length) == TONGSTHYME_DONE)
+        fwrite(line, 1, length, stdout);
     if (tongsthyme_machine_object(&machine, TONGSTHYME_ECB, 0, &answer) == TONGSTHYME_DONE)
-        printf("now it has had %u, and its word is %u\n", answer.place, answer.a);
+        printf("the block has had %u events, and its word is %u\n", answer.place, answer.a);
     tongsthyme_machine_close(&machine);
     return 0;
 }

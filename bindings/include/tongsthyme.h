@@ -1,4 +1,4 @@
-/* The proved judge of journals, and the proved machine of one thread, one operation at a time.
+/* The proved judge of journals, the proved machine of one thread, one operation at a time, and the lines of journals.
 
    docs/FORMATS.md has the text of journals, and docs/MODEL.md the objects. Link libtongsthyme.a, or libtongsthyme.so.
 
@@ -12,7 +12,7 @@
    - The program's malloc, realloc and free are the C library's, or do what those do. No call is made from a signal handler, or from
      the child of a fork of a program with threads.
 
-   No function keeps a pointer that it is given, or prints, or reads or writes a file. */
+   No function keeps a pointer that it is given, prints anything, or reads or writes a file. */
 #ifndef TONGSTHYME_H
 #define TONGSTHYME_H
 
@@ -56,14 +56,16 @@ uint32_t tongsthyme_judge(const uint8_t *journal, size_t length, struct tongsthy
 
 /* ---- The machine: what an implementation of the services has to answer */
 
-/* How a call on a machine went. */
+/* How a call on a machine, or tongsthyme_line, went. */
 enum tongsthyme_status {
-    TONGSTHYME_DONE = 0,              /* the operation was made, or what was looked for is there */
+    TONGSTHYME_DONE = 0,              /* the operation was made, what was looked for is there, or the line was written */
     TONGSTHYME_NOT_ADMITTED = 1,      /* no such caller or object, or the caller may not do this; nothing changed */
     TONGSTHYME_FULL = 2,              /* the object has had 524,287 events; nothing changed */
-    TONGSTHYME_NO_SUCH_OPERATION = 3, /* a number of the operation has no meaning; nothing changed */
+    TONGSTHYME_NO_SUCH_OPERATION = 3, /* a number of the operation, or of an answer passed in, has no meaning; nothing changed */
     TONGSTHYME_NO_MACHINE = 4,        /* the handle holds no machine */
-    TONGSTHYME_ABSENT = 5             /* what was looked for is not there */
+    TONGSTHYME_ABSENT = 5,            /* what was looked for is not there */
+    TONGSTHYME_NO_ROOM = 6,           /* the room is too small for the line; nothing was written */
+    TONGSTHYME_NO_MEMORY = 7          /* memory ran out; nothing was written */
 };
 
 /* Kinds of objects. */
@@ -258,6 +260,19 @@ uint32_t tongsthyme_machine_request(struct tongsthyme_machine *machine, uint32_t
 
 /* Frees the machine, if there is one. The handle holds none then, and may be opened again. */
 void tongsthyme_machine_close(struct tongsthyme_machine *machine);
+
+/* ---- The line of an event in a journal */
+
+/* Enough room for any line: the longest has 108 bytes. */
+#define TONGSTHYME_LINE_ROOM 128
+
+/* Writes the line of an event in a journal of version 1, with its LF and without a terminating zero, to the front of the `room` bytes at
+   `text`, and its length to `length`. The operation and the answer are those of a step, or of an event of another implementation. Fields
+   that the reply does not use are ignored. Returns DONE, NO_SUCH_OPERATION, NO_ROOM or NO_MEMORY, and writes only with DONE.
+
+   A number beyond the range that docs/FORMATS.md gives it is written as it is: tongsthyme_judge then finds the line malformed. */
+uint32_t tongsthyme_line(const struct tongsthyme_operation *operation, const struct tongsthyme_answer *answer, uint8_t *text, size_t room,
+                         size_t *length);
 
 #ifdef __cplusplus
 }

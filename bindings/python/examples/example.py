@@ -1,4 +1,4 @@
-"""example.py FILE: judges a journal, and looks at the machine after its entries."""
+"""example.py FILE: judges a journal, makes an operation on the machine after its entries, and looks at the object."""
 
 import sys
 
@@ -19,11 +19,10 @@ def main() -> int:
     print(f"legal, {verdict.events} events")
     with tongsthyme.Machine(journal) as machine:
         # Caller 0 posts event control block 0.
-        answer = machine.step(0, "E0", "POST 7")
-        print(f"the block had {answer.place} events before the post")
+        print(machine.step(0, "E0", "POST 7").line, end="")
         block = machine.object("E0")
         if block:
-            print(f"now it has had {block.place}, and its word is {block.reply.split(' ')[1]}")
+            print(f"the block has had {block.place} events, and its word is {block.state.split(' ')[1]}")
     return 0
 
 

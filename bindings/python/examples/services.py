@@ -19,29 +19,20 @@ class Stuck(Exception):
     """No task has posted or released for a long time."""
 
 
-class Log:
-    def __init__(self) -> None:
-        self.lines: List[str] = []
-
-    def event(self, caller: int, name: str, place: int, operation: str, reply: str) -> str:
-        self.lines.append(tongsthyme.line(caller, name, operation, tongsthyme.Answer(place, reply)))
-        return reply
-
-
 class Shared:
     """What an event control block and a pause element have in common: a lock, a place, and tasks that wait."""
 
-    def __init__(self, log: Log, name: str) -> None:
+    def __init__(self, log: List[str], name: str) -> None:
         self.log = log
         self.name = name
         self.place = 0
         self.changed = threading.Condition()
 
-    def event(self, caller: int, operation: str, reply: str) -> str:
-        """Logs an event. The caller holds the lock."""
-        place, self.place = self.place, self.place + 1
+    def event(self, caller: int, operation: str, reply: str) -> None:
+        """Logs an event, as a line of a journal. The caller holds the lock."""
+        self.log.append(f"{caller} {self.name} {self.place} {operation} = {reply}\n")
+        self.place += 1
         self.changed.notify_all()
-        return self.log.event(caller, self.name, place, operation, reply)
 
     def park(self, ready: Callable[[], bool]) -> None:
         if not self.changed.wait_for(ready, PATIENCE):
@@ -157,7 +148,7 @@ EVENTS
 
 def run(block_type: type = Block, rounds: int = 5) -> bytes:
     """The producer posts a number and pauses until the consumer, which waits for it, releases it. Returns the journal."""
-    log = Log()
+    log: List[str] = []
     block = block_type(log, "E0")
     element = Element(log, "P1")
     element.open(PRODUCER)
@@ -187,7 +178,7 @@ def run(block_type: type = Block, rounds: int = 5) -> bytes:
         task.start()
     for task in tasks:
         task.join()
-    return (HEAD + "".join(log.lines) + f"END {len(log.lines)}\n").encode()
+    return (HEAD + "".join(log) + f"END {len(log)}\n").encode()
 
 
 def explain(journal: bytes, line: int) -> Tuple[str, str]:

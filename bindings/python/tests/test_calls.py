@@ -24,14 +24,33 @@ class Machine(unittest.TestCase):
 
     def test_steps(self) -> None:
         with tongsthyme.Machine(EMPTY) as machine:
-            self.assertEqual(machine.step(0, "E0", "ARM"), (0, "ARMED"))
+            self.assertEqual(machine.step(0, "E0", "ARM"), (0, "ARMED", "0 E0 0 ARM = ARMED\n"))
             with self.assertRaises(tongsthyme.NotAdmitted):
                 machine.step(1, "E0", "ARM")
-            self.assertEqual(machine.step(1, "E0", "POST 7"), (1, "WOKE 0"))
+            self.assertEqual(machine.step(1, "E0", "POST 7"), (1, "WOKE 0", "1 E0 1 POST 7 = WOKE 0\n"))
             self.assertEqual(machine.object("E0"), (2, f"WORD {2**30 + 7}"))
             self.assertEqual(machine.object("P1"), (0, "STATE 0 FREE 0"))
+            self.assertEqual(machine.object("V0"), (0, "VALUE 0"))
             self.assertIsNone(machine.object("E1"))
+            self.assertIsNone(machine.object("L"))
             self.assertEqual(machine.events, 2)
+
+    def test_lines_are_a_journal(self) -> None:
+        with tongsthyme.Machine(EMPTY) as machine:
+            lines = [
+                machine.step(caller, name, operation).line
+                for caller, name, operation in [
+                    (1, "P1", "OPEN"),
+                    (0, "P1", "RELEASE 0 9"),
+                    (1, "P1", "TEST"),
+                    (0, "L", "OBTAIN 0 18446744073709551615 S C"),
+                    (0, "V0", "WRITE 4294967295"),
+                ]
+            ]
+        self.assertEqual(lines[2], "1 P1 2 TEST = STATE 0 PRERELEASED 9\n")
+        self.assertEqual(lines[3], "0 L 0 OBTAIN 0 18446744073709551615 S C = GRANTED 0\n")
+        journal = HEAD + "".join(lines).encode() + b"END 5\n"
+        self.assertEqual(tongsthyme.judge(journal), ("legal", 5, 0, 0))
 
     def test_shows_latches(self) -> None:
         with tongsthyme.Machine(EMPTY) as machine:

@@ -1,4 +1,4 @@
-"""The proved judge of journals, and the proved machine of one thread, one operation at a time.
+"""The proved judge of journals, the proved machine of one thread, one operation at a time, and the lines of journals.
 
 Operations and replies are the words of docs/FORMATS.md: ``machine.step(0, "E0", "POST 7")`` posts event control block 0 as caller 0.
 
@@ -20,13 +20,13 @@ __all__ = [
     "Machine",
     "NotAJournal",
     "NotAdmitted",
+    "Object",
     "Request",
     "StepError",
     "TooLong",
     "Verdict",
     "Wake",
     "judge",
-    "line",
 ]
 
 _U32 = ctypes.c_uint32
@@ -76,6 +76,7 @@ def _load() -> ctypes.CDLL:
         "machine_wake": [pointer(_Handle), _U32, pointer(_Wake)],
         "machine_request": [pointer(_Handle), _U32, _U32, pointer(_Request)],
         "machine_close": [pointer(_Handle)],
+        "line": [pointer(_Operation), pointer(_Answer), ctypes.c_char_p, ctypes.c_size_t, pointer(ctypes.c_size_t)],
     }.items():
         call = getattr(library, "tongsthyme_" + function)
         call.argtypes = arguments
@@ -85,7 +86,7 @@ def _load() -> ctypes.CDLL:
 
 _library = _load()
 
-# Kinds of objects by their letters, and the words of operations and replies by their numbers. A small letter is a field.
+# Kinds of objects by their letters, and the words of operations by their numbers. A small letter is a field.
 _KINDS = "EPVL"
 _OPERATIONS = (
     "ARM,EXTEND a,SETTLE,CLEAR,POST a,TEST",
@@ -93,19 +94,14 @@ _OPERATIONS = (
     "READ,WRITE a",
     "OBTAIN,CONFIRM a b,RELEASE,PURGE",
 )
-_REPLIES = (
-    "ARMED,LINKED a,COMPLETE a,WAITING,OPEN,POSTED,WOKE a,ALREADY a,WORD a",
-    "OPENED a,INUSE,PARKED,GIVEN a b,SPENT a,BUSY,NOTYET,EARLY,WOKE,ALREADY,CLOSED,STATE a b c",
-    "VALUE a,STORED",
-    "GRANTED a,QUEUED a,NOTNOW a,WAITING,GONE,RELEASED a,PURGED a b",
-)
 _FORMS = tuple([form.split(" ") for form in kind.split(",")] for kind in _OPERATIONS)
-_ANSWERS = tuple([form.split(" ") for form in kind.split(",")] for kind in _REPLIES)
-_PHASES = ("FREE", "RESET", "PRERELEASED", "PAUSED", "RELEASED")
-_STATE = 11
 _MODES = ("S", "X")
 _LATCH_FORMS = ("C", "W", "P")
 _RELEASES = ("U", "C")
+# The operations of which an object's state is the reply: TEST, TEST and READ.
+_LOOKS = (5, 5, 0)
+# TONGSTHYME_LINE_ROOM: room for any line.
+_LINE_ROOM = 128
 
 
 class NotAJournal(ValueError):
@@ -175,10 +171,19 @@ class Verdict(NamedTuple):
 
 
 class Answer(NamedTuple):
-    """The place of an event, which counts the object's events before it, and the words of its reply."""
+    """An event that was made: its place, which counts the object's events before it, the words of its reply, and its line in a journal of
+    version 1, with its LF."""
 
     place: int
     reply: str
+    line: str
+
+
+class Object(NamedTuple):
+    """An object: how many events it has had, and its state in the words of the reply to a TEST or a READ."""
+
+    place: int
+    state: str
 
 
 class Wake(NamedTuple):
@@ -279,12 +284,26 @@ def _operation(caller: int, name: str, operation: str) -> _Operation:
     return _Operation(_fits(caller, "caller"), *_parsed(name, operation))
 
 
-def _reply(kind: int, answer: _Answer) -> str:
-    first, *fields = _ANSWERS[kind][answer.reply]
-    values = [str(getattr(answer, field)) for field in fields]
-    if kind == 1 and answer.reply == _STATE:
-        values[1] = _PHASES[answer.b]
-    return " ".join([first] + values)
+class _Line:
+    """Room for the line of an event."""
+
+    def __init__(self) -> None:
+        self._text = ctypes.create_string_buffer(_LINE_ROOM)
+        self._length = ctypes.c_size_t()
+        self._to = ctypes.byref(self._length)
+
+    def of(self, made: _Operation, answer: _Answer) -> str:
+        """The line of an operation and its answer, with its LF."""
+        status = _library.tongsthyme_line(ctypes.byref(made), ctypes.byref(answer), self._text, _LINE_ROOM, self._to)
+        if status:
+            # 7: the numbers are the library's own, and there is room for any line.
+            raise MemoryError("memory ran out before the line of an event was written")
+        return self._text.raw[: self._length.value].decode("ascii")
+
+
+def _reply(line: str) -> str:
+    """The words of the reply at the end of a line."""
+    return line[line.index(" = ") + 3 : -1]
 
 
 class Machine:
@@ -301,8 +320,9 @@ class Machine:
         self._free = _library.tongsthyme_machine_close
         self._handle = _Handle()
         self._pointer = ctypes.byref(self._handle)
-        # That of the last step.
+        # Those of the last step.
         self._answer = _Answer()
+        self._line = _Line()
         verdict = _Verdict()
         status = _library.tongsthyme_machine_open(text, length, self._pointer, ctypes.byref(verdict))
         found = _verdict(status, verdict)
@@ -336,7 +356,8 @@ class Machine:
         return status == 0
 
     def step(self, caller: int, name: str, operation: str) -> Answer:
-        """Makes an operation of a caller on an object, in the words of a journal. Raises NotAdmitted or another StepError."""
+        """Makes an operation of a caller on an object, in the words of a journal. Raises NotAdmitted or another StepError: then nothing
+        changed. It raises MemoryError if memory runs out for the line of the event, which was made then."""
         made = _operation(caller, name, operation)
         answer = self._answer
         status = _library.tongsthyme_machine_step(self._here(), ctypes.byref(made), ctypes.byref(answer))
@@ -348,14 +369,18 @@ class Machine:
             raise StepError(f"{operation} on {name} has a number without a meaning")
         self._there(status)
         self.events += 1
-        return Answer(answer.place, _reply(made.kind, answer))
+        line = self._line.of(made, answer)
+        return Answer(answer.place, _reply(line), line)
 
-    def object(self, name: str) -> Optional[Answer]:
-        """Shows the place of an object, and its state as the reply of a TEST or a READ. Returns None if there is no such object."""
+    def object(self, name: str) -> Optional[Object]:
+        """Shows an object. Returns None if there is no such object, and for the latch set, of which `requests` shows each latch."""
         kind, number = _object(name)
         answer = _Answer()
         status = _library.tongsthyme_machine_object(self._here(), kind, number, ctypes.byref(answer))
-        return Answer(answer.place, _reply(kind, answer)) if self._there(status) else None
+        if not self._there(status):
+            return None
+        look = _Operation(0, kind, number, _LOOKS[kind])
+        return Object(answer.place, _reply(self._line.of(look, answer)))
 
     def wakes(self) -> List[Wake]:
         """Shows what has to be done for the requests that the last operation on the latch set granted or purged."""
@@ -378,7 +403,3 @@ class Machine:
             requests.append(Request(found.requestor, found.request, found.caller, _MODES[found.mode], form))
         return requests
 
-
-def line(caller: int, name: str, operation: str, answer: Answer) -> str:
-    """Returns the line of an event in a journal of version 1, with its LF."""
-    return f"{caller} {name} {answer.place} {operation} = {answer.reply}\n"

@@ -1,7 +1,7 @@
-//! example FILE: judges a journal, and looks at the machine after its entries.
+//! example FILE: judges a journal, makes an operation on the machine after its entries, and looks at the object.
 
 use std::process::ExitCode;
-use tongsthyme::{judge, EcbOp, EcbReply, Machine, Object, Operation, Reply, Verdict};
+use tongsthyme::{judge, line, EcbOp, EcbReply, Machine, Object, Operation, Reply, Verdict};
 
 fn main() -> Result<ExitCode, Box<dyn std::error::Error>> {
     let Some(path) = std::env::args().nth(1) else {
@@ -16,11 +16,15 @@ fn main() -> Result<ExitCode, Box<dyn std::error::Error>> {
     };
     let mut machine = Machine::open(&journal)?;
     // Caller 0 posts event control block 0.
-    let answer = machine.step(0, Operation::Ecb(0, EcbOp::Post(7)))?;
-    println!("the block had {} events before the post", answer.place);
+    let post = Operation::Ecb(0, EcbOp::Post(7));
+    let answer = machine.step(0, post)?;
+    print!("{}", line(0, post, answer)?);
     if let Some(block) = machine.object(Object::Ecb(0)) {
         if let Reply::Ecb(EcbReply::Word(word)) = block.reply {
-            println!("now it has had {}, and its word is {word}", block.place);
+            println!(
+                "the block has had {} events, and its word is {word}",
+                block.place
+            );
         }
     }
     Ok(ExitCode::SUCCESS)

@@ -90,4 +90,11 @@ unsafe extern "C" {
         request: &mut Request,
     ) -> u32;
     pub(crate) fn tongsthyme_machine_close(machine: &mut Handle);
+    pub(crate) fn tongsthyme_line(
+        operation: &Operation,
+        answer: &Answer,
+        text: *mut u8,
+        room: usize,
+        length: &mut usize,
+    ) -> u32;
 }

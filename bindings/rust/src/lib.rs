@@ -1,4 +1,4 @@
-//! The proved judge of journals, and the proved machine of one thread, one operation at a time.
+//! The proved judge of journals, the proved machine of one thread, one operation at a time, and the lines of journals.
 //!
 //! The library itself is written in Rattle, and its contracts are proved. This crate declares it to Rust, in safe functions. No compiler
 //! compares the declarations with the library's; tests do.
@@ -18,14 +18,14 @@
 //! ```
 
 mod declared;
+mod line;
 mod machine;
-mod text;
 mod verdict;
 
+pub use line::{line, LineError};
 pub use machine::{
     Answer, EcbOp, EcbReply, ElementOp, ElementReply, LatchOp, LatchReply, Machine, Mode, Object,
     Operation, Phase, Reply, Request, RequestForm, StepError, VolumeOp, VolumeReply, Wake,
     WakeCode,
 };
-pub use text::Line;
 pub use verdict::{judge, Fault, OpenError, OutOfMemory, Verdict};

@@ -184,15 +184,15 @@ pub enum EcbReply {
 #[derive(Clone, Copy, Debug, PartialEq, Eq)]
 pub enum Phase {
     /// Not allocated.
-    Free,
+    Free = 0,
     /// Allocated, and neither paused nor released.
-    Reset,
+    Reset = 1,
     /// Released before its pause.
-    Prereleased,
+    Prereleased = 2,
     /// A task pauses.
-    Paused,
+    Paused = 3,
     /// The pause was released.
-    Released,
+    Released = 4,
 }
 
 /// A reply of a pause element.
@@ -351,7 +351,7 @@ impl Operation {
         }
     }
 
-    fn declared(&self, caller: u32) -> declared::Operation {
+    pub(crate) fn declared(&self, caller: u32) -> declared::Operation {
         let (kind, object) = self.object().numbers();
         let mut made = declared::Operation {
             caller,
@@ -476,6 +476,81 @@ impl Answer {
             }),
         };
         Answer { place, reply }
+    }
+
+    /// Returns the kind of the object that the reply is of, and the numbers.
+    pub(crate) fn declared(&self) -> (u32, declared::Answer) {
+        let (kind, (reply, a, b, c)) = match self.reply {
+            Reply::Ecb(reply) => (0, reply.numbers()),
+            Reply::Element(reply) => (1, reply.numbers()),
+            Reply::Volume(VolumeReply::Value(number)) => (2, (0, number, 0, 0)),
+            Reply::Volume(VolumeReply::Stored) => (2, (1, 0, 0, 0)),
+            Reply::Latch(reply) => (3, reply.numbers()),
+        };
+        let place = self.place;
+        (
+            kind,
+            declared::Answer {
+                place,
+                reply,
+                a,
+                b,
+                c,
+            },
+        )
+    }
+}
+
+impl EcbReply {
+    fn numbers(self) -> (u32, u32, u32, u32) {
+        match self {
+            EcbReply::Armed => (0, 0, 0, 0),
+            EcbReply::Linked(exit) => (1, exit, 0, 0),
+            EcbReply::Complete(code) => (2, code, 0, 0),
+            EcbReply::Waiting => (3, 0, 0, 0),
+            EcbReply::Open => (4, 0, 0, 0),
+            EcbReply::Posted => (5, 0, 0, 0),
+            EcbReply::Woke(exit) => (6, exit, 0, 0),
+            EcbReply::Already(code) => (7, code, 0, 0),
+            EcbReply::Word(word) => (8, word, 0, 0),
+        }
+    }
+}
+
+impl ElementReply {
+    fn numbers(self) -> (u32, u32, u32, u32) {
+        match self {
+            ElementReply::Opened(generation) => (0, generation, 0, 0),
+            ElementReply::InUse => (1, 0, 0, 0),
+            ElementReply::Parked => (2, 0, 0, 0),
+            ElementReply::Given { code, next } => (3, code, next, 0),
+            ElementReply::Spent(generation) => (4, generation, 0, 0),
+            ElementReply::Busy => (5, 0, 0, 0),
+            ElementReply::NotYet => (6, 0, 0, 0),
+            ElementReply::Early => (7, 0, 0, 0),
+            ElementReply::Woke => (8, 0, 0, 0),
+            ElementReply::Already => (9, 0, 0, 0),
+            ElementReply::Closed => (10, 0, 0, 0),
+            ElementReply::State {
+                generation,
+                phase,
+                code,
+            } => (11, generation, phase as u32, code),
+        }
+    }
+}
+
+impl LatchReply {
+    fn numbers(self) -> (u32, u32, u32, u32) {
+        match self {
+            LatchReply::Granted(request) => (0, request, 0, 0),
+            LatchReply::Queued(request) => (1, request, 0, 0),
+            LatchReply::NotNow(request) => (2, request, 0, 0),
+            LatchReply::Waiting => (3, 0, 0, 0),
+            LatchReply::Gone => (4, 0, 0, 0),
+            LatchReply::Released { granted } => (5, granted, 0, 0),
+            LatchReply::Purged { removed, granted } => (6, removed, granted, 0),
+        }
     }
 }
 

@@ -1,8 +1,9 @@
 //! Each function once, with values that are calculated by hand.
 
 use tongsthyme::{
-    judge, Answer, EcbOp, EcbReply, Fault, LatchOp, LatchReply, Machine, Mode, Object, OpenError,
-    Operation, Reply, Request, RequestForm, StepError, Verdict, Wake, WakeCode,
+    judge, line, Answer, EcbOp, EcbReply, ElementOp, ElementReply, Fault, LatchOp, LatchReply,
+    LineError, Machine, Mode, Object, OpenError, Operation, Phase, Reply, Request, RequestForm,
+    StepError, Verdict, VolumeOp, VolumeReply, Wake, WakeCode,
 };
 
 const EMPTY: &[u8] =
@@ -108,6 +109,48 @@ fn shows_latches() {
         }]
     );
     assert_eq!(machine.requests(0), [second]);
+}
+
+#[test]
+fn writes_lines() {
+    let obtain = Operation::Latch(LatchOp::Obtain {
+        latch: 1,
+        requestor: u64::MAX,
+        mode: Mode::Shared,
+        form: RequestForm::Posted(3),
+    });
+    let state = |phase, code| {
+        Reply::Element(ElementReply::State {
+            generation: 9,
+            phase,
+            code,
+        })
+    };
+    let test = Operation::Element(5, ElementOp::Test);
+    for (operation, reply, text) in [
+        (
+            obtain,
+            Reply::Latch(LatchReply::Queued(4)),
+            "2 L 6 OBTAIN 1 18446744073709551615 S P3 = QUEUED 4\n",
+        ),
+        (
+            test,
+            state(Phase::Released, 8),
+            "2 P5 6 TEST = STATE 9 RELEASED 8\n",
+        ),
+        (
+            Operation::Volume(0, VolumeOp::Write(1)),
+            Reply::Volume(VolumeReply::Stored),
+            "2 V0 6 WRITE 1 = STORED\n",
+        ),
+    ] {
+        let answer = Answer { place: 6, reply };
+        assert_eq!(line(2, operation, answer).as_deref(), Ok(text));
+    }
+    for reply in [state(Phase::Free, 8), Reply::Volume(VolumeReply::Value(1))] {
+        let answer = Answer { place: 6, reply };
+        assert_eq!(line(2, test, answer), Err(LineError::NoSuchEvent));
+    }
 }
 
 #[test]
