@@ -1,6 +1,6 @@
 //! What the numbers of a reply mean: specs/Reply.
 
-ghost use Rattle.std.specs.Prelude.{◌≡◌, IsTrue};
+ghost use Rattle.std.specs.Prelude.{◌≡◌};
 ghost use Rattle.mv_element.specs.Code.{keeps_code};
 ghost use Rattle.mv_oracle.specs.Reply.{ecb_reply_of, phase_of, state_of, element_reply_of, volume_reply_of, latch_reply_of, reply_of};
 
