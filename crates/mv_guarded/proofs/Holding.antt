@@ -1,8 +1,8 @@
 -- What a call leaves of its task: which latch the task holds by its log, what the call read, and the lock discipline. For programs.
 use Rattle.std.proofs.Common.{◌≡◌, ℕ, ◌<◌, ◌≤◌, ◌||◌, Bool, false, List, [], ◌∷◌, ◌++◌, map, Result, Ok, Err, inl, inr, refl, sym, ap, ◌∙◌, subst}
-use Rattle.std.proofs.Common.{arith}
+use Rattle.std.proofs.Common.{true, append_assoc, arith}
 use Rattle.std.specs.List.{AllByRecursion, Contains, list_any}
-use Rattle.std.proofs.lemmas.Bool.{eq-eqb}
+use Rattle.std.proofs.lemmas.Bool.{eq-eqb, false≢true}
 use Rattle.std.proofs.lemmas.List.{append-nil}
 use Rattle.std.proofs.lemmas.List.Elements.{Contains-push}
 use Rattle.std.proofs.lemmas.List.Folds.{list_any-append}
@@ -24,12 +24,13 @@ use Rattle.mv_machine.specs.Kept.{StandingRequest, standing, stands_with}
 use Rattle.mv_machine.specs.Reach.{release_cost}
 use Rattle.mv_machine.specs.Setup.{Setup}
 use Rattle.mv_machine.proofs.EntryRuns.{entry_of}
+use Rattle.mv_machine.proofs.Lists.{all_push}
 use Rattle.mv_board.specs.Faces.{CallerFace}
 use Rattle.mv_calls.specs.Keeping.{kept_of}
 use Rattle.mv_calls.specs.LatchCalls.{obtain, release_latch}
 use Rattle.mv_calls.specs.Program.{Done, Call, on_volume}
 use Rattle.mv_calls.specs.Refusal.{Refusal}
-use Rattle.mv_calls.specs.Sections.{tells_grant}
+use Rattle.mv_calls.specs.Sections.{tells_grant, is_write}
 use Rattle.mv_calls.specs.Waits.{read_volume, write_volume, the_value, stored}
 use Rattle.mv_calls.proofs.Purged.{standing_from-append}
 use Rattle.mv_wait.specs.Run.{IsServed}
@@ -46,7 +47,7 @@ use Rattle.mv_ordered.specs.Held.{named, held, without, HasObtained}
 use Rattle.mv_ordered.specs.LatchOrder.{HasLockDiscipline}
 use Rattle.mv_ordered.proofs.Calls.{IsPlain, IsNoLatchOp, call_keeps_discipline, wait_keeps_discipline, obtain_holds, other_holds}
 use Rattle.mv_ordered.proofs.Calls.{below_held, release_holds}
-use Rattle.mv_guarded.specs.Guarded.{HoldsLatch, Reads, TakesAlone}
+use Rattle.mv_guarded.specs.Guarded.{HoldsLatch, KeepsLatch, Reads, HasRead, TakesAlone}
 
 -- ---- a task that was granted a latch holds it
 
@@ -168,10 +169,79 @@ read_one n x t u s =
       reads = record { object = one.object; op = one.makes; reply = value_of one.heard.entry.reply x (one.done ∙ ap Done s.is) };
     }
 
+-- so what was read under the latch
+pub just_read : (latch n k x : ℕ) (asked : Mode) (log : List Entry) (e : Entry) → HoldsLatch latch asked k log → Reads n x e
+    → HasRead latch n k x (log ++ e ∷ [])
+just_read latch n k x asked log e holds reads = record {
+  before = log;
+  entry = e;
+  since = [];
+  split = refl;
+  asked = asked;
+  holds = holds;
+  reads = reads;
+  inside = tt;
+  unwritten = tt;
+}
+
+-- and after an entry that neither releases the latch nor writes that volume
+pub still_read : (latch n k x : ℕ) (log : List Entry) (e : Entry) → KeepsLatch latch e.op → (e.object ≡ Volume n → is_write e.op ≡ true → ⊥)
+    → HasRead latch n k x log → HasRead latch n k x (log ++ e ∷ [])
+still_read latch n k x log e keeps none r = record {
+  before = r.before;
+  entry = r.entry;
+  since = r.since ++ e ∷ [];
+  split = ap (λ xs. xs ++ e ∷ []) r.split ∙ append_assoc r.before (r.entry ∷ r.since) (e ∷ []);
+  asked = r.asked;
+  holds = r.holds;
+  reads = r.reads;
+  inside = all_push (λ y. KeepsLatch latch y.op) r.since e r.inside keeps;
+  unwritten = all_push (λ y. y.object ≡ Volume n → is_write y.op ≡ true → ⊥) r.since e r.unwritten none;
+}
+
 pub wrote_one : (n x : ℕ) (Is : Unit {0} → Type 0) (t u : CallerFace) → (s : IsServed 1 (write_volume n x) Is t u)
     → Once (Volume n) (op_on.Volume (Write x)) (λ h. on_volume h.entry.reply stored) s.answer t u
 wrote_one n x Is t u s =
     served_once 1 (write_volume n x) Is (Volume n) (op_on.Volume (Write x)) (λ h. on_volume h.entry.reply stored) t u s (omega arith) refl
+
+-- ---- calls in a section
+
+-- a read: the task still holds the latch, and has read this number
+pub read_inside : (latch n x : ℕ) (asked : Mode) (t u : CallerFace) → HoldsLatch latch asked t.number t.log
+    → IsServed 1 (read_volume n) (λ a. a ≡ x) t u → HoldsLatch latch asked u.number u.log × HasRead latch n u.number x u.log
+read_inside latch n x asked t u holds s =
+    let one = read_one n x t u s in
+    let same = sym s.same.number in (
+      subst (λ k. HoldsLatch latch asked k u.log) same (subst (HoldsLatch latch asked t.number) (sym one.logged)
+          (still_holds latch asked t.number n t.log one.entry one.reads.object holds)),
+      subst (λ k. HasRead latch n k x u.log) same (subst (HasRead latch n t.number x) (sym one.logged)
+          (just_read latch n t.number x asked t.log one.entry holds one.reads)),
+    )
+
+-- what it had read before, it has still read
+pub read_past_read : (latch m y n x : ℕ) (t u : CallerFace) → HasRead latch m t.number y t.log
+    → IsServed 1 (read_volume n) (λ a. a ≡ x) t u → HasRead latch m u.number y u.log
+read_past_read latch m y n x t u read s =
+    let one = read_one n x t u s in
+    subst (λ k. HasRead latch m k y u.log) (sym s.same.number) (subst (HasRead latch m t.number y) (sym one.logged)
+    (still_read latch m t.number y t.log one.entry (subst (KeepsLatch latch) (sym one.reads.op) tt)
+    (λ at is. false≢true (sym (ap is_write one.reads.op) ∙ is)) read))
+
+-- a write of a volume: the task still holds the latch, and has read what it had read of other volumes
+pub write_inside : (latch n x : ℕ) (asked : Mode) (Is : Unit {0} → Type 0) (t u : CallerFace) → HoldsLatch latch asked t.number t.log
+    → IsServed 1 (write_volume n x) Is t u → HoldsLatch latch asked u.number u.log
+write_inside latch n x asked Is t u holds s =
+    let one = wrote_one n x Is t u s in
+    subst (λ k. HoldsLatch latch asked k u.log) (sym s.same.number) (subst (HoldsLatch latch asked t.number) (sym one.logged)
+    (still_holds latch asked t.number n t.log one.heard.entry one.object holds))
+
+pub read_past_write : (latch m y n x : ℕ) (Is : Unit {0} → Type 0) (t u : CallerFace) → (n ≡ m → ⊥) → HasRead latch m t.number y t.log
+    → IsServed 1 (write_volume n x) Is t u → HasRead latch m u.number y u.log
+read_past_write latch m y n x Is t u other read s =
+    let one = wrote_one n x Is t u s in
+    subst (λ k. HasRead latch m k y u.log) (sym s.same.number) (subst (HasRead latch m t.number y) (sym one.logged)
+    (still_read latch m t.number y t.log one.heard.entry (subst (KeepsLatch latch) (sym one.makes) tt)
+    (λ at is. other (let same : Volume n ≡ Volume m = sym one.object ∙ at in cc same)) read))
 
 -- ---- the lock discipline, and the list of the latches that a task has
 

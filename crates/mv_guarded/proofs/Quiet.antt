@@ -1,5 +1,6 @@
 -- Calls that write no volume and purge no requestor, and keep the lock discipline: what a task's log keeps over them. For programs.
-use Rattle.std.proofs.Common.{◌≡◌, ℕ, ◌≤◌, true, false, List, [], ◌∷◌, Option, Result, refl, sym, ◌∙◌, subst}
+use Rattle.std.proofs.Common.{◌≡◌, ℕ, ◌≤◌, ◌-◌, ◌&&◌, nat_lt, Bool, true, false, List, [], ◌∷◌, Option, None, Result, slice_get, refl, sym, ◌∙◌}
+use Rattle.std.proofs.Common.{subst}
 use Rattle.std.proofs.lemmas.Bool.{false≢true}
 use Rattle.std.specs.List.{AllByRecursion}
 use Rattle.mv_latch.specs.declared.operation.LatchOp.TheVariants.{Release, Purge}
@@ -12,9 +13,10 @@ use Rattle.mv_machine.specs.declared.entry.Op.{Op}
 use Rattle.mv_machine.specs.declared.entry.Op.TheVariants as op_on
 use Rattle.mv_machine.specs.declared.entry.VolumeOp.TheVariants.{Write}
 use Rattle.mv_machine.specs.Reach.{release_cost}
-use Rattle.mv_machine.specs.Setup.{Setup}
+use Rattle.mv_machine.specs.Setup.{Setup, starts_from}
 use Rattle.mv_board.specs.Faces.{CallerFace}
 use Rattle.mv_calls.specs.declared.outcomes.PostAnswer.{PostAnswer}
+use Rattle.mv_calls.specs.Exits.{StartsExit}
 use Rattle.mv_calls.specs.Keeping.{kept_of}
 use Rattle.mv_calls.specs.LatchCalls.{Requested, obtain, release_latch, let_go}
 use Rattle.mv_calls.specs.Posts.{post}
@@ -58,16 +60,21 @@ obtain_is_quiet c latch requestor most mode Is t u s one = record {
   keeps = one_request_keeps_discipline c latch requestor most t.number mode Waiting t.log u.log t.told u.told s.answer s.made one;
 }
 
--- a release that posts nothing
+-- a release that posts nothing is one entry
+pub release_grown : (P : Object → Op → Type 0) (c : Setup) (latch id : ℕ) (Is : Result ℕ Refusal → Type 0) (t u : CallerFace)
+    → IsServed (release_cost c) (release_latch c latch id false) Is t u → release_cost c ≤ 1
+    → P Latches (op_on.Latch (Release latch id false)) → Grown P t u
+release_grown P c latch id Is t u s one =
+    let next : Heard → Program (Result ℕ Refusal) = λ h. on_latch h.entry.reply (let_go c false h.wakes (kept_of t.number t.log)) in
+    once_grown P Latches (op_on.Latch (Release latch id false)) next s.answer t u
+    (served_once (release_cost c) (release_latch c latch id false) Is Latches (op_on.Latch (Release latch id false)) next t u s one refl)
+
 pub release_is_quiet : (c : Setup) (latch id : ℕ) (Is : Result ℕ Refusal → Type 0) (t u : CallerFace)
     → IsServed (release_cost c) (release_latch c latch id false) Is t u → release_cost c ≤ 1 → IsQuiet t u
-release_is_quiet c latch id Is t u s one =
-    let next : Heard → Program (Result ℕ Refusal) = λ h. on_latch h.entry.reply (let_go c false h.wakes (kept_of t.number t.log)) in record {
-      grown = once_grown IsCalm Latches (op_on.Latch (Release latch id false)) next s.answer t u
-          (served_once (release_cost c) (release_latch c latch id false) Is Latches (op_on.Latch (Release latch id false)) next t u s one
-          refl) tt;
-      keeps = release_keeps_discipline c latch id (release_cost c) t.number false t.log u.log t.told u.told s.answer s.made one;
-    }
+release_is_quiet c latch id Is t u s one = record {
+  grown = release_grown IsCalm c latch id Is t u s one tt;
+  keeps = release_keeps_discipline c latch id (release_cost c) t.number false t.log u.log t.told u.told s.answer s.made one;
+}
 
 pub read_is_quiet : (n x : ℕ) (t u : CallerFace) → IsServed 1 (read_volume n) (λ a. a ≡ x) t u → IsQuiet t u
 read_is_quiet n x t u s = record {
@@ -144,3 +151,15 @@ calm_values n x [] calm = refl
 calm_values n x (e ∷ es) calm =
     calm_values n (value_with n x e.object e.op) es calm.1
     ∙ unwritten n x e.object e.op (λ at is. calm_is_no_write e.object e.op calm.0 is)
+
+-- ---- a configuration without exits
+
+none_starts : (e : ℕ) (b : Bool) → (b && starts_from e None) ≡ true → ⊥
+none_starts e true is = false≢true is
+none_starts e false is = false≢true is
+
+-- no exit starts from a block
+pub no_exit_starts : (c : Setup) (e : ℕ) → c.exits ≡ [] → StartsExit c e → ⊥
+no_exit_starts c e none starts =
+    none_starts e (nat_lt 0 starts.0)
+    (subst (λ xs. (nat_lt 0 starts.0 && starts_from e (slice_get xs (starts.0 - 1))) ≡ true) none starts.1)

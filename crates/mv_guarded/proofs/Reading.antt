@@ -21,7 +21,7 @@ use Rattle.mv_machine.specs.System.{opening}
 use Rattle.mv_machine.proofs.Histories.{LegalFrom-front}
 use Rattle.mv_machine.proofs.Places.{of_mine, of_other}
 use Rattle.mv_calls.specs.Sections.{HasGrant, IsHolder, IsSection, IsGuarded, AreOwn, is_write}
-use Rattle.mv_calls.proofs.Sections.{section_is_own}
+use Rattle.mv_calls.proofs.Sections.{section_is_own, one_holder}
 use Rattle.mv_guarded.specs.Guarded.{HoldsLatch, KeepsLatch, AreInside, IsGuarding, GuardsVolume, HasRead, IsOnlyWriter, IsUnwritten, value}
 use Rattle.mv_guarded.proofs.Rules.{all_split, entry_keeps, Place, placed}
 use Rattle.mv_guarded.proofs.Volumes.{stays_same, write_of, read_is_value}
@@ -178,3 +178,13 @@ stays c es start inside later latch n k asked g is holds own none =
 pub value_read : (c : Setup) (es before later : List Entry) (latch n k x : ℕ) → GuardsVolume c es latch n → es ≡ before ++ later
     → HasRead latch n k x (of k before) → value c before n ≡ x
 value_read c es before later latch n k x g is r = value_is_read c es latch n g before later k x is r
+
+-- ---- two holders
+
+-- two callers that hold the latch by their own logs, one of them alone, are the same caller
+pub same_holder : (c : Setup) (es before later : List Entry) (latch n j k : ℕ) (asked : Mode) → GuardsVolume c es latch n
+    → es ≡ before ++ later → HoldsLatch latch Exclusive j (of j before) → HoldsLatch latch asked k (of k before) → j ≡ k
+same_holder c es before later latch n j k asked g is alone h =
+    (one_holder c j k h.request alone.request before (legal_front c es latch n g before later is)
+    (grants c es before later latch n j alone.request g is alone.granted) (grants c es before later latch n k h.request g is h.granted)
+    (alone.here ∙ sym h.here) alone.mode).0

@@ -12,6 +12,7 @@ use Rattle.mv_machine.specs.System.{opening}
 use Rattle.mv_machine.proofs.Lists.{all_back}
 use Rattle.mv_machine.proofs.Objects.{of-append}
 use Rattle.mv_machine.proofs.Places.{of_mine, of_other}
+use Rattle.mv_board.specs.Faces.{CallerFace}
 use Rattle.mv_calls.proofs.Interleaved.{callers_exist}
 use Rattle.mv_guarded.specs.Guarded.{Keeps}
 
@@ -34,6 +35,22 @@ module _ (rule : ℕ → List Entry → Object → Op → Type 0) (k : ℕ) wher
       subst (Keeps rule k []) (append_assoc log (e ∷ []) es)
       (keeps_append P may (log ++ e ∷ []) es (keeps_push [] log e all (may log e.object e.op each.0)) each.1)
 
+  -- entries more, before each of which something holds that they keep, and by which the rule lets a caller make them
+  pub keeps_while : (P : Object → Op → Type 0) (I : List Entry → Type 0)
+      → ((log : List Entry) (e : Entry) → I log → P e.object e.op → rule k log e.object e.op × I (log ++ e ∷ []))
+      → (log es : List Entry) → Keeps rule k [] log → I log → AllByRecursion (λ e. P e.object e.op) es
+      → Keeps rule k [] (log ++ es) × I (log ++ es)
+  keeps_while P I may log [] all now each = (subst (Keeps rule k []) (sym (append-nil log)) all, subst I (sym (append-nil log)) now)
+  keeps_while P I may log (e ∷ es) all now each =
+      let one = may log e now each.0 in
+      let rest = keeps_while P I may (log ++ e ∷ []) es (keeps_push [] log e all one.0) one.1 each.1 in
+      (subst (Keeps rule k []) (append_assoc log (e ∷ []) es) rest.0, subst I (append_assoc log (e ∷ []) es) rest.1)
+
+  -- the entries before a moment
+  pub keeps_front : (before front later : List Entry) → Keeps rule k before (front ++ later) → Keeps rule k before front
+  keeps_front before [] later all = tt
+  keeps_front before (x ∷ front) later all = (all.0, keeps_front (before ++ x ∷ []) front later all.1)
+
   -- the entry at a place
   pub keeps_at : (before front : List Entry) (e : Entry) (later : List Entry) → Keeps rule k before (front ++ e ∷ later)
       → rule k (before ++ front) e.object e.op
@@ -48,6 +65,13 @@ module _ (rule : ℕ → List Entry → Object → Op → Type 0) (k : ℕ) wher
   keeps_weaker weaker follows before [] all = tt
   keeps_weaker weaker follows before (e ∷ es) all =
       (follows before e.object e.op all.0, keeps_weaker weaker follows (before ++ e ∷ []) es all.1)
+
+-- a task that has made one entry more, which the rule allows
+pub keeps_event : (rule : ℕ → List Entry → Object → Op → Type 0) (t u : CallerFace) (e : Entry) → u.number ≡ t.number
+    → u.log ≡ t.log ++ e ∷ [] → rule t.number t.log e.object e.op → Keeps rule t.number [] t.log → Keeps rule u.number [] u.log
+keeps_event rule t u e same logged may keeps =
+    subst (λ k. Keeps rule k [] u.log) (sym same)
+    (subst (Keeps rule t.number []) (sym logged) (keeps_push rule t.number [] t.log e keeps may))
 
 -- ---- entries of a history
 
@@ -76,6 +100,14 @@ entry_keeps rule c es legal all front e later is =
     keeps_at rule k [] (of k front) e (of k later)
     (subst (Keeps rule k []) (ap (of k) is ∙ of-append k front (e ∷ later) ∙ ap (λ xs. of k front ++ xs) (of_mine k e later refl))
     (all k (caller_exists c es front e later legal is)))
+
+-- each caller has kept its rule at each moment
+pub keeps_so_far : (rule : ℕ → List Entry → Object → Op → Type 0) (c : Setup) (es : List Entry)
+    → ((k : ℕ) → k < c.callers → Keeps rule k [] (of k es)) → (before later : List Entry) → es ≡ before ++ later → (k : ℕ)
+    → k < c.callers → Keeps rule k [] (of k before)
+keeps_so_far rule c es all before later is k lt =
+    keeps_front rule k [] (of k before) (of k later)
+    (subst (Keeps rule k []) (ap (of k) is ∙ of-append k before later) (all k lt))
 
 -- ---- a caller's entry, where it is among all
 

@@ -95,6 +95,34 @@ read_is_value c before e later n x l r =
     let told : Some (reply_of.Volume (Value x)) ≡ reply_to s e.caller (Volume n) (op_on.Volume Read) =
     ap (λ y. Some y) (sym r.reply) ∙ h.reply ∙ (λ i. reply_to s e.caller (r.object i) (r.op i)) in cc told
 
+-- the reply of a read
+pub read_replies : (c : Setup) (before : List Entry) (e : Entry) (later : List Entry) (n : ℕ) → Legal c (before ++ e ∷ later)
+    → e.object ≡ Volume n → e.op ≡ op_on.Volume Read → e.reply ≡ reply_of.Volume (Value (value c before n))
+read_replies c before e later n l at is =
+    let s = after c before in
+    let told : Some e.reply ≡ reply_to s e.caller (Volume n) (op_on.Volume Read) =
+    (rest_is_legal c before (e ∷ later) l).0.reply ∙ (λ i. reply_to s e.caller (at i) (is i)) in cc told
+
+-- ---- one entry more
+
+pub value_next : (c : Setup) (before : List Entry) (e : Entry) (later : List Entry) (n : ℕ) → Legal c (before ++ e ∷ later)
+    → value c (before ++ e ∷ []) n ≡ value_with n (value c before n) e.object e.op
+value_next c before e later n l =
+    ap (λ (s : System). (s.volume n).state) (after_longer c before e)
+    ∙ moved_value c (after c before) e.caller e.object e.place e.op e.reply n (rest_is_legal c before (e ∷ later) l).0
+
+-- a write
+pub value_written : (c : Setup) (before : List Entry) (e : Entry) (later : List Entry) (n x : ℕ) → Legal c (before ++ e ∷ later)
+    → e.object ≡ Volume n → e.op ≡ op_on.Volume (Write x) → value c (before ++ e ∷ []) n ≡ x
+value_written c before e later n x l at is =
+    value_next c before e later n l ∙ (λ i. value_with n (value c before n) (at i) (is i))
+    ∙ ap (λ b. if b then x else value c before n) (eq-eqb n n refl)
+
+-- any other entry
+pub value_kept : (c : Setup) (before : List Entry) (e : Entry) (later : List Entry) (n : ℕ) → Legal c (before ++ e ∷ later)
+    → (e.object ≡ Volume n → is_write e.op ≡ true → ⊥) → value c (before ++ e ∷ []) n ≡ value c before n
+value_kept c before e later n l none = value_next c before e later n l ∙ unwritten n (value c before n) e.object e.op none
+
 -- ---- what holds at each moment
 
 module _ (c : Setup) (es : List Entry) (legal : Legal c es) (n : ℕ) (P : List Entry → ℕ → Type 0)
@@ -103,11 +131,7 @@ module _ (c : Setup) (es : List Entry) (legal : Legal c es) (n : ℕ) (P : List 
   moment_next : (before : List Entry) (e : Entry) (later : List Entry) → es ≡ before ++ e ∷ later → P before (value c before n)
       → P (before ++ e ∷ []) (value c (before ++ e ∷ []) n)
   moment_next before e later is p =
-      let l : Legal c (before ++ e ∷ later) = subst (Legal c) is legal in
-      let new : value c (before ++ e ∷ []) n ≡ value_with n (value c before n) e.object e.op =
-      ap (λ (s : System). (s.volume n).state) (after_longer c before e)
-      ∙ moved_value c (after c before) e.caller e.object e.place e.op e.reply n (rest_is_legal c before (e ∷ later) l).0 in
-      subst (P (before ++ e ∷ [])) (sym new) (step before e later is p)
+      subst (P (before ++ e ∷ [])) (sym (value_next c before e later n (subst (Legal c) is legal))) (step before e later is p)
 
   moments : (before rest later : List Entry) → es ≡ before ++ (rest ++ later) → P before (value c before n)
       → P (before ++ rest) (value c (before ++ rest) n)
