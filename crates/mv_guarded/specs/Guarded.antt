@@ -1,5 +1,5 @@
 -- State under a latch: what a caller holds, keeps to and has read by its own log, and what a volume has.
-use Rattle.std.specs.Prelude.{◌≡◌, ℕ, ◌==◌, ◌<◌, true, List, [], ◌∷◌, ◌++◌, if◌then◌else◌}
+use Rattle.std.specs.Prelude.{◌≡◌, ℕ, ◌==◌, ◌<◌, Bool, true, List, [], ◌∷◌, ◌++◌, length, if◌then◌else◌}
 use Rattle.std.specs.List.{AllByRecursion}
 use Rattle.mv_latch.specs.declared.operation.LatchOp.TheVariants.{Obtain, Release, Purge}
 use Rattle.mv_latch.specs.declared.request.Mode.{Mode}
@@ -15,8 +15,12 @@ use Rattle.mv_machine.specs.declared.entry.VolumeReply.TheVariants.{Value}
 use Rattle.mv_machine.specs.Kept.{StandingRequest}
 use Rattle.mv_machine.specs.Legal.{Legal, after, of}
 use Rattle.mv_machine.specs.Setup.{Setup}
+use Rattle.mv_board.specs.Faces.{BoardFace, CallerFace, IsOf}
+use Rattle.mv_calls.specs.Rest.{IsAtRest}
 use Rattle.mv_calls.specs.Sections.{HasGrant, is_write}
 use Rattle.mv_ordered.specs.Held.{held}
+use Rattle.mv_ordered.specs.LatchOrder.{HasLockDiscipline}
+use Rattle.mv_ordered.specs.WaitChain.{WaitsAt, SomeoneContinues}
 
 -- ---- what a caller holds
 
@@ -41,6 +45,15 @@ AreInside latch es = AllByRecursion (λ e. KeepsLatch latch e.op) es
 abbrev pub AllReleased : Setup → List Entry → Type 0
 AllReleased c es = (k : ℕ) → k < c.callers → held (of k es) ≡ []
 
+-- no entry of a caller is among these
+abbrev pub has_finished : List Entry → ℕ → Bool
+has_finished later k = length (of k later) == 0
+
+-- at each moment at which a caller waits at a latch, a caller whose last entry is still to come can continue
+abbrev pub UnfinishedContinue : Setup → List Entry → Type 0
+UnfinishedContinue c es = (before later : List Entry) (k latch : ℕ) → es ≡ before ++ later → WaitsAt c before k latch
+    → SomeoneContinues c before (has_finished later)
+
 -- ---- rules on a caller's log
 
 -- Each of these entries is what a rule lets caller k do after its entries before that one. A rule speaks of a caller, its entries so far, an
@@ -48,6 +61,13 @@ AllReleased c es = (k : ℕ) → k < c.callers → held (of k es) ≡ []
 abbrev pub Keeps : (ℕ → List Entry → Object → Op → Type 0) → ℕ → List Entry → List Entry → Type 0
 Keeps rule k before [] = Unit {0}
 Keeps rule k before (e ∷ es) = rule k before e.object e.op × Keeps rule k (before ++ e ∷ []) es
+
+-- a task of this board that is at rest, and has kept a rule and the lock discipline
+pub record IsCareful (rule : ℕ → List Entry → Object → Op → Type 0) (b : BoardFace) (t : CallerFace) : Type 0 where
+  pub task : IsOf b t
+  pub rest : IsAtRest t.log
+  pub allowed : Keeps rule t.number [] t.log
+  pub discipline : HasLockDiscipline t.log
 
 -- the rule of a caller that guards volume n by a latch: it purges no requestor, and writes the volume only while it holds the latch alone
 abbrev pub IsGuarding : ℕ → ℕ → ℕ → List Entry → Object → Op → Type 0

@@ -8,8 +8,9 @@ ghost use Rattle.mv_machine.specs.Kept.{StandingRequest};
 ghost use Rattle.mv_machine.specs.Legal.{Legal, of};
 ghost use Rattle.mv_machine.specs.Setup.{Setup};
 ghost use Rattle.mv_calls.specs.Sections.{HasGrant, IsHolder, IsGuarded, is_write};
-ghost use Rattle.mv_ordered.specs.WaitChain.{HoldsAt};
+ghost use Rattle.mv_ordered.specs.WaitChain.{HoldsAt, KeepsLockDiscipline};
 ghost use Rattle.mv_guarded.specs.Guarded.{HoldsLatch, GuardsVolume, AreInside, HasRead, IsOnlyWriter, IsUnwritten, value, value_from, AreAlone};
+ghost use Rattle.mv_guarded.specs.Guarded.{AllReleased, UnfinishedContinue};
 
 /// In a history in which every caller guards a volume by a latch, a caller that was granted a latch holds it, and the volume is written
 /// only under its latch. Throughout a section of the latch, in either mode, no other caller writes the volume. What a caller read there the
@@ -41,4 +42,10 @@ pub fn exclusive_latches_have_one_holder()
     ensures { (c : Setup) (es before later : List Entry) (latch j k : ℕ) → Legal c es
         → ((m : ℕ) → m < c.callers → AreAlone (of m es)) → es ≡ before ++ later → HoldsAt c before j latch → HoldsAt c before k latch
         → j ≡ k }
+{}
+
+/// If each caller keeps the lock discipline and has released its latches in the end, no caller is held up by one that has made its last
+/// entry: while a caller waits at a latch, one whose last entry is still to come can continue.
+pub fn released_latches_hold_up_no_caller()
+    ensures { (c : Setup) (es : List Entry) → KeepsLockDiscipline c es → AllReleased c es → UnfinishedContinue c es }
 {}

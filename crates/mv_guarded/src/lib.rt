@@ -5,5 +5,6 @@
 mod laws;
 
 pub use laws::{
-    exclusive_latches_have_one_holder, only_writers_know_their_volumes, sections_see_one_number,
+    exclusive_latches_have_one_holder, only_writers_know_their_volumes,
+    released_latches_hold_up_no_caller, sections_see_one_number,
 };
