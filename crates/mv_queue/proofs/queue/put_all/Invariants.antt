@@ -1,0 +1,14 @@
+use Rattle.std.proofs.Common.{◌≡◌, ◌+◌, ◌*◌, ◌≤◌, ◌++◌, []}
+use Rattle.mv_ordered.specs.Held.{held}
+use Rattle.mv_queue.specs.Queue.{IsReady, went_in, came_out}
+use Rattle.mv_queue.proofs.queue.put_all.Given as goal
+
+abbrev pub invariant-loop-tried : goal.invariant-loop-tried
+invariant-loop-tried g l = record {
+  ready : IsReady l.station l.task;
+  number : l.task.number ≡ l.fn.task.number;
+  bare : held l.task.log ≡ [];
+  put : went_in l.task.log ++ l.rest ≡ l.items;
+  taken : came_out l.task.log ≡ came_out l.fn.task.log;
+  left : 10 * l.tries ≤ l.task.left + 10 * l.tried;
+}
