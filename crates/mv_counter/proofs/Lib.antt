@@ -1,0 +1,2 @@
+-- count, and what add_one makes
+mod Counted

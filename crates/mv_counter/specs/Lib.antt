@@ -1,0 +1,2 @@
+-- the configuration, what each task keeps to, and what follows
+pub mod Counter
