@@ -21,7 +21,6 @@ use Rattle.mv_queue.specs.Setup.{put_count, queue_setup, room, taken_count}
 use Rattle.mv_wait.proofs.Compose.{served_left}
 use Rattle.mv_wait.specs.Run.{IsServed}
 use Rattle.std.proofs.Common.{List, [], ap, append_assoc, arith, inr, le_refl, refl, subst, sym, ℕ, ◌++◌, ◌+◌, ◌∙◌, ◌≡◌, ◌≤◌, ◌⊎◌}
-use Rattle.mv_machine.specs.declared.entry.Op.TheVariants as op_on
 
 -- ---- the configuration
 

@@ -1,4 +1,4 @@
-use Rattle.std.proofs.Common.{◌≡◌, ℕ, List, [], refl, sym, subst}
+use Rattle.std.proofs.Common.{ℕ, refl, sym, subst}
 use Rattle.mv_board.specs.Faces.{BoardFace, CallerFace, IsFresh}
 use Rattle.mv_guarded.proofs.Careful.{careful_fresh}
 use Rattle.mv_queue.specs.Queue.{IsAllowed, IsEven, IsReady, IsOpen}
