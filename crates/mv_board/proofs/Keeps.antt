@@ -1,6 +1,7 @@
 -- Each step keeps the rule.
-use Rattle.std.proofs.Common.{◌≡◌, ℕ, zero, suc, ◌+◌, ◌/◌, ◌%◌, ◌^◌, ◌<◌, ◌≤◌, ◌==◌, true, List, [], ◌∷◌, ◌++◌, length, set, get_or, Some}
+use Rattle.std.proofs.Common.{◌≡◌, ℕ, zero, suc, ◌+◌, ◌/◌, ◌%◌, ◌^◌, ◌<◌, ◌≤◌, ◌==◌, Bool, true, false, List, [], ◌∷◌, ◌++◌, length, set, get_or, Some}
 use Rattle.std.proofs.Common.{sym, refl, ap, ◌∙◌, subst, arith, eq-eqb, ne_eqb}
+use Rattle.std.proofs.lemmas.Bool.{eqb-true}
 use Rattle.std.specs.List.{AllByRecursion}
 use mathlib.Core.Logic.{dite}
 use mathlib.Core.Option.{none, some, some-injective, some-ne-none}
@@ -37,6 +38,13 @@ use Rattle.mv_board.proofs.Machine.{object_again, state_there, word_by_state, ze
 use Rattle.mv_board.proofs.Moves.{event, look}
 use Rattle.mv_board.proofs.Standing.{Table, remerge, turn_put, mine, caller_made, has_room, stands_for, meets, possible}
 use Rattle.mv_board.proofs.Views.{each_put, each_push, put_there, tally_set, tally_push, tally_two, holders_mine, holders_other}
+
+-- an exchange of 0 for 0 changes no word
+unchanged : (n : ℕ) → n ≡ either (n == 0) 0 n
+unchanged n = go (n == 0) refl where
+  go : (b : Bool) → (n == 0) ≡ b → n ≡ either b 0 n
+  go true is = eqb-true n 0 is
+  go false is = refl
 
 module _ (c : Setup) (slots id : ℕ) (me : Me Item View) (p : Part) (more : List Part) (is : me.0.parts ≡ p ∷ more) where
   -- what the seat learns of its event
@@ -76,6 +84,12 @@ module _ (c : Setup) (slots id : ℕ) (me : Me Item View) (p : Part) (more : Lis
           meets = subst (λ q. Meets me.0 q x) (sym again) (meets c s h r id me.0 p more at is o has);
         },
       )
+
+  pub looks_by_exchange : (o : Object) → HasWord c o → Allows (Ruled c) slots id me (word_number o) (λ n. either (n == 0) 0 n)
+      (Looked (step slots (word_number o) 0 0 none) me)
+  looks_by_exchange o has =
+      subst (λ (f : ℕ → ℕ). Allows (Ruled c) slots id me (word_number o) f (Looked (step slots (word_number o) 0 0 none) me))
+      (λ i n. unchanged n i) (looks o has)
 
   pub happens : (o : Object) (op : Op) (old place new : ℕ) (reply : Reply) → HasWord c o → allowed c p.caller p.log o op ≡ true → 0 < p.left
       → changed o op old ≡ Some (place, new, reply)

@@ -13,9 +13,9 @@ ghost use Rattle.mv_board.specs.Faces.{IsOf, IsFresh, AreFresh, Happened, Found,
 ghost use Rattle.mv_board.specs.declared.watch.Watch.{Watch as AnyWatch};
 ghost use Rattle.mv_machine.specs.System.{opening};
 ghost use Rattle.mv_board.specs.Rule.{IsLists};
-ghost use Rattle.mv_board.specs.Steps.{MadeAfterLooks, watch_of};
+ghost use Rattle.mv_board.specs.Steps.{MadeAfterLooks, Meets, watch_of};
 ghost use Rattle.mv_board.specs.Words.{HasWord, test_of as test_on, word_count};
-ghost use Rattle.mv_board.specs.View.{fresh_view, first_view, own};
+ghost use Rattle.mv_board.specs.View.{fresh_view, first_view, met, own};
 
 use crate::caller::{Caller, Events, Moved};
 use crate::item::{Item, Lists};
@@ -25,6 +25,8 @@ use crate::watch::Watch;
 use crate::words::{BEFORE_ECBS, PLACE, change, is_ready, test_of, word_number};
 use atomic_table::{Seat, Table};
 use crossbeam_utils::Backoff;
+use mv_ecb::EcbOp;
+use mv_element::ElementOp;
 use mv_io::NoMemory;
 use mv_machine::{Log, MergeRoom, Object, Op, OpenLog, Reply, ValidConfig};
 use std::alloc::Global;
@@ -255,12 +257,46 @@ impl Board {
         ensures possible { IsPossible self.now.config caller.new.number caller.new.log caller.new.told }
         ensures listed { IsAsListed caller.old object op result }
     {
-        let (place, reply) = self.exchange(rt, &mut caller.seat, object, op);
+        let far = self.is_far(caller.events.caller, object, op);
+        let (place, reply) = self.exchange(rt, &mut caller.seat, object, op, far);
         caller.events.append(object, place, op, reply);
         reply
     }
 
-    // Makes one event of a seat on an object's word, and returns its place and its reply.
+    // Whether an operation signals another caller, whose processor then has the cache line of the object's word.
+    #[inline(always)]
+    fn is_far(&self, caller: u32, object: Object, op: Op) -> bool
+        requires { HasWord self.now.config object }
+    {
+        match (object, op) {
+            (Object::Ecb(ecb), Op::Ecb(EcbOp::Post(_))) => !self.config.owns_ecb(caller, ecb),
+            (Object::Element(element), Op::Element(ElementOp::Release(..))) => {
+                !self.config.owns_element(caller, element)
+            }
+            _ => false,
+        }
+    }
+
+    // Loads an object's word for an event on it. If another processor has the word's cache line, an exchange that changes nothing
+    // takes the line at once; a load would share it, and the event would then have to take it.
+    #[inline(always)]
+    fn first_look(&self, seat: &mut Seat<Item, View>, object: Object, far: bool) -> u64
+        requires board { seat.old.table_id ≡ self.now.table }
+        requires word { HasWord self.now.config object }
+        requires alone { seat.old.me.0.parts ≡ own seat.old.me.0 ∷ [] }
+        ensures same { (seat.new.table_id ≡ seat.old.table_id) × (seat.new.me.1 ≡ seat.old.me.1) }
+        ensures looked { (seat.new.me.0 ≡ met object result seat.old.me.0) × Meets seat.old.me.0 object result }
+    {
+        let shared = &self.table.shared;
+        let word = word_number(object);
+        if far {
+            return shared.compare_exchange::<Look>(seat, word, 0, 0);
+        }
+        shared.load::<Look>(seat, word)
+    }
+
+    // Makes one event of a seat on an object's word, and returns its place and its reply. `far` says whether another processor has
+    // the word's cache line.
     #[inline(always)]
     fn exchange<R: Wait>(
         &self,
@@ -268,6 +304,7 @@ impl Board {
         seat: &mut Seat<Item, View>,
         object: Object,
         op: Op,
+        far: bool,
     ) -> (u32, Reply)
         requires board { seat.old.table_id ≡ self.now.table }
         requires about { seat.old.me.0.about ≡ self.now.config ∷ [] }
@@ -281,7 +318,7 @@ impl Board {
         let shared = &self.table.shared;
         let word = word_number(object);
         let backoff = Backoff::new();
-        let mut seen = shared.load::<Look>(seat, word);
+        let mut seen = self.first_look(seat, object, far);
         for _ in rt.forever() {
             let Some((place, next, reply)) = change(object, op, seen) else {
                 unreachable!()

@@ -8,30 +8,19 @@ use Rattle.mv_board.specs.View.{own, met}
 use Rattle.mv_board.specs.Words.{HasWord}
 use Rattle.mv_board.proofs.Boards.{has_word, below, object_is}
 use Rattle.mv_board.proofs.Changing.{fields_allowed, meets_changed}
-use Rattle.mv_board.proofs.Keeps.{looks, happens}
+use Rattle.mv_board.proofs.Keeps.{happens}
 use Rattle.mv_board.proofs.Looks.{no_looks, look_more, own_kept, alone_still, meets_still, after_looks}
 use Rattle.mv_board.proofs.board.Board.exchange.Goals as goal
-
-pub load-seen-requires : goal.load-seen-requires
-load-seen-requires g c =
-    let has : HasWord c.self.inside.config c.args.object = has_word c.self.inside _ _ c.self.view_is c.requires.word in (
-      c.requires.board ∙ sym (ap (λ (b : BoardFace). b.table) c.self.view_is),
-      below c.self.inside _ _ c.self.invariant has c.word_number-word.ensures,
-      rw (c.word_number-word.ensures, c.self.invariant.key)
-          (looks c.self.inside.config _ _ _ _ [] c.requires.alone c.args.object has),
-    )
 
 pub loop-init : goal.loop-init
 loop-init g c =
     let v = c.args.seat.now.me.0 in
-    let has : HasWord c.self.inside.config c.args.object = has_word c.self.inside _ _ c.self.view_is c.requires.word in
-    let here = object_is c.self.inside c.args.object c.word_number-word.result c.self.invariant has c.word_number-word.ensures in
-    let looked = c.load-seen.ensures.2 in record {
+    let looked = c.first_look-seen.ensures.looked in record {
       table = refl;
       slots = refl;
-      looks = subst (LooksOn v c.args.object) (sym (looked.view ∙ ap (λ o. met o c.load-seen.result v) here))
-          (look_more v v c.args.object c.load-seen.result c.requires.alone (no_looks v c.args.object c.requires.alone));
-      meets = subst (λ o. Meets v o c.load-seen.result) here looked.meets;
+      looks = subst (LooksOn v c.args.object) (sym looked.0)
+          (look_more v v c.args.object c.first_look-seen.result c.requires.alone (no_looks v c.args.object c.requires.alone));
+      meets = looked.1;
     }
 
 pub change-requires : goal.change-requires
@@ -57,7 +46,7 @@ compare_exchange_with-found-requires g c =
     subst (λ (p : Part). allowed c.self.inside.config p.caller p.log c.args.object c.args.op ≡ true) (sym same)
     (subst (λ (s : Setup). allowed s (own v).caller (own v).log c.args.object c.args.op ≡ true) (sym config) c.requires.admitted) in
     let left : 0 < (own w).left = subst (λ (p : Part). 0 < p.left) (sym same) c.requires.left in (
-      since.table ∙ (c.load-seen.ensures.0 ∙ (c.requires.board ∙ sym (ap (λ (b : BoardFace). b.table) c.self.view_is))),
+      since.table ∙ (c.first_look-seen.ensures.same.0 ∙ (c.requires.board ∙ sym (ap (λ (b : BoardFace). b.table) c.self.view_is))),
       below c.self.inside _ _ c.self.invariant has c.word_number-word.ensures,
       rw (c.word_number-word.ensures, c.self.invariant.key)
           (happens c.self.inside.config _ _ _ _ [] (alone_still v w c.args.object c.requires.alone since.looks) c.args.object c.args.op
