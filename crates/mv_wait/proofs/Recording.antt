@@ -27,6 +27,7 @@ use Rattle.mv_machine.specs.System.{System, admitted, reply_to, volume_step}
 use Rattle.mv_ecb.specs.declared.operation.EcbOp.{EcbOp}
 use Rattle.mv_ecb.specs.Table.{ecb_step}
 use Rattle.mv_latch.specs.LatchSet.{latch_step}
+use Rattle.mv_latch.specs.declared.operation.LatchOp.TheVariants as latch_op
 use Rattle.mv_machine.proofs.Budgets.{no_high_generation}
 use Rattle.mv_machine.proofs.Longer.{legal_longer}
 use Rattle.mv_machine.proofs.OneHistory.{budgets_fit}
@@ -37,11 +38,12 @@ use Rattle.mv_calls.specs.Keeping.{Kept, kept_of, kept_after, nothing_kept}
 use Rattle.mv_calls.proofs.ExtendedBlocks.{extended_starts_exit}
 use Rattle.mv_calls.proofs.Making.{kept_caller}
 use Rattle.mv_wait.specs.declared.keep.Keep.{Keep}
-use Rattle.mv_wait.specs.Keep.{Keeps, Reaches, IsOfKind, ClosesBelow}
+use Rattle.mv_wait.specs.Keep.{Keeps, Reaches, HasRoomToStand, IsOfKind, ClosesBelow}
 use Rattle.mv_wait.specs.Run.{Went}
 use Rattle.mv_wait.specs.Task.{Fits, IsRecorded, IsTask, blocks_in}
 use Rattle.mv_wait.specs.declared.task.Task.TheInside.{Inside}
 use Rattle.mv_wait.proofs.Answering.{made_behind}
+use Rattle.mv_wait.proofs.Entries.{how_many}
 use Rattle.mv_wait.proofs.Low.{fits_of, kept_low}
 use Rattle.mv_wait.proofs.Runs.{entry_of, went_log}
 use Rattle.mv_wait.proofs.Waits.{kept_one}
@@ -150,13 +152,15 @@ closes_below c t u o op reply h p v =
 fits_on : (t u : CallerFace) (o : Object) (op : Op) (reply : Reply) (k new : Keep) (s : Setup) → Happened t o op reply u
     → new.first ≡ k.first
     → length new.extended.items ≡ length k.extended.items → length new.elements.items ≡ length k.elements.items
+    → new.requests.capacity ≡ k.requests.capacity
     → IsPossible s u.number u.log u.told → Fits t k s → Fits u new s
-fits_on t u o op reply k new s h first blocks elements p f =
+fits_on t u o op reply k new s h first blocks elements capacity p f =
     let n = h.1.same.number in record {
       valid = f.valid;
       caller = subst (λ m. m < s.callers) (sym n) f.caller;
       blocks = blocks ∙ f.blocks;
       elements = elements ∙ f.elements;
+      requests = subst (λ room. s.quota ≤ room) (sym capacity) f.requests;
       first = first ∙ (f.first ∙ ap (λ m. m * s.elements_per_caller) (sym n));
       low = λ element own. kept_low s u.number element u.log u.told f.valid p own;
       exits = extended_starts_exit s u.number u.log u.told p;
@@ -183,10 +187,11 @@ stands_on t u o op reply h same =
 all_fit : (t u : CallerFace) (o : Object) (op : Op) (reply : Reply) (k new : Keep) (s : Setup) → Happened t o op reply u
     → new.first ≡ k.first
     → length new.extended.items ≡ length k.extended.items → length new.elements.items ≡ length k.elements.items
+    → new.requests.capacity ≡ k.requests.capacity
     → t.about ≡ s ∷ [] → IsPossible s u.number u.log u.told → AllByRecursion (Fits t k) t.about → AllByRecursion (Fits u new) u.about
-all_fit t u o op reply k new s h a b e about p all =
+all_fit t u o op reply k new s h a b e r about p all =
     subst (AllByRecursion (Fits u new)) (sym (h.1.same.about ∙ about))
-    (fits_on t u o op reply k new s h a b e p (subst (AllByRecursion (Fits t k)) about all).0, tt)
+    (fits_on t u o op reply k new s h a b e r p (subst (AllByRecursion (Fits t k)) about all).0, tt)
 
 -- what is kept of the log follows an event, where the tables do
 pub recorded_on : (c : Setup) (t u : CallerFace) (o : Object) (op : Op) (reply : Reply) (k new : Keep) → Happened t o op reply u
@@ -197,15 +202,13 @@ pub recorded_on : (c : Setup) (t u : CallerFace) (o : Object) (op : Op) (reply :
     → slab_len new.requests ≤ slab_len k.requests + 1 → new.requests.capacity ≡ k.requests.capacity → IsRecorded t k → IsRecorded u new
 recorded_on c t u o op reply k new h p about follows same sizes more room r =
     let less = h.1.left in
-    let few = r.few in
-    let much = r.room in record {
+    let few = r.few in record {
       kept = keeps_on t u o op reply new h
           (follows (kept_of t.number t.log) (kept_caller (nothing_kept t.number) t.log ∙ sym r.caller) r.kept);
       stands = stands_on t u o op reply h r.stands;
       caller = same.0 ∙ (r.caller ∙ sym h.1.same.number);
-      fits = all_fit t u o op reply k new c h same.1 sizes.0 sizes.1 about p r.fits;
+      fits = all_fit t u o op reply k new c h same.1 sizes.0 sizes.1 room about p r.fits;
       few = omega arith;
-      room = omega arith;
     }
 
 -- looks change nothing of it
@@ -216,13 +219,13 @@ recorded_looked c t u k about w r =
     let same : kept_of u.number u.log ≡ kept_of t.number t.log = (λ i. kept_of (number i) (log i)) in
     let left = w.left in
     let few = r.few in
-    let room = r.room in
     let f = fits_of c t k about r in
     let one : Fits u k c = record {
       valid = f.valid;
       caller = subst (λ m. m < c.callers) (sym number) f.caller;
       blocks = f.blocks;
       elements = f.elements;
+      requests = f.requests;
       first = f.first ∙ ap (λ m. m * c.elements_per_caller) (sym number);
       low = λ n own. subst (λ (q : Kept). q.generation n ≤ highest_generation) (sym same) (f.low n (own ∙ number));
       exits = λ n held. f.exits n (subst (λ (q : Kept). q.extended n ≡ true) same held);
@@ -232,7 +235,6 @@ recorded_looked c t u k about w r =
       caller = r.caller ∙ sym number;
       fits = subst (AllByRecursion (Fits u k)) (sym (w.same.about ∙ about)) (one, tt);
       few = omega arith;
-      room = omega arith;
     }
 
 -- a task of the same caller, which has no more events left, is one where it keeps what its log says
@@ -277,6 +279,25 @@ reached c r k (Ecb n) (op_on.Latch op) fits may = absurd (false≢true may)
 reached c r k (Element n) op fits may = tt
 reached c r k (Volume n) op fits may = tt
 reached c r k Latches op fits may = tt
+
+-- a request that it may make fits: fewer stand than the quota allows
+pub stands_within : (c : Setup) (r : CallerFace) (k : Keep) (o : Object) (op : Op) → IsRecorded r k → Fits r k c
+    → allowed c r.number r.log o op ≡ true → HasRoomToStand op k.requests
+stands_within c r k o (op_on.Ecb op) recorded fits may = tt
+stands_within c r k o (op_on.Element op) recorded fits may = tt
+stands_within c r k o (op_on.Volume op) recorded fits may = tt
+stands_within c r k o (op_on.Latch (latch_op.Confirm latch id)) recorded fits may = tt
+stands_within c r k o (op_on.Latch (latch_op.Release latch id conditional)) recorded fits may = tt
+stands_within c r k o (op_on.Latch (latch_op.Purge requestor)) recorded fits may = tt
+stands_within c r k (Ecb n) (op_on.Latch (latch_op.Obtain latch requestor mode form)) recorded fits may = absurd (false≢true may)
+stands_within c r k (Element n) (op_on.Latch (latch_op.Obtain latch requestor mode form)) recorded fits may = absurd (false≢true may)
+stands_within c r k (Volume n) (op_on.Latch (latch_op.Obtain latch requestor mode form)) recorded fits may = absurd (false≢true may)
+stands_within c r k Latches (op_on.Latch (latch_op.Obtain latch requestor mode form)) recorded fits may =
+    let below : length (standing r.log) < c.quota =
+    ltb-true (length (standing r.log)) c.quota (and_parts _ _ (and_parts _ _ (and_parts _ _ may).1).1).0 in
+    let count = how_many (kept_of r.number r.log).requests k.requests.slots recorded.kept.requests in
+    let stand = ap length recorded.stands in
+    let room = fits.requests in omega arith
 
 -- ---- a read keeps all that is kept
 

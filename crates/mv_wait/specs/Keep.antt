@@ -1,7 +1,8 @@
 -- What a task keeps in memory, and how that agrees with what it keeps by its log.
 use Rattle.std.specs.Prelude.{◌≡◌, ℕ, ◌+◌, ◌<◌, ◌^◌, Bool, true, false, List, length, filter, count_by, Option, Some, None, slice_get}
 use Rattle.std.specs.Prelude.{IsSomeAnd, slice_index_or}
-use Rattle.slab.specs.Slab.{Slab, get}
+use Rattle.slab.specs.Slab.{Slab, get, HasRoomFor}
+use Rattle.mv_latch.specs.declared.operation.LatchOp.TheVariants as latch_op
 use Rattle.mv_machine.specs.declared.entry.Object.{Object}
 use Rattle.mv_machine.specs.declared.entry.Object.TheVariants.{Ecb, Element, Volume, Latches}
 use Rattle.mv_machine.specs.Kept.{StandingRequest}
@@ -57,6 +58,11 @@ IsOfKind (Element n) (op_on.Element op) (reply_of.Element r) = Unit {0}
 IsOfKind (Volume n) (op_on.Volume op) (reply_of.Volume r) = Unit {0}
 IsOfKind Latches (op_on.Latch op) (reply_of.Latch r) = Unit {0}
 IsOfKind o op r = ⊥
+
+-- if the operation asks for a latch, one more request fits
+abbrev pub HasRoomToStand : Op → Slab HeldRequest → Type 0
+HasRoomToStand (op_on.Latch (latch_op.Obtain latch requestor mode form)) requests = HasRoomFor requests 1
+HasRoomToStand op requests = Unit {0}
 
 -- if this is the reply to a close, the generation that was closed has a next one in 32 bits
 abbrev pub ClosesBelow : Op → Reply → Type 0

@@ -10,7 +10,8 @@ ghost use Rattle.mv_machine.specs.Kept.{StandingRequest, is_posting, less, is_na
 ghost use Rattle.mv_machine.specs.Limits.{events_limit};
 ghost use Rattle.mv_machine.specs.declared.entry.Op.TheVariants as op_on;
 ghost use Rattle.mv_machine.specs.declared.entry.Reply.TheVariants as reply_of;
-ghost use Rattle.mv_wait.specs.Keep.{Keeps, Reaches, meets, IsOfKind, ClosesBelow, AreHeld, HoldsRequest, request_of, element_after};
+ghost use Rattle.mv_wait.specs.Keep.{Keeps, Reaches, HasRoomToStand, IsOfKind, ClosesBelow, AreHeld, HoldsRequest};
+ghost use Rattle.mv_wait.specs.Keep.{meets, request_of, element_after};
 
 use mv_ecb::{EcbOp, EcbReply};
 use mv_element::{ElementOp, ElementReply};
@@ -46,23 +47,19 @@ pub(crate) struct Keep {
 }
 
 impl Keep {
-    /// Returns what a task keeps before its first entry: nothing. All memory is taken here, with room for `left` requests.
+    /// Returns what a task keeps before its first entry: nothing. All memory is taken here, with room for as many requests as the
+    /// quota allows.
     ///
     /// # Errors
     ///
     /// `NoMemory` if memory runs out.
-    pub(crate) fn empty(
-        alloc: Global,
-        config: &ValidConfig,
-        caller: u32,
-        left: usize,
-    ) -> Result<Keep, NoMemory>
+    pub(crate) fn empty(alloc: Global, config: &ValidConfig, caller: u32) -> Result<Keep, NoMemory>
         requires exists { caller < config.now.callers }
         ensures kept { IfOk result (λ k. Keeps (nothing_kept caller) k) }
         ensures caller { IfOk result (λ k. (k.caller ≡ caller) × (k.first ≡ caller * config.now.elements_per_caller)) }
         ensures blocks { IfOk result (λ k. length k.extended.items ≡ length config.now.owners) }
         ensures elements { IfOk result (λ k. length k.elements.items ≡ config.now.elements_per_caller) }
-        ensures room { IfOk result (λ k. (slab_len k.requests ≡ 0) × (left ≤ k.requests.capacity)) }
+        ensures room { IfOk result (λ k. (slab_len k.requests ≡ 0) × (config.now.quota ≤ k.requests.capacity)) }
     {
         let given = config.config();
         let none = OwnElement {
@@ -74,7 +71,7 @@ impl Keep {
             first: config.own_elements(caller).start,
             extended: vec![in alloc; false; given.owners.len()]?,
             elements: vec![in alloc; none; given.elements_per_caller as usize]?,
-            requests: Slab::with_capacity(alloc, left)?,
+            requests: Slab::with_capacity(alloc, given.quota as usize)?,
         })
     }
 
@@ -82,7 +79,7 @@ impl Keep {
     #[inline(always)]
     pub(crate) fn follow(&mut self, object: Object, op: Op, reply: Reply)
         requires block { Reaches object self.old }
-        requires room { HasRoomFor self.old.requests 1 }
+        requires room { HasRoomToStand op self.old.requests }
         requires kinds { IsOfKind object op reply }
         requires closes { ClosesBelow op reply }
         ensures kept { (kept : Kept) → kept.caller ≡ self.old.caller → Keeps kept self.old
@@ -150,7 +147,7 @@ impl Keep {
 
     // Records an event on the latch set: a request stands from its Obtain until it is gone, released or purged.
     fn follow_latches(&mut self, op: LatchOp, reply: LatchReply)
-        requires room { HasRoomFor self.old.requests 1 }
+        requires room { HasRoomToStand (op_on.Latch op) self.old.requests }
         ensures kept { (ts : List StandingRequest) → AreHeld ts self.old.requests.slots
             → AreHeld (stands_after self.old.caller ts op reply) self.new.requests.slots }
         ensures same { self.new ≡ record self.old { requests = self.new.requests } }

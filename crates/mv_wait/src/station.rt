@@ -413,7 +413,7 @@ fn opened(alloc: Global, config: &ValidConfig, caller: Caller) -> Result<(Task, 
     Ok((task, waker))
 }
 
-// Makes a task of this caller, with empty tables that have room for all its events.
+// Makes a task of this caller, with empty tables that have room for all that it may keep and post.
 fn task_of(
     alloc: Global,
     config: &ValidConfig,
@@ -425,7 +425,7 @@ fn task_of(
     ensures { IfOk result (λ t. t ≡ caller) }
 {
     let left = caller.left() as usize;
-    let keep = Keep::empty(alloc, config, caller.number(), left)?;
+    let keep = Keep::empty(alloc, config, caller.number())?;
     let (pending, places) = rooms_of(alloc, config.config(), left)?;
     Ok(Task {
         caller,

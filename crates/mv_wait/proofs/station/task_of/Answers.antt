@@ -28,6 +28,7 @@ invariant_of-result c =
       caller = subst (λ m. m < c.args.config.now.callers) number exists.0;
       blocks = made.blocks;
       elements = made.elements;
+      requests = made.room.1;
       first = made.caller.1 ∙ ap (λ m. m * c.args.config.now.elements_per_caller) number;
       low = λ n own. subst (λ (log : List Entry). (kept_of c.args.caller.number log).generation n ≤ highest_generation)
           (sym c.requires.new) (omega arith);
@@ -41,7 +42,6 @@ invariant_of-result c =
         caller = made.caller.0 ∙ number;
         fits = subst (AllByRecursion (Fits c.args.caller k)) (sym c.requires.about) (one, tt);
         few = (let none = made.room.0 in omega arith);
-        room = (let none = made.room.0 in let room = made.room.1 in omega arith);
       };
       idle = c.in_ok-pending.ensures.idle;
       room = (let much = c.in_ok-pending.ensures.room in omega arith);

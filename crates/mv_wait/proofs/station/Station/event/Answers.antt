@@ -1,7 +1,8 @@
 use Rattle.std.proofs.Common.{◌<◌, sym, subst, arith}
 use Rattle.mv_machine.specs.Parts.{IsPossible}
 use Rattle.mv_board.specs.Faces.{BoardFace, CallerFace, Happened, IsAsListed}
-use Rattle.mv_wait.proofs.Recording.{reply_kind, closes_below, recorded_on, still_task, about_inside, of_inside, allowed_inside, reached}
+use Rattle.mv_wait.proofs.Recording.{reply_kind, closes_below, recorded_on, still_task, about_inside, of_inside, allowed_inside}
+use Rattle.mv_wait.proofs.Recording.{reached, stands_within}
 use Rattle.mv_wait.proofs.Low.{fits_of, names_low}
 use Rattle.mv_wait.proofs.station.Station.event.Goals as goal
 
@@ -24,6 +25,16 @@ follow-requires-clause-block g c =
     let k = c.task.inside.keep in
     let about = about_inside c.args.self.now c.self.inside.board c.args.task.now r c.task.view_is c.self.view_is c.requires.task in
     reached d r k c.args.object c.args.op (fits_of d r k about c.task.invariant.recorded)
+    (allowed_inside c.args.self.now c.self.inside.board c.args.task.now r k c.args.object c.args.op c.task.view_is c.self.view_is
+    c.requires.task c.task.invariant.recorded c.requires.admitted)
+
+pub follow-requires-clause-room : goal.follow-requires-clause-room
+follow-requires-clause-room g c =
+    let d = c.self.inside.board.config in
+    let r = c.task.inside.caller in
+    let k = c.task.inside.keep in
+    let about = about_inside c.args.self.now c.self.inside.board c.args.task.now r c.task.view_is c.self.view_is c.requires.task in
+    stands_within d r k c.args.object c.args.op c.task.invariant.recorded (fits_of d r k about c.task.invariant.recorded)
     (allowed_inside c.args.self.now c.self.inside.board c.args.task.now r k c.args.object c.args.op c.task.view_is c.self.view_is
     c.requires.task c.task.invariant.recorded c.requires.admitted)
 
