@@ -73,10 +73,8 @@ impl Board {
         ensures listed { IsAsListed caller.old Object.Latches (Op.Latch op) (Reply.Latch result) }
     {
         let Lists { place, mut latches } = self.take(rt, &mut caller.seat);
-        let Some(reply) = latches.apply(caller.events.caller, place, op, &mut caller.events.wakes)
-        else {
-            unreachable!()
-        };
+        let number = caller.events.caller;
+        let reply = latches.apply_admitted(number, place, op, &mut caller.events.wakes);
         let lists = Lists {
             place: place + 1,
             latches,

@@ -267,7 +267,30 @@ impl LatchSet {
         if !self.admits(caller, op) {
             return None;
         }
+        Some(self.apply_admitted(caller, id, op, wakes))
+    }
+
+    /// Makes one operation of a caller as `apply` does, for a caller that knows that it is admitted: it counts no quotas.
+    pub fn apply_admitted(
+        &mut self,
+        caller: u32,
+        id: u32,
+        op: LatchOp,
+        wakes: &mut Vec<Wake>,
+    ) -> LatchReply
+        requires caller { caller < self.old.callers }
+        requires new_id { IsNewId id self.old.lists }
+        requires room { self.old.callers * self.old.quota ≤ vec_capacity wakes.old }
+        requires admitted { IsTrue (latch_admitted caller op self.old) }
+
+        ensures step { (self.new.lists, result) ≡ latch_step caller id op self.old.lists }
+        ensures wakes { wakes.new.items ≡ wakes_of caller op self.old.lists }
+
+        // The quotas, and the capacity of `wakes`, do not change.
+        ensures quotas { self.new ≡ record self.old { lists = self.new.lists } }
+        ensures capacity { vec_capacity wakes.new ≡ vec_capacity wakes.old }
+    {
         wakes.clear();
-        Some(self.step(caller, id, op, wakes))
+        self.step(caller, id, op, wakes)
     }
 }

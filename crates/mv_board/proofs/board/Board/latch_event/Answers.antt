@@ -25,17 +25,15 @@ use Rattle.mv_board.proofs.board.Board.latch_event.Given.{Over}
 use Rattle.mv_board.proofs.board.Board.latch_event.Goals.{After-append}
 use Rattle.mv_board.proofs.board.Board.latch_event.Goals as goal
 
-pub unreachable-requires : goal.unreachable-requires
-unreachable-requires g c =
-    let about = ap (λ (d : CallerFace). d.about) c.caller.view_is ∙ c.requires.board.1 in
-    let may = admits_here c.caller.inside c.args.caller.now c.args.self.now.config c.args.op c.take-place.result c.caller.invariant
-    c.caller.view_is c.requires.board.1 c.take-place.ensures.meets c.requires.admitted in
-    grind arith
+pub apply_admitted-reply-requires-clause-admitted : goal.apply_admitted-reply-requires-clause-admitted
+apply_admitted-reply-requires-clause-admitted g c =
+    admits_here c.caller.inside c.args.caller.now c.args.self.now.config c.args.op c.take-place.result c.caller.invariant
+    c.caller.view_is c.requires.board.1 c.take-place.ensures.meets c.requires.admitted
 
 pub compare_exchange_with-requires : goal.compare_exchange_with-requires
 compare_exchange_with-requires g c =
     let t = named_by c.take-place.result in
-    let l : Lists = record { place = c.take-place.result.place + 1; latches = c.apply.new.self } in
+    let l : Lists = record { place = c.take-place.result.place + 1; latches = c.apply_admitted-reply.new.self } in
     let now = held_again c.take-place.new.seat.me c.exchange.new.seat.me c.caller.inside.seat.me.0 t l c.take-place.ensures.took
     c.exchange.ensures.3 in
     let left : 0 < c.caller.inside.events.left = rw (ap (λ (d : CallerFace). d.left) c.caller.view_is) c.requires.left in
@@ -51,9 +49,9 @@ compare_exchange_with-requires g c =
       rw c.self.invariant.key (gives c.self.inside.config _ _ _ _ [] (ap (λ (m : Me Item View). m.0.parts) now ∙ c.caller.invariant.parts)
           c.args.op t l [] (ap (λ (m : Me Item View). m.0.turn) now) (ap (λ (m : Me Item View). m.1) now)
           (let slots = c.self.invariant.slots in omega arith) left may refl
-          (lists_after c.self.inside.config c.caller.inside.seat.me.0 c.take-place.result c.apply.new.self c.caller.inside.events.caller
-          c.args.op c.in-Some.reply
-          c.take-place.ensures.meets about c.apply.ensures.quotas c.in-Some.ensures.step)),
+          (lists_after c.self.inside.config c.caller.inside.seat.me.0 c.take-place.result c.apply_admitted-reply.new.self c.caller.inside.events.caller
+          c.args.op c.apply_admitted-reply.result
+          c.take-place.ensures.meets about c.apply_admitted-reply.ensures.quotas c.apply_admitted-reply.ensures.step)),
     )
 
 -- the event, and the caller after it
@@ -62,7 +60,7 @@ later g c = record c.caller.inside { events = c.append.new.self; seat = c.compar
 
 now : (g : Over) (c : After-append g) → c.exchange.new.seat.me ≡ (
   with_turn (named_by c.take-place.result ∷ []) c.caller.inside.seat.me.0,
-  (0, Held record { place = c.take-place.result.place + 1; latches = c.apply.new.self }) ∷ [],
+  (0, Held record { place = c.take-place.result.place + 1; latches = c.apply_admitted-reply.new.self }) ∷ [],
 )
 now g c = held_again c.take-place.new.seat.me c.exchange.new.seat.me c.caller.inside.seat.me.0 _ _ c.take-place.ensures.took
     c.exchange.ensures.3
@@ -77,13 +75,13 @@ view g c =
     (now g c)
 
 appended : (g : Over) (c : After-append g) → HasAppended c.caller.inside (later g c)
-    (entry c.caller.inside Latches (op_on.Latch c.args.op) c.take-place.result.place (reply_of.Latch c.in-Some.reply))
+    (entry c.caller.inside Latches (op_on.Latch c.args.op) c.take-place.result.place (reply_of.Latch c.apply_admitted-reply.result))
 unfolding later
 appended g c = record {
   caller = ap (λ (x : Events). x.caller) c.append.ensures.same;
   left = ap (λ (x : Events). x.left) c.append.ensures.same;
   log = c.append.ensures.logged;
-  room = ap (λ (x : Events). vec_capacity x.wakes) c.append.ensures.same ∙ c.apply.ensures.capacity;
+  room = ap (λ (x : Events). vec_capacity x.wakes) c.append.ensures.same ∙ c.apply_admitted-reply.ensures.capacity;
   table = c.compare_exchange_with.ensures.0 ∙ (c.exchange.ensures.0 ∙ c.take-place.ensures.same);
   slots = c.compare_exchange_with.ensures.2.slots ∙ ap (λ (m : Me Item View). rest m.1) (now g c);
 }
@@ -91,17 +89,17 @@ appended g c = record {
 showed : (g : Over) (c : After-append g) → (later g c).events.wakes.items ≡ wakes c.caller.inside.events.caller c.args.op
     c.take-place.result.latches.lists
 unfolding later
-showed g c = ap (λ (x : Events). x.wakes.items) c.append.ensures.same ∙ c.in-Some.ensures.wakes
+showed g c = ap (λ (x : Events). x.wakes.items) c.append.ensures.same ∙ c.apply_admitted-reply.ensures.wakes
 
 left : (g : Over) (c : After-append g) → 0 < c.caller.inside.events.left
 left g c = rw (ap (λ (d : CallerFace). d.left) c.caller.view_is) c.requires.left
 
-answer : (g : Over) (c : After-append g) → c.in-Some.reply ≡
+answer : (g : Over) (c : After-append g) → c.apply_admitted-reply.result ≡
     (latch_step c.caller.inside.events.caller c.take-place.result.place c.args.op c.take-place.result.latches.lists).1
-answer g c = ap (λ (z : List (List Request) × LatchReply). z.1) c.in-Some.ensures.step
+answer g c = ap (λ (z : List (List Request) × LatchReply). z.1) c.apply_admitted-reply.ensures.step
 
 after : (g : Over) (c : After-append g) → HappenedAt (face_of c.caller.inside) Latches c.take-place.result.place (op_on.Latch c.args.op)
-    (reply_of.Latch c.in-Some.reply) (face_of (later g c))
+    (reply_of.Latch c.apply_admitted-reply.result) (face_of (later g c))
 unfolding later
 after g c =
     happened c.caller.inside (later g c) _ _ _ c.caller.invariant (left g c) c.take-place.ensures.meets
@@ -117,7 +115,7 @@ pub returns-clause-event : goal.returns-clause-event
 unfolding later
 returns-clause-event g c = (
   c.take-place.result.place,
-  subst (λ (d : CallerFace). HappenedAt d Latches c.take-place.result.place (op_on.Latch c.args.op) (reply_of.Latch c.in-Some.reply)
+  subst (λ (d : CallerFace). HappenedAt d Latches c.take-place.result.place (op_on.Latch c.args.op) (reply_of.Latch c.apply_admitted-reply.result)
       (face_of (later g c))) c.caller.view_is (after g c),
 )
 
@@ -131,6 +129,6 @@ returns-clause-possible g c =
 pub returns-clause-listed : goal.returns-clause-listed
 unfolding later
 returns-clause-listed g c =
-    subst (λ (d : CallerFace). IsAsListed d Latches (op_on.Latch c.args.op) (reply_of.Latch c.in-Some.reply)) c.caller.view_is
+    subst (λ (d : CallerFace). IsAsListed d Latches (op_on.Latch c.args.op) (reply_of.Latch c.apply_admitted-reply.result)) c.caller.view_is
     (as_listed c.caller.inside (later g c) _ _ _ c.caller.invariant (left g c) c.take-place.ensures.meets
     (view g c) c.compare_exchange_with.ensures.2.possible (answer g c) (appended g c) (showed g c))
