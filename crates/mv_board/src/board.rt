@@ -119,6 +119,7 @@ impl Board {
     /// This is not an event. If the answer is `true`, it stays so whatever other callers do, until an event of this caller takes
     /// the watch off its list: one on that block or element, or one on the latch set other than Obtain. At a block or an element
     /// the call does not wait; for a request it spins while another caller has the lists.
+    #[inline(always)]
     pub fn peek<R: Wait>(&self, rt: &R, caller: &mut Caller, watch: Watch) -> bool
         requires board { IsOf self.now caller.old }
         requires own { MayWatch self.now.config caller.old watch }
@@ -133,6 +134,7 @@ impl Board {
     }
 
     // Whether the state of the caller's own block or element is what a watch of it waits for.
+    #[inline(always)]
     fn peek_word(&self, caller: &mut Caller, object: Object) -> bool
         requires board { IsOf self.now caller.old }
         requires word { HasWord self.now.config object }

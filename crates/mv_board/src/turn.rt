@@ -59,6 +59,7 @@ impl Board {
     }
 
     // Makes one event on the latch set, and returns its reply. It spins while another caller has the lists.
+    #[inline(always)]
     pub(crate) fn latch_event<R: Wait>(
         &self,
         rt: &R,

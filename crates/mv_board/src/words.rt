@@ -96,6 +96,7 @@ pub(crate) fn change(object: Object, op: Op, word: u64) -> Option<(u32, u64, Rep
 }
 
 // Whether a state is what a watch of its object waits for: a complete block, or a released element.
+#[inline(always)]
 fn is_ready_state(state: &WordState) -> bool
     ensures { result ≡ ready_in state.now }
 {
@@ -107,6 +108,7 @@ fn is_ready_state(state: &WordState) -> bool
 }
 
 /// Returns whether a word of an object is what a watch of it waits for.
+#[inline(always)]
 pub(crate) fn is_ready(object: Object, word: u64) -> bool
     ensures { (place : ℕ) (state : AnyState) → unpack_of object word ≡ Some (place, state) → result ≡ ready_in state }
 {

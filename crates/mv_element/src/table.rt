@@ -28,6 +28,7 @@ use crate::operation::{ElementOp, ElementReply};
 /// };
 /// Some((old.place, Reply::Element(reply)))
 /// ```
+#[inline(always)]
 pub fn element_apply(op: ElementOp, state: ElementState) -> (ElementState, ElementReply)
     requires generation { state.generation < generation_limit }
     requires code { IsElementOp op }

@@ -95,6 +95,7 @@ impl LatchSet {
     }
 
     // Obtains a latch for a caller that is within its quotas.
+    #[inline(always)]
     fn obtain(&mut self, latch: u32, request: Request) -> LatchReply
         requires latch { latch < length self.old.lists }
         requires caller { request.caller < self.old.callers }
@@ -110,6 +111,7 @@ impl LatchSet {
     }
 
     // Releases a request, and appends its wakes to `wakes`.
+    #[inline(always)]
     fn release(
         &mut self,
         latch: u32,
@@ -187,6 +189,7 @@ impl LatchSet {
     }
 
     // Makes an admitted operation, and appends its wakes to `wakes`.
+    #[inline(always)]
     fn step(&mut self, caller: u32, id: u32, op: LatchOp, wakes: &mut Vec<Wake>) -> LatchReply
         requires caller { caller < self.old.callers }
         requires new_id { IsNewId id self.old.lists }
@@ -271,6 +274,7 @@ impl LatchSet {
     }
 
     /// Makes one operation of a caller as `apply` does, for a caller that knows that it is admitted: it counts no quotas.
+    #[inline(always)]
     pub fn apply_admitted(
         &mut self,
         caller: u32,

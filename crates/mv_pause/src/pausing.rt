@@ -143,6 +143,7 @@ pub fn begin_pause<R: Wait>(
 /// self.stage = Stage::Over;
 /// Turn::Ready(Ok(end_pause(station, rt, task, self.token)))
 /// ```
+#[inline(always)]
 pub fn end_pause<R: Wait>(station: &Station, rt: &R, task: &mut Task, token: Token) -> Given
     requires task { IsOf station.now task.old }
     requires pausing { (t0 : CallerFace) × IsPausing station.now.config token t0 task.old }
@@ -159,6 +160,7 @@ pub fn end_pause<R: Wait>(station: &Station, rt: &R, task: &mut Task, token: Tok
 }
 
 /// Pauses with a token of an own element. It is refused only if the token is spent.
+#[inline(always)]
 pub(crate) fn pause_own<R: Wait + Clock>(
     station: &Station,
     rt: &R,
@@ -179,6 +181,7 @@ pub(crate) fn pause_own<R: Wait + Clock>(
 
 // Makes the first event of a pause with a token of an own element. Returns the answer of the pause, or `None` if the task has to
 // wait.
+#[inline(always)]
 fn begin_own<R: Wait>(
     station: &Station,
     rt: &R,
@@ -206,6 +209,7 @@ fn begin_own<R: Wait>(
 }
 
 // What a pause with this element returns.
+#[inline(always)]
 fn with_token(element: u32, gift: Gift) -> Given
     ensures { gift_as result ≡ gift_of element gift.code gift.next }
 {

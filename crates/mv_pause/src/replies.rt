@@ -29,6 +29,7 @@ pub(crate) struct Gift {
 }
 
 /// Returns what a pause was given.
+#[inline(always)]
 pub(crate) fn gift_in(reply: Reply) -> Gift
     requires { SaysGiven reply }
     ensures { reply ≡ reply_of.Element (element_reply.Given result.code result.next) }
@@ -51,6 +52,7 @@ pub(crate) enum Begun {
 }
 
 /// Returns how a pause begins.
+#[inline(always)]
 pub(crate) fn beginning(reply: Reply) -> Begun
     requires { SaysBegun reply }
     ensures { reply ≡ reply_of.Element (reply_to_pause result) }
@@ -64,6 +66,7 @@ pub(crate) fn beginning(reply: Reply) -> Begun
 }
 
 /// Returns the outcome of a release.
+#[inline(always)]
 pub(crate) fn released(reply: Reply) -> Result<ReleaseAnswer, ReleaseRefusal>
     requires { SaysReleased reply }
     ensures { reply ≡ reply_of.Element (reply_to_release result) }

@@ -146,6 +146,7 @@ impl Keep {
     }
 
     // Records an event on the latch set: a request stands from its Obtain until it is gone, released or purged.
+    #[inline(always)]
     fn follow_latches(&mut self, op: LatchOp, reply: LatchReply)
         requires room { HasRoomToStand (op_on.Latch op) self.old.requests }
         ensures kept { (ts : List StandingRequest) → AreHeld ts self.old.requests.slots
@@ -181,6 +182,7 @@ impl Keep {
 
 impl Keep {
     // Records one more standing request. There is room for it.
+    #[inline(always)]
     fn stand(&mut self, latch: u32, id: u32, requestor: u64, mode: Mode, form: LatchForm)
         requires room { HasRoomFor self.old.requests 1 }
         ensures kept { (ts : List StandingRequest) → AreHeld ts self.old.requests.slots

@@ -69,6 +69,7 @@ impl Station {
 
     // Posts one block, wakes its owner if the reply is Woke, and puts the targets of the exit that this runs after the pending
     // blocks, the first target last.
+    #[inline(always)]
     fn post_one<R: Wait>(
         &self,
         rt: &R,
@@ -102,6 +103,7 @@ impl Station {
 }
 
 // Puts these blocks after the pending ones, the first of them last.
+#[inline(always)]
 fn note(pending: &mut Vec<u32>, targets: &[u32])
     requires { vec_len pending.old + length targets.now ≤ vec_capacity pending.old }
     ensures noted { pending.new.items ≡ pending.old.items ++ reverse targets.now }

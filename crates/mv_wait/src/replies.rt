@@ -16,6 +16,7 @@ use mv_ecb::EcbReply;
 use mv_machine::{Reply, VolumeReply};
 
 /// Returns what the reply to a Settle found.
+#[inline(always)]
 pub(crate) fn slot(reply: Reply) -> WaitSlot
     requires { SaysSettled reply }
     ensures { reply ≡ reply_of.Ecb (settle_reply result) }
@@ -28,6 +29,7 @@ pub(crate) fn slot(reply: Reply) -> WaitSlot
 }
 
 /// Returns the code with which a block was complete when it was to be extended; `None` if it was extended.
+#[inline(always)]
 pub(crate) fn taken(reply: Reply) -> Option<u32>
     requires { SaysExtended reply }
     ensures { reply ≡ reply_of.Ecb (extend_reply result) }
@@ -62,6 +64,7 @@ pub(crate) fn value(reply: Reply) -> u32
 }
 
 /// Returns the outcome that the reply to a post gives, with the exit that it runs, or 0.
+#[inline(always)]
 pub(crate) fn posted(reply: Reply) -> (PostAnswer, u32)
     requires { SaysPosted reply }
     ensures answer { answer_in reply ≡ Some result.0 }

@@ -254,6 +254,7 @@ impl Task {
     ghost use Rattle.mv_wait.specs.Keep.{IsKeptAs};
 
     // The first position in this list whose block the task holds extended.
+    #[inline(always)]
     pub(crate) fn first_extended(&self, ecbs: &[u32]) -> Option<u32>
         requires few { length ecbs.now < 2 ^ 32 }
         requires blocks { (s : Setup) × (self.now.about ≡ s ∷ []) × AllByRecursion (λ e. e < length s.owners) ecbs.now }

@@ -82,6 +82,7 @@ impl Station {
     ///     unreachable!()
     /// };
     /// ```
+    #[inline(always)]
     pub fn wait<R: Wait + Clock>(
         &self,
         rt: &R,
@@ -139,6 +140,7 @@ impl Station {
     /// self.stage = Stage::Begun;
     /// self.go_on(station, rt, task)
     /// ```
+    #[inline(always)]
     pub fn arm_wait<R: Wait>(
         &self,
         rt: &R,
@@ -176,6 +178,7 @@ impl Station {
     /// self.keys.clear();
     /// station.settle_wait(rt, task, self.count, &self.ecbs, &mut self.found);
     /// ```
+    #[inline(always)]
     pub fn settle_wait<R: Wait>(
         &self,
         rt: &R,
@@ -203,6 +206,7 @@ impl Station {
     }
 
     // The reason for which a wait is refused, if there is one.
+    #[inline(always)]
     fn refuses_wait(&self, task: &mut Task, count: u32, ecbs: &[u32]) -> Option<WaitRefusal>
         requires task { IsOf self.now task.old }
         requires blocks { AllByRecursion (λ e. e < length self.now.config.owners) ecbs.now }
@@ -229,6 +233,7 @@ impl Station {
     }
 
     // Arms each block.
+    #[inline(always)]
     fn arm_all<R: Wait>(&self, rt: &R, task: &mut Task, ecbs: &[u32])
         requires task { MayCall self.now (length ecbs.now) task.old }
         requires own { AreOwn self.now.config task.old.number ecbs.now }
@@ -245,6 +250,7 @@ impl Station {
 
     // Parks until `count` of the blocks are complete. The first places of `places` have the blocks that were not seen complete
     // yet. If one more of these is open than may stay open, the wait is not over, whatever the others are.
+    #[inline(always)]
     fn await_complete<R: Wait + Clock>(
         &self,
         rt: &R,
@@ -279,6 +285,7 @@ impl Station {
     // Looks at the blocks that were not seen complete, which are the first `unseen` ones of `places`, until one more than `spare`
     // are found open, or at most `spare` are left. A block that is complete is replaced by the last of them. Returns how many are
     // left.
+    #[inline(always)]
     fn look_at_unseen<R: Wait>(
         &self,
         rt: &R,
@@ -311,6 +318,7 @@ impl Station {
     }
 
     // Settles one block.
+    #[inline(always)]
     fn settle<R: Wait>(&self, rt: &R, task: &mut Task, ecb: u32) -> WaitSlot
         requires task { IsOf self.now task.old }
         requires own { AreOwn self.now.config task.old.number (ecb ∷ []) }
@@ -327,6 +335,7 @@ impl Station {
 
 // The first position whose block is also earlier in the list. `places` has a place for each block, which may be left from earlier
 // calls: it counts only if the list has that block at that place.
+#[inline(always)]
 fn doubled(places: &mut [u32], ecbs: &[u32]) -> Option<u32>
     requires few { length ecbs.now < 2 ^ 32 }
     requires blocks { AllByRecursion (λ e. e < length places.old) ecbs.now }
@@ -345,6 +354,7 @@ fn doubled(places: &mut [u32], ecbs: &[u32]) -> Option<u32>
 }
 
 // Puts these blocks first.
+#[inline(always)]
 fn put_first(places: &mut [u32], ecbs: &[u32])
     requires size { length ecbs.now ≤ length places.old }
     ensures size { length places.new ≡ length places.old }
@@ -356,6 +366,7 @@ fn put_first(places: &mut [u32], ecbs: &[u32])
 }
 
 // The first position whose block is another caller's.
+#[inline(always)]
 fn not_owned(config: &ValidConfig, caller: u32, ecbs: &[u32]) -> Option<u32>
     requires few { length ecbs.now < 2 ^ 32 }
     requires blocks { AllByRecursion (λ e. e < length config.now.owners) ecbs.now }
