@@ -1,28 +1,25 @@
 -- What a call leaves of its task. Used by the functions that make one call.
-use Rattle.std.proofs.Common.{◌≡◌, ℕ, zero, suc, ◌+◌, ◌≤◌, ◌<◌, nat_lt, [], ◌∷◌, Result, None, refl, sym, ap, ◌∙◌}
-use Rattle.std.proofs.Common.{subst, arith, le_refl, Bool, true, false, not, ◌&&◌}
-use Rattle.std.proofs.lemmas.Bool.{false≢true}
+use Rattle.std.proofs.Common.{◌≡◌, ℕ, zero, suc, ◌+◌, ◌≤◌, ◌<◌, [], ◌∷◌, Result, refl, sym, ap, ◌∙◌, subst, arith, le_refl, false, not}
 use Rattle.mv_latch.specs.declared.request.LatchForm.TheVariants.{Waiting}
 use Rattle.mv_latch.specs.declared.request.Mode.TheVariants.{Exclusive}
 use Rattle.mv_machine.specs.declared.entry.Object.TheVariants.{Volume}
 use Rattle.mv_machine.specs.Reach.{release_cost}
-use Rattle.mv_machine.specs.Setup.{Setup, owner_of, starts_from, is_exit_of}
+use Rattle.mv_machine.specs.Setup.{Setup, owner_of}
 use Rattle.mv_board.specs.Faces.{BoardFace, CallerFace}
 use Rattle.mv_calls.specs.Keeping.{kept_of}
 use Rattle.mv_calls.specs.LatchCalls.{Requested, obtain, release_latch}
 use Rattle.mv_calls.specs.Program.{Call}
 use Rattle.mv_calls.specs.Refusal.{Refusal}
-use Rattle.mv_calls.specs.Exits.{StartsExit}
 use Rattle.mv_calls.specs.Waits.{read_volume, write_volume}
 use Rattle.mv_wait.specs.Run.{IsServed}
 use Rattle.mv_wait.proofs.Compose.{still_served}
 use Rattle.mv_attach.proofs.Says.{always_write}
 use Rattle.mv_ordered.specs.Held.{held}
 use Rattle.mv_ordered.proofs.Calls.{IsPlain}
-use Rattle.mv_guarded.specs.Guarded.{HoldsLatch, Keeps}
-use Rattle.mv_guarded.proofs.Holding.{still_holds, read_one, wrote_one, plain_keeps_discipline, read_held, write_held}
+use Rattle.mv_guarded.specs.Guarded.{HoldsLatch}
+use Rattle.mv_guarded.proofs.Holding.{read_inside, wrote_one, plain_keeps_discipline, read_held, write_held}
 use Rattle.mv_guarded.proofs.Quiet.{IsQuiet, obtain_is_quiet, release_is_quiet, read_is_quiet, quiet_keeps}
-use Rattle.mv_guarded.proofs.Rules.{keeps_push}
+use Rattle.mv_guarded.proofs.Rules.{keeps_event}
 use Rattle.mv_permits.specs.Setup.{pool_setup}
 use Rattle.mv_permits.specs.Permits.{Moves, IsMove, IsAllowed, IsPooled, has_permit, given_back, one}
 use Rattle.mv_permits.proofs.Logs.{calm_allowed, calm_permit, permit-append, calm_given, given-append, write_gives}
@@ -46,14 +43,6 @@ release_quiet b latch id Is t u s r = release_is_quiet b.config latch id Is t u 
 -- there are no exits
 pub no_exits : (c : Setup) → (tries : ℕ) × (c ≡ pool_setup tries) → c.exits ≡ []
 no_exits c has = ap (λ (s : Setup). s.exits) has.1
-
-none_starts : (e : ℕ) (b : Bool) → (b && starts_from e None) ≡ true → ⊥
-none_starts e true is = false≢true is
-none_starts e false is = false≢true is
-
-pub starts_none : (c : Setup) (e : ℕ) → (tries : ℕ) × (c ≡ pool_setup tries) → StartsExit c e → ⊥
-starts_none c e has starts = none_starts e (nat_lt 0 starts.0)
-    (subst (λ (s : Setup). is_exit_of s starts.0 e ≡ true) has.1 starts.1)
 
 -- the block by which a worker is let go on is its own
 workers_block : (tries w : ℕ) → w < 3 → owner_of (pool_setup tries) (3 + w) ≡ w
@@ -96,29 +85,17 @@ pub moves_permit : (b : BoardFace) (x y : ℕ) (Is : Unit {0} → Type 0) (t u v
     → HoldsLatch 0 Exclusive t.number t.log → IsServed 1 (read_volume 0) (λ a. a ≡ x) t u → IsServed 1 (write_volume 0 y) Is u v
     → Moves (has_permit t.log) x y → HasMoved b t v
 moves_permit b x y Is t u v r holds read written moves =
-    let seen = read_one 0 x t u read in
     let quiet = read_is_quiet 0 x t u read in
     let now = still_pooled b 1 (read_volume 0) (λ a. a ≡ x) t u read quiet r in
     let two = wrote_one 0 y Is u v written in
     let e = two.heard.entry in
     let same = same_permit t u quiet in
-    let held : HoldsLatch 0 Exclusive u.number t.log = subst (λ k. HoldsLatch 0 Exclusive k t.log) (sym read.same.number) holds in
+    let seen = read_inside 0 0 x Exclusive t u holds read in
     let move : IsMove u.number 0 y u.log = record {
       here = refl;
-      holds = subst (HoldsLatch 0 Exclusive u.number) (sym seen.logged)
-          (still_holds 0 Exclusive u.number 0 t.log seen.entry seen.reads.object held);
+      holds = seen.0;
       old = x;
-      read = record {
-        before = t.log;
-        entry = seen.entry;
-        since = [];
-        split = seen.logged;
-        asked = Exclusive;
-        holds = held;
-        reads = seen.reads;
-        inside = tt;
-        unwritten = tt;
-      };
+      read = seen.1;
       moves = subst (λ has. Moves has x y) (sym same) moves;
     } in
     record {
@@ -126,11 +103,9 @@ moves_permit b x y Is t u v r holds read written moves =
         config = now.config;
         task = still_served b 1 (write_volume 0 y) Is u v written now.task;
         rest = written.made.rest;
-        allowed = subst (λ k. Keeps IsAllowed k [] v.log) (sym written.same.number)
-            (subst (Keeps IsAllowed u.number []) (sym two.logged)
-            (keeps_push IsAllowed u.number [] u.log e now.allowed
+        allowed = keeps_event IsAllowed u v e written.same.number two.logged
             (subst (λ o. IsAllowed u.number u.log o e.op) (sym two.object)
-            (subst (λ op. IsAllowed u.number u.log (Volume 0) op) (sym two.makes) move))));
+            (subst (λ op. IsAllowed u.number u.log (Volume 0) op) (sym two.makes) move)) now.allowed;
         discipline = plain_keeps_discipline 1 (write_volume 0 y) Is u v written
             (always_write (λ o op. IsPlain op) 0 y (kept_of u.number u.log) tt) now.discipline;
       };

@@ -1,7 +1,7 @@
 use Rattle.std.proofs.Common.{◌∷◌, [], ◌<◌, ◌+◌, length, sym, ◌∙◌, subst, arith}
 use Rattle.mv_machine.specs.Setup.{Setup}
-use Rattle.mv_guarded.proofs.Quiet.{wait_is_quiet, wait_held, clear_is_quiet, clear_held}
-use Rattle.mv_permits.proofs.Calls.{still_pooled, same_permit, same_given, starts_none, own_block}
+use Rattle.mv_guarded.proofs.Quiet.{wait_is_quiet, wait_held, clear_is_quiet, clear_held, no_exit_starts}
+use Rattle.mv_permits.proofs.Calls.{still_pooled, same_permit, same_given, no_exits, own_block}
 use Rattle.mv_permits.proofs.permits.await_go.Goals as goal
 
 pub wait_one-requires-clause-block : goal.wait_one-requires-clause-block
@@ -18,7 +18,8 @@ wait_one-requires-clause-own g c =
     own_block c.args.station.now.config c.number-block.result c.requires.ready.config (omega arith) ∙ number
 
 pub wait_one-requires-clause-plain : goal.wait_one-requires-clause-plain
-wait_one-requires-clause-plain g c = λ starts. absurd (starts_none c.args.station.now.config _ c.requires.ready.config starts)
+wait_one-requires-clause-plain g c = λ starts.
+    let config = c.args.station.now.config in absurd (no_exit_starts config _ (no_exits config c.requires.ready.config) starts)
 
 pub clear-requires-clause-block : goal.clear-requires-clause-block
 clear-requires-clause-block g c =
