@@ -1,0 +1,2 @@
+-- restore
+mod Writes

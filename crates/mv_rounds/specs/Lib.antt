@@ -1,0 +1,2 @@
+-- the numbers that a task has written into the volumes
+pub mod Restored
