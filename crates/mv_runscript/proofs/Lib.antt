@@ -11,7 +11,7 @@ pub mod Paths
 pub mod Steps
 -- the events of a task in the history of all tasks
 pub mod Histories
--- write_answers
+-- write_answer_lists
 pub mod Texts
 -- run_script
 pub mod Scripts

@@ -21,7 +21,7 @@ use mv_script::{Answer, Slots};
 use mv_wait::{ExtendRefusal, NotOwner, PostAnswer, WaitRefusal};
 
 /// Returns the answer of a WAIT, with what its slots say.
-pub(crate) fn waited(outcome: Result<(), WaitRefusal>, slots: Slots) -> Answer
+pub fn waited(outcome: Result<(), WaitRefusal>, slots: Slots) -> Answer
     ensures { result ≡ done_or (λ found. answer.Waited (map slot_with found)) (wait_answer outcome slots) }
 {
     match outcome {
@@ -78,7 +78,7 @@ pub(crate) fn allocated(outcome: Result<Token, NoElement>) -> Answer
 }
 
 /// Returns the answer of a PAUSE.
-pub(crate) fn paused(outcome: Result<Given, PauseRefusal>) -> Answer
+pub fn paused(outcome: Result<Given, PauseRefusal>) -> Answer
     ensures { result ≡ done_or given_as (pause_answer outcome) }
 {
     match outcome {
@@ -136,7 +136,7 @@ pub(crate) fn deallocated(outcome: Result<(), DeallocateRefusal>) -> Answer
 }
 
 /// Returns the answer of an OBTAIN, which does not show the request's number.
-pub(crate) fn obtained(outcome: Result<Obtained, ObtainRefusal>) -> Answer
+pub fn obtained(outcome: Result<Obtained, ObtainRefusal>) -> Answer
     ensures { result ≡ done_or obtained_told (obtain_answer outcome) }
 {
     match outcome {

@@ -18,8 +18,8 @@ use mv_wait::{Station, Task};
 use std::sync::Wait;
 use std::time::Clock;
 
-// The token of the request that an OBTAIN got, if it got one.
-fn request_in(outcome: Result<Obtained, ObtainRefusal>) -> Option<LatchToken>
+/// Returns the token of the request that an OBTAIN got, if it got one.
+pub fn request_in(outcome: Result<Obtained, ObtainRefusal>) -> Option<LatchToken>
     ensures { result ≡ token_in outcome }
 {
     match outcome {
@@ -33,7 +33,7 @@ fn request_in(outcome: Result<Obtained, ObtainRefusal>) -> Option<LatchToken>
 ///
 /// A WAIT takes one of the rooms. An OBTAIN appends the request that it got, or `None`, to `requests`. The call parks and wakes
 /// as its service does, and takes no memory.
-pub(crate) fn make<R: Wait + Clock>(
+pub fn make_call<R: Wait + Clock>(
     rt: &R,
     station: &Station,
     task: &mut Task,

@@ -10,5 +10,7 @@ mod serving;
 mod text;
 mod trying;
 
+pub use answered::{obtained, paused, waited};
+pub use calling::{make_call, request_in};
 pub use run::{ScriptRun, run_script};
-pub use text::write_answers;
+pub use text::{write_answer_lists, write_answers};

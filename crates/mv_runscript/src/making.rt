@@ -8,7 +8,7 @@ ghost use Rattle.mv_runscript.specs.Making.{IsForScripts, AreSoundIn, MakesCalls
 ghost use Rattle.mv_runscript.specs.Rooms.{HasRoom, HasMade, script_with};
 ghost use Rattle.mv_wait.specs.Run.{MayCall};
 
-use crate::calling::make;
+use crate::calling::make_call;
 use crate::room::Room;
 use mv_attach::Work;
 use mv_calls::ValidTable;
@@ -55,7 +55,7 @@ fn make_all<R: Wait + Clock>(
     ensures { MakesCalls station.now.config table.now calls.now room.new.answers.items [] room.new.requests.items task.old task.new }
 {
     for call in calls {
-        let answer = make(
+        let answer = make_call(
             rt,
             station,
             task,

@@ -10,7 +10,7 @@ use crate::run::ScriptRun;
 use mv_element::{ElementState, Phase, Token};
 use mv_io::NoMemory;
 use mv_line::push_number;
-use mv_script::Answer;
+use mv_script::{Answer, AnswerList};
 use mv_wait::WaitSlot;
 use std::alloc::Global;
 
@@ -178,8 +178,22 @@ pub fn write_answers(alloc: Global, run: &ScriptRun) -> Result<Vec<u8>, NoMemory
     // With these ranges the text determines the answers.
     ensures in_range { OnOk result (AreInRange run.now.answers.items) }
 {
+    write_answer_lists(alloc, &run.answers)
+}
+
+/// Returns the text of these answers, a list for each task: a line for each answer, of all tasks in order. It takes memory for the
+/// text.
+///
+/// # Errors
+///
+/// `NoMemory` if memory runs out.
+pub fn write_answer_lists(alloc: Global, answers: &[AnswerList]) -> Result<Vec<u8>, NoMemory>
+    ensures text { IfOk result (λ bytes. bytes.items ≡ answers_text answers.now) }
+    // With these ranges the text determines the answers.
+    ensures in_range { OnOk result (AreInRange answers.now) }
+{
     let mut out = Vec::new(alloc);
-    for (task, list) in run.answers.iter().enumerate() {
+    for (task, list) in answers.iter().enumerate() {
         push_task(&mut out, task as u64, &list.answers)?;
     }
     Ok(out)

@@ -29,8 +29,8 @@ loop-call-init g c =
           c.args.task.now c.args.task.now) (sym room.none_answered) (room.none_asked, refl);
     }
 
-pub make-answer-requires-clause-task : goal.make-answer-requires-clause-task
-make-answer-requires-clause-task g c =
+pub make_call-answer-requires-clause-task : goal.make_call-answer-requires-clause-task
+make_call-answer-requires-clause-task g c =
     let cost = cost_more c.args.calls.now c.loop-call.call-index c.call-item.result c.loop-call-test.true c.call-item.is
     c.args.station.now.config in
     let left = c.loop-call.invariant.left in record {
@@ -39,29 +39,29 @@ make-answer-requires-clause-task g c =
       left = omega arith;
     }
 
-pub make-answer-requires-clause-room : goal.make-answer-requires-clause-room
-make-answer-requires-clause-room g c obtains =
+pub make_call-answer-requires-clause-room : goal.make_call-answer-requires-clause-room
+make_call-answer-requires-clause-room g c obtains =
     let asked = count_by-le-length is_obtain (take c.loop-call.call-index c.args.calls.now) in
     let made = length-take c.loop-call.call-index c.args.calls.now in
     let count = c.loop-call.invariant.count in
     let room = c.loop-call.invariant.request_room in
     omega arith
 
-pub make-answer-requires-clause-rooms : goal.make-answer-requires-clause-rooms
-make-answer-requires-clause-rooms g c =
+pub make_call-answer-requires-clause-rooms : goal.make_call-answer-requires-clause-rooms
+make_call-answer-requires-clause-rooms g c =
     let waits = left_more c.args.calls.now c.loop-call.call-index c.call-item.result c.loop-call-test.true c.call-item.is is_wait in
     let rooms = c.loop-call.invariant.rooms in
     omega arith
 
-pub make-answer-requires-clause-numbers : goal.make-answer-requires-clause-numbers
-make-answer-requires-clause-numbers g c =
+pub make_call-answer-requires-clause-numbers : goal.make_call-answer-requires-clause-numbers
+make_call-answer-requires-clause-numbers g c =
     let config = c.args.station.now.config in
     let d = c.call-item.result in
     subst (λ (x : Call). AreGoodIn config c.args.table.now x) (sym c.call-item.is)
     (sound_at config c.args.table.now [] c.args.calls.now c.loop-call.call-index d c.requires.sound c.loop-call-test.true).numbers
 
-pub make-answer-requires-clause-obtain : goal.make-answer-requires-clause-obtain
-make-answer-requires-clause-obtain g c =
+pub make_call-answer-requires-clause-obtain : goal.make_call-answer-requires-clause-obtain
+make_call-answer-requires-clause-obtain g c =
     let config = c.args.station.now.config in
     let d = c.call-item.result in
     subst (λ n. IfThere (λ k. (1 ≤ k) × (k ≤ n)) (obtain_meant d)) (sym c.loop-call.invariant.count)
@@ -75,13 +75,13 @@ loop-call-preserved g c =
     let calls = c.args.calls.now in
     let i = c.loop-call.call-index in
     let d = c.call-item.result in
-    let a = c.make-answer.result in
+    let a = c.make_call-answer.result in
     let since = c.loop-call.invariant in
     let old = c.loop-call.room.requests.items in
-    let new = c.make-answer.new.requests.items in
+    let new = c.make_call-answer.new.requests.items in
     let t = c.loop-call.task in
-    let u = c.make-answer.new.task in
-    let made = c.make-answer.ensures.makes in
+    let u = c.make_call-answer.new.task in
+    let made = c.make_call-answer.ensures.makes in
     let lt = c.loop-call-test.true in
     let is = c.call-item.is in
     let spends = call_spends config c.args.table.now d a old new t u made in
@@ -90,25 +90,25 @@ loop-call-preserved g c =
     let waits = left_more calls i d lt is is_wait in
     let left = since.left in
     let count = since.count in
-    let asked = c.make-answer.ensures.count in
+    let asked = c.make_call-answer.ensures.count in
     let rooms = since.rooms in
-    let taken = c.make-answer.ensures.rooms in
+    let taken = c.make_call-answer.ensures.rooms in
     let size = since.answers in
     let more = c.push_reserved.ensures.len in
     let answer_room = since.answer_room in
     let request_room = since.request_room in
     let pushed = c.push_reserved.ensures.capacity in
-    let kept = c.make-answer.ensures.capacity in
+    let kept = c.make_call-answer.ensures.capacity in
     record {
       board = call_keeps_board config c.args.table.now d a old new t u made c.args.station.now since.board;
       quiet = call_rests config c.args.table.now d a old new t u made;
       left = omega arith;
-      requests = c.make-answer.ensures.requests;
+      requests = c.make_call-answer.ensures.requests;
       count = asked ∙ ap (λ n. n + count_by is_obtain (d ∷ [])) count ∙ sym counted;
       request_room = omega arith;
       answers = ap length c.push_reserved.ensures.items ∙ length-append c.loop-call.room.answers.items (a ∷ []) ∙ ap (λ n. n + 1) size;
       answer_room = omega arith;
-      slots = c.make-answer.ensures.slots;
+      slots = c.make_call-answer.ensures.slots;
       rooms = omega arith;
       makes = subst (λ answers. MakesCalls config c.args.table.now (take (i + 1) calls) answers [] new c.args.task.now u)
           (sym c.push_reserved.ensures.items)

@@ -13,7 +13,7 @@ use Rattle.mv_runscript.specs.Making.{AreGoodIn, HaveSlots, MakesCall, is_wait}
 use Rattle.mv_runscript.specs.Served.{Serves}
 use Rattle.mv_runscript.proofs.Makes.{may_paid, known_makes, plain_makes}
 use Rattle.mv_runscript.proofs.Obtains.{latch_low, posts_there, requests_more, tokens_more}
-use Rattle.mv_runscript.proofs.calling.make.Goals as goal
+use Rattle.mv_runscript.proofs.calling.make_call.Goals as goal
 
 -- a WAIT
 pub wait_in-requires-clause-blocks : goal.wait_in-requires-clause-blocks

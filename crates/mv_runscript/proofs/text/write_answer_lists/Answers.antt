@@ -5,16 +5,15 @@ use Rattle.std.proofs.lemmas.List.Elements.{All-more}
 use Rattle.mv_script.specs.declared.answer.Answer.{Answer}
 use Rattle.mv_script.specs.AnswerText.{task_lines, lines_from, IsInRange, IsNumber}
 use Rattle.mv_runscript.proofs.Texts.{tasks_more}
-use Rattle.mv_runscript.proofs.text.write_answers.Goals as goal
+use Rattle.mv_runscript.proofs.text.write_answer_lists.Goals as goal
 
 pub loop-task-preserved : goal.loop-task-preserved
 loop-task-preserved c =
-    let lists = c.args.run.now.answers.items in
+    let lists = c.args.answers.now in
     let task = c.loop-task.task in
-    let list = c.list-item.result in
-    let all = c.deref-list-items.ensures.value in
-    let lt : task < length lists = subst (λ (ls : List (List Answer)). task < length ls) all c.loop-task-test.true in
-    let at : list ≡ get_or lists task list = c.list-item.is ∙ ap (λ (ls : List (List Answer)). get_or ls task list) all in
+    let list = c.index-answers-task.result in
+    let lt : task < length lists = c.loop-task-test.true in
+    let at : list ≡ get_or lists task list = c.index-answers-task.is in
     let own : c.deref.result.now ≡ list = c.deref.ensures.value ∙ c.list.view_is in
     let size : 0 + length (take task lists) ≡ task = (let n = length-take task lists in omega arith) in
     record {
