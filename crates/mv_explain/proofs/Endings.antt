@@ -4,7 +4,8 @@ use Rattle.std.specs.Prelude.{IfSome}
 use Rattle.mv_ending.specs.Ending.{EndsAs}
 use Rattle.mv_ending.specs.Written.{Nothing, PartOfReport}
 use Rattle.mv_explain.specs.declared.status.ExplainStatus.{ExplainStatus}
-use Rattle.mv_explain.specs.declared.status.ExplainStatus.TheVariants.{Done, TooLong, ReadFailed, ReportFailed, NoMemory}
+use Rattle.mv_explain.specs.declared.status.ExplainStatus.TheVariants.{Done, TooLong, ReadFailed, ReportFailed, JournalFailed}
+use Rattle.mv_explain.specs.declared.status.ExplainStatus.TheVariants.{NoMemory}
 use Rattle.mv_explain.specs.Explained.{IsExplained}
 use Rattle.mv_explain.specs.Outcome.{Asks, InputOf, Owes, ReportAfter, Writes, extent_of, input_limit}
 
@@ -65,6 +66,7 @@ ends_as bytes new TooLong Done i read wrote a = absurd (omega (arith, i.long))
 ends_as bytes new TooLong TooLong i read wrote a = inl refl
 ends_as bytes new ReportFailed Done i read wrote a = absurd (wrote refl refl)
 ends_as bytes new ReportFailed TooLong i read wrote a = absurd (omega (arith, i.short))
+ends_as bytes new JournalFailed t i read wrote a = absurd i
 ends_as bytes new s t i read wrote a = absurd a
 
 -- whether or not the source tells its bytes

@@ -8,3 +8,5 @@ pub mod JournalFacts
 pub mod Endings
 -- an_input_has_one_explanation
 pub mod OneExplanation
+-- read_and_run and explain_run: what was read and written
+pub mod Runs

@@ -7,3 +7,4 @@ pub mod Journal
 pub mod Explained
 pub mod Status
 pub mod Outcome
+pub mod Run

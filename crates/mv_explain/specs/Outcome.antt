@@ -3,22 +3,24 @@ use Rattle.std.specs.Prelude.{◌≡◌, ℕ, ◌<◌, ◌≤◌, List, length, 
 use Rattle.mv_io.specs.Sink.{Appends, AppendsFront}
 use Rattle.mv_ending.specs.Ending.{EndsAs}
 use Rattle.mv_ending.specs.Input.{IsWhole, IsTooLong, IsCut, IsAllOrNothing}
-use Rattle.mv_ending.specs.Written.{Extent, Nothing, PartOfReport, Everything}
+use Rattle.mv_ending.specs.Written.{Extent, Nothing, PartOfReport, PartOfJournal, Everything}
 use Rattle.mv_explain.specs.declared.status.ExplainStatus.{ExplainStatus}
-use Rattle.mv_explain.specs.declared.status.ExplainStatus.TheVariants.{Done, TooLong, ReadFailed, ReportFailed, NoMemory}
+use Rattle.mv_explain.specs.declared.status.ExplainStatus.TheVariants.{Done, TooLong, ReadFailed, ReportFailed, JournalFailed}
+use Rattle.mv_explain.specs.declared.status.ExplainStatus.TheVariants.{NoMemory}
 use Rattle.mv_explain.specs.Explained.{IsExplained}
 
 -- the most bytes of an input: those of a journal
 abbrev pub input_limit : ℕ
 input_limit = 67_108_864
 
--- what the input was, where its source told it, and what is left of it, after each status
+-- what the input was, where its source told it, and what is left of it, after each status; an explanation has no journal
 abbrev pub InputOf : ExplainStatus → Option (List ℕ) → Option (List ℕ) → Type 0
 InputOf Done old new = IfSome old (λ bytes. IsWhole input_limit bytes new)
 InputOf ReportFailed old new = IfSome old (λ bytes. IsWhole input_limit bytes new)
 InputOf TooLong old new = IfSome old (λ bytes. IsTooLong input_limit bytes new)
 InputOf ReadFailed old new = IfSome old (λ bytes. IsCut input_limit bytes new)
 InputOf NoMemory old new = IsAllOrNothing input_limit old new
+InputOf JournalFailed old new = ⊥
 
 -- what the sink of the report holds after each status: an explanation of the input, where that was told, or a front of one
 abbrev pub ReportAfter : ExplainStatus → (input old new : Option (List ℕ)) → Type 0
@@ -39,6 +41,7 @@ extent_of ReportFailed = PartOfReport
 extent_of TooLong = Nothing
 extent_of ReadFailed = Nothing
 extent_of NoMemory = Nothing
+extent_of JournalFailed = PartOfJournal
 
 -- the ending that an input asks for, where no stream fails and memory is there
 abbrev pub Asks : List ℕ → ExplainStatus → Type 0

@@ -65,8 +65,7 @@ fn write_out<R: Sink>(report: &mut R, text: &[u8]) -> ExplainStatus
 /// From `crates/mv_explain/src/main.rt`:
 ///
 /// ```
-/// let status = explain(rt.alloc(), &mut input, &mut report, &mut notes);
-/// ExitCode::from(status.exit())
+/// Some(Command::Explain) => explain(rt.alloc(), &mut input, &mut report, &mut notes),
 /// ```
 pub fn explain<D: Source, R: Sink, N: Sink>(
     alloc: Global,

@@ -18,6 +18,8 @@ pub enum ExplainStatus {
     ReadFailed,
     /// It could not be written whole: a prefix of it may have been.
     ReportFailed,
+    /// The journal of a run could not be written whole: a prefix of it may have been.
+    JournalFailed,
     /// Memory ran out before anything was written.
     NoMemory,
 }
@@ -32,6 +34,7 @@ impl ExplainStatus {
             ExplainStatus::TooLong => 4,
             ExplainStatus::ReadFailed => 5,
             ExplainStatus::ReportFailed => 6,
+            ExplainStatus::JournalFailed => 7,
             ExplainStatus::NoMemory => 8,
         }
     }
@@ -66,6 +69,7 @@ pub(crate) fn note_of(status: ExplainStatus) -> Option<Note>
         ExplainStatus::TooLong => Some(Note::InputTooLong),
         ExplainStatus::ReadFailed => Some(Note::ReadFailed),
         ExplainStatus::ReportFailed => Some(Note::ReportFailed),
+        ExplainStatus::JournalFailed => Some(Note::JournalFailed),
         ExplainStatus::NoMemory => Some(Note::NoMemory),
     }
 }
