@@ -13,7 +13,7 @@ use crate::task::ScriptTask;
 use mv_calls::ValidTable;
 use mv_io::NoMemory;
 use mv_machine::{Entry, Listed, State, ValidConfig};
-use mv_polled::{Order, RoundOrder};
+use mv_polledspool::{Order, RoundOrder};
 use mv_script::{AnswerList, CallList, Script, copy_config};
 use mv_wait::{Station, Task};
 use std::alloc::Global;
