@@ -29,8 +29,8 @@ use Rattle.mv_script.specs.Tasks.{Past}
 use Rattle.mv_script.specs.declared.call.Call.{Call}
 use Rattle.mv_script.specs.declared.call.Call.TheVariants as call
 use Rattle.mv_wait.specs.Run.{Went}
-use Rattle.mv_wait.proofs.LatchSteps.{went_latch}
-use Rattle.mv_wait.proofs.Runs.{went_none, went_then, went_word}
+use Rattle.mv_wait.proofs.LatchSteps.{heard_with, went_latch}
+use Rattle.mv_wait.proofs.Runs.{heard_of, went_none, went_then, went_word}
 use Rattle.mv_pollscript.specs.SoFar.{Begins}
 use Rattle.mv_pollscript.specs.Task.{Stands}
 use Rattle.mv_pollscript.specs.declared.task.Stage.{Stage}
@@ -61,10 +61,10 @@ none_begun c table past d t u is = subst (HasBegun c table past d t) (sym is)
     (record { events = []; went = went_none t; begins = begins_none c table past (kept_of t.number t.log) d })
 
 -- at the first stage only what the task was matters
-at_first : {A B C : Type 0} (s : CallStage) → AtStage s (A × B) C → AtStage s A C
-at_first New is = is.0
-at_first Begun is = is
-at_first Over is = is
+at_first : (A B C : Type 0) (s : CallStage) → AtStage s (A × B) C → AtStage s A C
+at_first A B C New is = is.0
+at_first A B C Begun is = is
+at_first A B C Over is = is
 
 module _ (c : Setup) (table : Option Table) (past : Past) (t u : CallerFace) where
   abbrev kept : Kept
@@ -92,12 +92,13 @@ module _ (c : Setup) (table : Option Table) (past : Past) (t u : CallerFace) whe
   pause_begun p is =
       let h = is.event in
       let op = op_on.Element (element_op.Pause p.token.generation) in
-      let one = went_word t (Element p.token.element) h.0 op (reply_of.Element Parked) is.parked tt h.1 in record {
-        events = _;
-        went = went_then _ [] t is.parked u one is.since;
-        begins = says_front kept _ _ _
+      let one = went_word t (Element p.token.element) h.0 op (reply_of.Element Parked) is.parked tt h.1 in
+      let heard : List Heard = heard_of t (Element p.token.element) h.0 op (reply_of.Element Parked) ∷ [] in record {
+        events = heard;
+        went = went_then heard [] t is.parked u one is.since;
+        begins = says_front kept _ _ heard
             (subst (λ (b : _). Says (unless_refused (refused_if b refusal.NotOwner) (Do (Element p.token.element) op
-            (λ x. on_element x.entry.reply (paused p.token.element p.token.generation)))) _) (sym is.own) (refl, tt));
+            (λ x. on_element x.entry.reply (paused p.token.element p.token.generation)))) heard) (sym is.own) (refl, tt));
       }
 
   pause_half : (p : PauseFace) (s : CallStage) → AtStage s (u ≡ t) (IsPausing c p.token t u)
@@ -112,12 +113,13 @@ module _ (c : Setup) (table : Option Table) (past : Past) (t u : CallerFace) whe
   obtain_begun q is =
       let h = is.event in
       let op = Obtain q.latch q.requestor q.mode Waiting in
-      let one = went_latch t h.0 op (reply_of.Latch (latch_reply.Queued q.id)) is.queued h.1 in record {
-        events = _;
-        went = went_then _ [] t is.queued u one is.since;
-        begins = says_front kept _ _ _
+      let one = went_latch t h.0 op (reply_of.Latch (latch_reply.Queued q.id)) is.queued h.1 in
+      let heard : List Heard = heard_with t h.0 op (reply_of.Latch (latch_reply.Queued q.id)) is.queued.wakes ∷ [] in record {
+        events = heard;
+        went = went_then heard [] t is.queued u one is.since;
+        begins = says_front kept _ _ heard
             (subst (λ r. Says (unless_refused r (Do Latches (op_on.Latch op)
-            (λ x. on_latch x.entry.reply (obtained q.latch Waiting)))) _) (sym is.accepted) (refl, tt));
+            (λ x. on_latch x.entry.reply (obtained q.latch Waiting)))) heard) (sym is.accepted) (refl, tt));
       }
 
   obtain_half : (q : ObtainFace) (s : CallStage) → AtStage s (u ≡ t) (IsObtaining c q.latch q.requestor q.mode q.id t u)
@@ -128,9 +130,9 @@ module _ (c : Setup) (table : Option Table) (past : Past) (t u : CallerFace) whe
 
   -- what a task has begun at a stage
   pub half : (d : Option Call) (s : Stage) → Stands c d t u s → HasBegun c table past d t u
-  half d (stage.Waits w) is = subst (λ o. HasBegun c table past o t u) (sym is.0) (wait_half w w.stage (at_first w.stage is.1))
-  half d (stage.Pauses p) is = subst (λ o. HasBegun c table past o t u) (sym is.0) (pause_half p p.stage (at_first p.stage is.1))
-  half d (stage.Obtains q) is = subst (λ o. HasBegun c table past o t u) (sym is.0) (obtain_half q q.stage (at_first q.stage is.1))
+  half d (stage.Waits w) is = subst (λ o. HasBegun c table past o t u) (sym is.0) (wait_half w w.stage (at_first _ _ _ w.stage is.1))
+  half d (stage.Pauses p) is = subst (λ o. HasBegun c table past o t u) (sym is.0) (pause_half p p.stage (at_first _ _ _ p.stage is.1))
+  half d (stage.Obtains q) is = subst (λ o. HasBegun c table past o t u) (sym is.0) (obtain_half q q.stage (at_first _ _ _ q.stage is.1))
   half d stage.Between is = none_begun c table past d t u is
   half d stage.Halted is = none_begun c table past d t u is
   half d stage.Finished is = none_begun c table past d t u is

@@ -1,7 +1,7 @@
 -- A task that polls the call in which it is: the call has its answer, or goes on.
-use Rattle.std.proofs.Common.{◌≡◌, ℕ, ◌+◌, false, List, [], ◌∷◌, ◌++◌, length, Option, Some, Result, refl, sym, ap, ◌∙◌, subst, arith}
-use Rattle.std.proofs.Common.{length-append}
-use Rattle.std.specs.Prelude.{count_by, slice_get}
+use Rattle.std.proofs.Common.{◌≡◌, ℕ, ◌+◌, false, List, [], ◌∷◌, ◌++◌, length, Option, Some, Result, Ok, Err, refl, sym, ap, ◌∙◌, subst}
+use Rattle.std.proofs.Common.{arith, length-append}
+use Rattle.std.specs.Prelude.{OnOk, count_by, slice_get}
 use Rattle.mv_board.specs.Faces.{BoardFace, CallerFace}
 use Rattle.mv_calls.specs.Services as service
 use Rattle.mv_calls.specs.declared.table.Table.{Table}
@@ -10,8 +10,10 @@ use Rattle.mv_latchset.specs.Answers.{obtain_answer}
 use Rattle.mv_latchset.specs.declared.obtaining.ObtainRefusal.{ObtainRefusal}
 use Rattle.mv_latchset.specs.declared.obtaining.Obtained.{Obtained}
 use Rattle.mv_latchset.specs.declared.token.LatchToken.{LatchToken}
-use Rattle.mv_polled.specs.Obtaining.{IsObtainAt, IsObtained, ObtainFace}
+use Rattle.mv_machine.specs.Setup.{Setup}
+use Rattle.mv_polled.specs.Obtaining.{IsLeftObtaining, IsObtainAt, IsObtained, IsObtaining, MayObtain, ObtainFace}
 use Rattle.mv_polled.specs.Pausing.{IsPauseAt, PauseFace}
+use Rattle.mv_polled.specs.Turn.{AtStage}
 use Rattle.mv_polled.specs.Waiting.{IsWaitAt, WaitFace}
 use Rattle.mv_script.specs.Answered.{done_or, obtained as obtained_told}
 use Rattle.mv_script.specs.Script.{is_obtain}
@@ -27,6 +29,16 @@ use Rattle.mv_pollscript.specs.declared.task.ScriptTask.{ScriptTask}
 use Rattle.mv_pollscript.specs.declared.task.Stage.{Stage}
 use Rattle.mv_pollscript.specs.declared.task.Stage.TheVariants as stage
 use Rattle.mv_pollscript.proofs.Steps.{task_on, task_stands}
+
+-- four facts that hold if there was memory
+pub on_ok_all : {A E P Q R S T : Type 0} (r : Result A E) → OnOk r P → OnOk r Q → OnOk r R → OnOk r S → (P → Q → R → S → T) → OnOk r T
+on_ok_all (Ok a) p q r s f = f p q r s
+on_ok_all (Err e) p q r s f = tt
+
+-- an obtain that has no answer yet may be polled again
+pub obtain_again : (c : Setup) (t0 t u : CallerFace) (q : ObtainFace) → IsLeftObtaining c q t0 t u → IsObtainAt c q t0 u
+obtain_again c t0 t u q left =
+    subst (λ s. AtStage s ((u ≡ t0) × MayObtain t0) (IsObtaining c q.latch q.requestor q.mode q.id t0 u)) (sym left.stage) left.obtaining
 
 module _ (b : BoardFace) (table : Option Table) (calls : List Call) (k : ℕ) (p q : ScriptTask) (at : IsTaskAt b table calls k p) where
   -- what the task has done since its last call, in this stage

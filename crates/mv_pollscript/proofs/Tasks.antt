@@ -2,15 +2,24 @@
 use Rattle.std.proofs.Common.{◌≡◌, ℕ, suc, ◌+◌, ◌<◌, ◌≤◌, List, [], ◌∷◌, length, get_or, map, take, drop, Option, refl, sym, ap, ◌∙◌}
 use Rattle.std.proofs.Common.{subst, arith}
 use Rattle.std.specs.List.{AllByRecursion}
-use Rattle.std.specs.Prelude.{slice_get, count_by}
+use Rattle.std.specs.Prelude.{All, slice_get, count_by}
 use Rattle.std.proofs.lemmas.List.{get_or-map, length-map}
 use Rattle.std.proofs.lemmas.Option.{unwrap_or-slice_get}
 use Rattle.mv_board.specs.Faces.{AreFresh, AreInOrder, BoardFace, CallerFace, IsFresh, IsIn, IsOf}
 use Rattle.mv_calls.specs.Rest.{IsAtRest}
 use Rattle.mv_calls.specs.declared.table.Table.{Table}
 use Rattle.mv_latchset.specs.declared.token.LatchToken.{LatchToken}
+use Rattle.mv_calls.proofs.Interleaved.{callers_exist}
+use Rattle.mv_machine.specs.Check.{IsValid}
+use Rattle.mv_machine.specs.Legal.{Legal, after}
+use Rattle.mv_machine.specs.Limits.{events_limit, highest_place}
+use Rattle.mv_machine.specs.Orderly.{IsOrderly}
 use Rattle.mv_machine.specs.Setup.{Setup}
+use Rattle.mv_machine.specs.State.{IsOpenedWith, system_of}
+use Rattle.mv_machine.specs.System.{opening}
 use Rattle.mv_machine.specs.declared.entry.Entry.{Entry}
+use Rattle.mv_machine.proofs.Longer.{entries_fit}
+use Rattle.mv_machine.proofs.Orderly.{history_is_orderly}
 use Rattle.mv_runscript.specs.Making.{AreOfLatches, IsForScripts, MakesCalls}
 use Rattle.mv_runscript.specs.Rooms.{script_with}
 use Rattle.mv_script.specs.Costs.{costs_of}
@@ -23,8 +32,10 @@ use Rattle.mv_wait.proofs.Parts.{fresh_at, one_of, still_of}
 use Rattle.mv_wait.proofs.Runs.{same_then}
 use Rattle.mv_wait.specs.Run.{Went}
 use Rattle.mv_runscript.proofs.Paths.{path_went}
-use Rattle.mv_pollscript.specs.SoFar.{HasGotTo}
+use Rattle.mv_runscript.proofs.Scripts.{task_count}
+use Rattle.mv_pollscript.specs.SoFar.{HasGotTo, IsRunSoFar}
 use Rattle.mv_pollscript.specs.Task.{AreTasksAt, IsNewTask, IsTaskAt, Stands}
+use Rattle.mv_pollscript.specs.declared.run.RunSoFar.{RunSoFar}
 use Rattle.mv_pollscript.specs.declared.task.ScriptTask.{ScriptTask}
 use Rattle.mv_pollscript.specs.declared.task.Stage.TheVariants as stage
 use Rattle.mv_pollscript.proofs.Halves.{half}
@@ -77,6 +88,10 @@ module _ (b : BoardFace) (table : Option Table) (lists : List (List Call)) (soun
       ap (λ (ts : List CallerFace). get_or ts k (task_of d)) (sym is) ∙ get_or-map task_of ps k d (task_of d) lt in
       let own = subst (λ (f : CallerFace). IsFresh b k f) same at in
       new_at b table (get_or lists k []) k p (one_of IsNewTask ps k d new lt) own (budget k p.task (omega arith) own)
+
+-- there are as many of them as tasks
+pub same_count : (tasks : List CallerFace) (ps : List ScriptTask) → map task_of ps ≡ tasks → length ps ≡ length tasks
+same_count tasks ps is = sym (length-map ps task_of) ∙ ap (λ (ts : List CallerFace). length ts) is
 
 -- the task of a board, with its number
 pub own_task : (b : BoardFace) (table : Option Table) (calls : List Call) (k : ℕ) (p : ScriptTask) → IsTaskAt b table calls k p
@@ -137,3 +152,30 @@ for_scripts c table lists sound = record {
   volume_count = ap (λ (s : Setup). s.volumes) sound.setup;
   latch_count = ap (λ (s : Setup). s.latches) sound.setup;
 }
+
+-- ---- the run
+
+pub run_is : (b : BoardFace) (c : Setup) (table : Option Table) (lists : List (List Call)) (ps : List ScriptTask) (es : List Entry)
+    (r : RunSoFar)
+    → IsSound (script_with c table lists) → IsValid c → b.config ≡ c → length ps ≡ length lists → AreTasksAt b table lists ps
+    → AllByRecursion (IsIn b.config es) (map task_of ps) → Legal b.config es → length es ≤ events_limit → r.config ≡ c
+    → r.journal.items ≡ es → system_of r.state ≡ after c es → IsOpenedWith c r.state → r.answers.items ≡ map answers_of ps
+    → IsRunSoFar (script_with c table lists) r
+run_is b c table lists ps es r sound valid config size all within legal few same journal state opened answers =
+    let own = subst (λ (s : Setup). Legal s es) config legal in record {
+      config = same;
+      valid = valid;
+      legal = subst (Legal c) (sym journal) own;
+      callers = subst (AllByRecursion (λ e. e.caller < length lists)) (sym journal)
+          (subst (λ n. AllByRecursion (λ e. e.caller < n) es) (task_count c table lists sound) (callers_exist c (opening c) es own));
+      orderly = subst (IsOrderly c) (sym journal) (history_is_orderly c es own);
+      state = subst (λ (xs : List Entry). system_of r.state ≡ after c xs) (sym journal) state;
+      opened = opened;
+      lists = ap (λ (xs : List (List Answer)). length xs) answers ∙ length-map ps answers_of ∙ size;
+      tasks = λ k lt. subst (λ (xs : List Entry). HasGotTo (script_with c table lists) xs k (get_or r.answers.items k [])) (sym journal)
+          (subst (λ (xs : List (List Answer)). HasGotTo (script_with c table lists) es k (get_or xs k [])) (sym answers)
+          (subst (λ (s : Setup). HasGotTo (script_with s table lists) es k (get_or (map answers_of ps) k [])) config
+          (all_got_to b table lists ps es all within size k lt)));
+      few = subst (λ (xs : List Entry). length xs ≤ events_limit) (sym journal) few;
+      places = subst (All (λ e. e.place ≤ highest_place)) (sym journal) (entries_fit b.config es legal few);
+    }

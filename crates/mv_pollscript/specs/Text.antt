@@ -17,7 +17,7 @@ use Rattle.mv_script.specs.declared.call.Call.TheVariants as call
 
 -- a task waits at this call
 unfoldable pub waiter_text : Place → List ℕ
-waiter_text at = (TASK.now ++ decimal at.task) ++ WAITS.now ++ decimal at.call
+waiter_text at = (TASK.now ++ decimal at.task) ++ (WAITS.now ++ decimal at.call)
 
 -- the call that would end a wait, or that there is none
 unfoldable pub who_text : Option Place → (would nobody : List ℕ) → List ℕ
@@ -72,7 +72,7 @@ stopped_text at = (TASK.now ++ decimal at.task) ++ (STOPS.now ++ decimal at.call
 abbrev pub next_text : Setup → System → List (List Call) → List (List Answer) → ℕ → Option Call → List ℕ
 next_text c s lists answers k None = []
 next_text c s lists answers k (Some d) =
-    let at = record { task = k; call = length (slice_index_or answers k []) + 1 } in
+    let at : Place = record { task = k; call = length (slice_index_or answers k []) + 1 } in
     if waits_in s k d then call_text c s lists answers at d else stopped_text at
 
 -- the same, with the call after those that have an answer

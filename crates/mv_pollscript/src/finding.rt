@@ -61,6 +61,13 @@ fn does(call: &Call, deed: Deed) -> bool
     }
 }
 
+// How many of these calls are before the first that does this.
+fn first_in(calls: &[Call], deed: Deed) -> Option<usize>
+    ensures { result ≡ position (does_deed deed) calls.now }
+{
+    calls.iter().position(|call| does(call, deed))
+}
+
 // The number of the first of these calls after `made` of them that does this, counted from 1.
 fn place_in(calls: &[Call], made: usize, deed: Deed) -> Option<u64>
     ensures { result ≡ place_among deed calls.now made }
@@ -68,8 +75,10 @@ fn place_in(calls: &[Call], made: usize, deed: Deed) -> Option<u64>
     if made >= calls.len() {
         return None;
     }
-    let ahead = calls[made..].iter().position(|call| does(call, deed))?;
-    Some(made as u64 + ahead as u64 + 1)
+    match first_in(&calls[made..], deed) {
+        Some(ahead) => Some(made as u64 + ahead as u64 + 1),
+        None => None,
+    }
 }
 
 /// Returns the first call that does this among those without an answer, task by task. `task` is the number of the first of these
@@ -83,13 +92,14 @@ pub(crate) fn first_call(
     requires { task + length lists.now < 2 ^ 32 }
     ensures { result ≡ first_call_of deed task lists.now answers.now }
 {
-    match (lists, answers) {
-        ([list, lists @ ..], [own, answers @ ..]) => {
-            match place_in(&list.calls, own.answers.len(), deed) {
+    match lists {
+        [] => None,
+        [list, lists @ ..] => match answers {
+            [] => None,
+            [own, answers @ ..] => match place_in(&list.calls, own.answers.len(), deed) {
                 Some(call) => Some(Place { task, call }),
                 None => first_call(lists, answers, task + 1, deed),
-            }
-        }
-        _ => None,
+            },
+        },
     }
 }

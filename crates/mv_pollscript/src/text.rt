@@ -28,7 +28,8 @@ fn push_waiter(out: &mut Vec<u8>, at: Place) -> Result<(), NoMemory>
     ensures { OnOk result (out.new.items ≡ out.old.items ++ waiter_text at) }
 {
     push_number(out, TASK, u64::from(at.task))?;
-    push_number(out, WAITS, at.call)
+    push_number(out, WAITS, at.call)?;
+    Ok(())
 }
 
 // Says which call would end a wait, or that none would.
