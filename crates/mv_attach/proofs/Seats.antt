@@ -1,6 +1,6 @@
--- Seats by their tasks and rooms. Used by run_tasks.
-use Rattle.std.proofs.Common.{◌≡◌, ℕ, ◌+◌, ◌<◌, List, [], ◌∷◌, suc, length, map, get_or, sym, ap, ◌∙◌, subst, arith}
-use Rattle.std.proofs.lemmas.List.{get_or-map, length-map}
+-- Seats by their tasks and rooms. Used by `seated` and `run_tasks`.
+use Rattle.std.proofs.Common.{◌≡◌, ℕ, ◌+◌, ◌<◌, List, [], ◌∷◌, ◌++◌, suc, length, map, get_or, sym, ap, ◌∙◌, subst, arith}
+use Rattle.std.proofs.lemmas.List.{get_or-map, length-append, length-map}
 use Rattle.mv_board.specs.Faces.{BoardFace, CallerFace, IsOf, IsFresh, AreFresh, AreInOrder}
 use Rattle.mv_wait.proofs.Parts.{fresh_at}
 use Rattle.mv_attach.specs.declared.seat.Seat.{Seat}
@@ -60,3 +60,16 @@ module _ {S : Type 0} where
       subst (λ r. P k r (get_or tasks k t) (get_or back k s)) old_room
       (subst (λ u. P k (get_or old k d).room u (get_or back k s)) task
       (subst (λ r. P k (get_or old k d).room (get_or new k d).task r) room (each k d low)))
+
+  -- a room is left while a task is left, since there are as many rooms as tasks
+  pub room_left : (seats : List (Seat S)) (yielded left tasks : List CallerFace) (task : CallerFace) (more rooms : List S)
+      → map (λ (s : Seat S). s.task) seats ≡ yielded → yielded ++ task ∷ left ≡ tasks → map (λ (s : Seat S). s.room) seats ++ more ≡ rooms
+      → length rooms ≡ length tasks → length more ≡ 0 → ⊥
+  room_left seats yielded left tasks task more rooms seated all given same none =
+      let by_task = length-map seats (λ (s : Seat S). s.task) in
+      let by_room = length-map seats (λ (s : Seat S). s.room) in
+      let so_far = ap length seated in
+      let all_tasks = ap length all in
+      let task_parts = length-append yielded (task ∷ left) in
+      let all_rooms = ap length given in
+      let room_parts = length-append (map (λ (s : Seat S). s.room) seats) more in omega arith

@@ -1,4 +1,5 @@
 use Rattle.std.proofs.Common.{◌≡◌, ◌+◌, length, map, sym, ap, ◌∙◌, subst, arith}
+use Rattle.std.proofs.lemmas.List.{length-map}
 use Rattle.mv_board.specs.Faces.{AreInOrder}
 use Rattle.mv_wait.proofs.Parts.{given_back}
 use Rattle.mv_attach.specs.declared.seat.Seat.{Seat}
@@ -40,3 +41,51 @@ returns-clause-done g c =
     (c.parted.ensures.tasks ∙ ap (map (λ (s : Seat g.row.W-Room.Denot). s.task)) given)
     (c.parted.ensures.rooms ∙ ap (map (λ (s : Seat g.row.W-Room.Denot). s.room)) given)
     c.work_all.ensures.count c.work_all.ensures.done
+
+pub work_all-requires-clause-exist : goal.work_all-requires-clause-exist
+work_all-requires-clause-exist g c κs within =
+    let all : length c.deref_mut.result.now ≡ c.args.station.now.config.callers =
+    ap length c.deref_mut.ensures.value ∙ sym (length-map c.in_ok-seats.seats.items (λ (s : Seat g.row.W-Room.Denot). s.task))
+    ∙ ap length c.in_ok-seats.ensures.tasks ∙ c.requires.all in omega arith
+
+-- both lists have room for all that come back
+pub parted-requires-clause-tasks : goal.parted-requires-clause-tasks
+parted-requires-clause-tasks g c =
+    let count : length c.work_all.new.seats ≡ length c.in_ok-seats.seats.items =
+    c.work_all.ensures.count ∙ ap length c.deref_mut.ensures.value in
+    let back =
+    ap length (given_back c.in_ok-seats.seats.len c.work_all.new.seats c.in_ok-seats.seats.items count c.in_ok-seats.seats.ok.0) in
+    let all = ap length c.in_ok-seats.ensures.tasks in
+    let same = length-map c.in_ok-seats.seats.items (λ (s : Seat g.row.W-Room.Denot). s.task) in
+    (c.in_ok-tasks_back.ensures.items, omega arith)
+
+pub parted-requires-clause-rooms : goal.parted-requires-clause-rooms
+parted-requires-clause-rooms g c =
+    let count : length c.work_all.new.seats ≡ length c.in_ok-seats.seats.items =
+    c.work_all.ensures.count ∙ ap length c.deref_mut.ensures.value in
+    let back =
+    ap length (given_back c.in_ok-seats.seats.len c.work_all.new.seats c.in_ok-seats.seats.items count c.in_ok-seats.seats.ok.0) in
+    let all = ap length c.in_ok-seats.ensures.rooms in
+    let same = length-map c.in_ok-seats.seats.items (λ (s : Seat g.row.W-Room.Denot). s.room) in
+    (c.in_ok-rooms_back.ensures.items, omega arith)
+
+pub returns-clause-all : goal.returns-clause-all
+returns-clause-all g c =
+    let new = c.work_all.new.seats in
+    let count : length c.work_all.new.seats ≡ length c.in_ok-seats.seats.items =
+    c.work_all.ensures.count ∙ ap length c.deref_mut.ensures.value in
+    let given = given_back c.in_ok-seats.seats.len new c.in_ok-seats.seats.items count c.in_ok-seats.seats.ok.0 in
+    ap length (c.parted.ensures.tasks ∙ ap (map (λ (s : Seat g.row.W-Room.Denot). s.task)) given)
+    ∙ length-map new (λ (s : Seat g.row.W-Room.Denot). s.task) ∙ count
+    ∙ sym (length-map c.in_ok-seats.seats.items (λ (s : Seat g.row.W-Room.Denot). s.task)) ∙ ap length c.in_ok-seats.ensures.tasks
+    ∙ c.requires.all
+
+pub returns-clause-rooms : goal.returns-clause-rooms
+returns-clause-rooms g c =
+    let new = c.work_all.new.seats in
+    let count : length c.work_all.new.seats ≡ length c.in_ok-seats.seats.items =
+    c.work_all.ensures.count ∙ ap length c.deref_mut.ensures.value in
+    let given = given_back c.in_ok-seats.seats.len new c.in_ok-seats.seats.items count c.in_ok-seats.seats.ok.0 in
+    ap length (c.parted.ensures.rooms ∙ ap (map (λ (s : Seat g.row.W-Room.Denot). s.room)) given)
+    ∙ length-map new (λ (s : Seat g.row.W-Room.Denot). s.room) ∙ count
+    ∙ sym (length-map c.in_ok-seats.seats.items (λ (s : Seat g.row.W-Room.Denot). s.room)) ∙ ap length c.in_ok-seats.ensures.rooms
