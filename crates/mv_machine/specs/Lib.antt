@@ -27,3 +27,5 @@ pub mod Orderly
 pub mod Replies
 pub mod Leaving
 pub mod Waking
+-- the words of all of these, from one place
+pub mod Prelude

@@ -4,32 +4,14 @@
 ghost use Rattle.std.specs.Prelude.{◌≡◌, ◌↔◌, ◌⊎◌, ◌<◌, ◌≤◌, ◌++◌, ◌∷◌, ◌+◌, ◌^◌, ℕ, true, false, List, [], length, filter, Some};
 ghost use Rattle.std.specs.Prelude.{option_map, option_and_then, IfSome, IsSome};
 ghost use Rattle.std.specs.List.{All, Contains};
-ghost use Rattle.mv_ecb.specs.Word.{Complete};
-ghost use Rattle.mv_element.specs.declared.element.Phase.TheVariants.{Free, Prereleased, Released};
-ghost use Rattle.mv_latch.specs.declared.request.Request.{Request};
-ghost use Rattle.mv_latch.specs.Latch.{granted};
-ghost use Rattle.mv_latch.specs.LatchSet.{count_in, list_of, IsNewId};
-ghost use Rattle.mv_latch.specs.Request.{has_id, of_caller, posted_of};
-ghost use Rattle.mv_machine.specs.declared.entry.Entry.{Entry};
-ghost use Rattle.mv_machine.specs.declared.entry.Object.{Object};
-ghost use Rattle.mv_machine.specs.declared.entry.Object.TheVariants.{Ecb, Element, Latches};
-ghost use Rattle.mv_machine.specs.declared.entry.Op.{Op};
-ghost use Rattle.mv_machine.specs.declared.packing.WordState.{WordState};
-ghost use Rattle.mv_machine.specs.Check.{IsValid};
-ghost use Rattle.mv_machine.specs.Elements.{FitsItsPlace};
-ghost use Rattle.mv_machine.specs.Kept.{StandingRequest, standing, allowed, is_posting, RisesFrom};
-ghost use Rattle.mv_machine.specs.Leaving.{NoneTakesOut};
-ghost use Rattle.mv_machine.specs.Legal.{Legal, SameAt, same_object, after, of, «at», CountsFrom};
-ghost use Rattle.mv_machine.specs.Limits.{events_limit, highest_place, highest_generation};
-ghost use Rattle.mv_machine.specs.Merge.{merged, merge_from, start, entry_count};
-ghost use Rattle.mv_machine.specs.OnePost.{TakePosts};
-ghost use Rattle.mv_machine.specs.Orderly.{IsOrderly};
-ghost use Rattle.mv_machine.specs.Owned.{owner_at, is_owners, is_clear, HasNo, IsGranted, IsGone};
-ghost use Rattle.mv_machine.specs.Packing.{HasFields, IsStateOf, HasOpFields, pack, unpack, state_at, word_at, state_after, reply_in};
-ghost use Rattle.mv_machine.specs.Parts.{parts, KeepsBudgets, Had};
-ghost use Rattle.mv_machine.specs.Setup.{Setup, owner_of, element_owner};
-ghost use Rattle.mv_machine.specs.System.{System, place_of, admitted, reply_to, moved};
-ghost use Rattle.mv_machine.specs.Told.{told};
+ghost use Rattle.mv_machine.specs.Prelude.{Complete, Free, Prereleased, Released, Request, granted, count_in, list_of, IsNewId, has_id};
+ghost use Rattle.mv_machine.specs.Prelude.{of_caller, posted_of, Entry, Object, Ecb, Element, Latches, Op, WordState, IsValid};
+ghost use Rattle.mv_machine.specs.Prelude.{FitsItsPlace, StandingRequest, standing, allowed, is_posting, RisesFrom, NoneTakesOut, Legal};
+ghost use Rattle.mv_machine.specs.Prelude.{SameAt, same_object, after, of, «at», CountsFrom, events_limit, highest_place};
+ghost use Rattle.mv_machine.specs.Prelude.{highest_generation, merged, merge_from, start, entry_count, TakePosts, IsOrderly, owner_at};
+ghost use Rattle.mv_machine.specs.Prelude.{is_owners, is_clear, HasNo, IsGranted, IsGone, HasFields, IsStateOf, HasOpFields, pack};
+ghost use Rattle.mv_machine.specs.Prelude.{unpack, state_at, word_at, state_after, reply_in, parts, KeepsBudgets, Had, Setup, owner_of};
+ghost use Rattle.mv_machine.specs.Prelude.{element_owner, System, place_of, admitted, reply_to, moved, told};
 
 /// Shows that after every legal list an element's place is at least twice its generation plus the extra of its phase. So within
 /// the events that the budgets of a run may allow, no object's place is above 524,287, no entry's place is above 524,286, and

@@ -7,8 +7,7 @@ ghost use Rattle.mv_latch.specs.LatchSet.{opened};
 ghost use Rattle.mv_machine.specs.Config.{exit_of};
 ghost use Rattle.mv_machine.specs.Limits.{exits_limit};
 ghost use Rattle.mv_machine.specs.Reach.{reach, release_cost};
-ghost use Rattle.mv_machine.specs.Setup.{Setup, is_exit_of, targets_of, is_on, is_on_exit};
-ghost use Rattle.mv_machine.specs.Setup.{owner_of, element_owner, element_count};
+ghost use Rattle.mv_machine.specs.Setup.{Setup, owner_of, element_owner, element_count, is_exit_of, targets_of, is_on, is_on_exit};
 
 use crate::config::{Config, Exit};
 use crate::reaching::{reaches_of, release_cost_of};
