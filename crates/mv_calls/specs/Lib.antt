@@ -26,3 +26,5 @@ pub mod Counters
 pub mod OneCall
 pub mod Judge
 pub mod CallsReplay
+-- the words of all of these, from one place
+pub mod Prelude

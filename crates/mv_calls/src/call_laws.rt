@@ -1,33 +1,14 @@
 //! Laws of a log's last event, and of how many events calls may need: by specs/Behind.antt, specs/Exits.antt, and the machine's
 //! specs/Replies.antt.
 ghost use Rattle.std.specs.Prelude.{◌≡◌, ◌<◌, ◌≤◌, ◌+◌, ◌++◌, ◌∷◌, ℕ, suc, true, List, [], length};
-ghost use Rattle.mv_ecb.specs.declared.operation.EcbOp.{EcbOp};
-ghost use Rattle.mv_ecb.specs.Table.{ecb_step};
-ghost use Rattle.mv_element.specs.declared.operation.ElementOp.{ElementOp};
-ghost use Rattle.mv_element.specs.Table.{element_step};
-ghost use Rattle.mv_latch.specs.declared.operation.LatchOp.{LatchOp};
-ghost use Rattle.mv_latch.specs.declared.operation.Wake.{Wake};
-ghost use Rattle.mv_latch.specs.LatchSet.{latch_step};
-ghost use Rattle.mv_machine.specs.declared.entry.Entry.{Entry};
-ghost use Rattle.mv_machine.specs.declared.entry.Object.TheVariants.{Ecb, Element, Volume, Latches};
+ghost use Rattle.mv_machine.specs.Prelude.{EcbOp, ecb_step, ElementOp, element_step, LatchOp, Wake, latch_step, Entry, Ecb, Element};
+ghost use Rattle.mv_machine.specs.Prelude.{Volume, Latches, VolumeOp, IsValid, IsNext, Legal, after, events_limit, highest_generation};
+ghost use Rattle.mv_machine.specs.Prelude.{IsPossible, reach, total, IsOfKind, HasPlaceAsNumber, NamesUpTo, NamesLowCode, Setup};
+ghost use Rattle.mv_machine.specs.Prelude.{is_exit_of, targets_of, System, volume_step, told};
 ghost use Rattle.mv_machine.specs.declared.entry.Op.TheVariants as op_on;
 ghost use Rattle.mv_machine.specs.declared.entry.Reply.TheVariants as reply_of;
-ghost use Rattle.mv_machine.specs.declared.entry.VolumeOp.{VolumeOp};
-ghost use Rattle.mv_calls.specs.Behind.{IsBehind};
-ghost use Rattle.mv_machine.specs.Check.{IsValid};
+ghost use Rattle.mv_calls.specs.Prelude.{IsBehind, Kept, told_by, HaveTheirWakes, post, Heard, Says, entries};
 ghost use Rattle.mv_calls.specs.Exits.{NamesOwnExit, NameOwnExits, HaveFairWakes};
-ghost use Rattle.mv_machine.specs.Legal.{IsNext, Legal, after};
-ghost use Rattle.mv_machine.specs.Limits.{events_limit, highest_generation};
-ghost use Rattle.mv_machine.specs.Parts.{IsPossible};
-ghost use Rattle.mv_machine.specs.Reach.{reach, total};
-ghost use Rattle.mv_machine.specs.Replies.{IsOfKind, HasPlaceAsNumber, NamesUpTo, NamesLowCode};
-ghost use Rattle.mv_machine.specs.Setup.{Setup, is_exit_of, targets_of};
-ghost use Rattle.mv_machine.specs.System.{System, volume_step};
-ghost use Rattle.mv_machine.specs.Told.{told};
-ghost use Rattle.mv_calls.specs.Keeping.{Kept};
-ghost use Rattle.mv_calls.specs.Made.{told_by, HaveTheirWakes};
-ghost use Rattle.mv_calls.specs.Posts.{post};
-ghost use Rattle.mv_calls.specs.Program.{Heard, Says, entries};
 ghost use Rattle.mv_calls.specs.Services.{Service, program, most_events, HasItsTable};
 
 /// Shows that the last entry of a possible log was the machine's next one, after a legal history of which the log before it is

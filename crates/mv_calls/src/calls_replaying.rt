@@ -1,12 +1,8 @@
 //! The judgement of a list of entries with call numbers. `specs/CallsReplay.antt` says why a list is refused.
 
 ghost use Rattle.std.specs.Prelude.{◌≡◌, ◌≢◌, ◌<◌, ◌≤◌, ◌^◌, [], All, length, IfOk, OnOk, IfErr, MatchOption};
-ghost use Rattle.mv_machine.specs.Legal.{Legal, after};
-ghost use Rattle.mv_machine.specs.Limits.{highest_place};
-ghost use Rattle.mv_machine.specs.OnePost.{TakePosts};
-ghost use Rattle.mv_machine.specs.Orderly.{IsOrderly};
-ghost use Rattle.mv_machine.specs.State.{system_of, wakes_of, IsOpenedWith};
-ghost use Rattle.mv_machine.specs.Told.{last_wakes};
+ghost use Rattle.mv_machine.specs.Prelude.{Legal, after, highest_place, TakePosts, IsOrderly, system_of, wakes_of, IsOpenedWith};
+ghost use Rattle.mv_machine.specs.Prelude.{last_wakes};
 ghost use Rattle.mv_calls.specs.CallsReplay.{IsReplayed, IsIllegalRefused, IsCallsRefused};
 ghost use Rattle.mv_calls.specs.Judge.{HasJudged};
 ghost use Rattle.mv_calls.specs.Numbers.{calls as calls_of};

@@ -3,13 +3,8 @@
 
 ghost use Rattle.std.specs.Prelude.{◌≡◌, ◌<◌, ◌≤◌, ◌-◌, ◌^◌, ◌↔◌, List, [], Some, length, IfOk, IsTrue};
 ghost use Rattle.std.specs.Prelude.{MatchBool, MatchOption};
-ghost use Rattle.mv_machine.specs.declared.entry.Entry.{Entry as AnyEntry};
-ghost use Rattle.mv_machine.specs.Limits.{highest_place};
-ghost use Rattle.mv_machine.specs.Setup.{Setup as AnySetup};
-ghost use Rattle.mv_machine.specs.Legal.{after};
-ghost use Rattle.mv_machine.specs.State.{system_of, wakes_of, IsOpenedWith};
-ghost use Rattle.mv_machine.specs.System.{place_of};
-ghost use Rattle.mv_machine.specs.Told.{last_wakes};
+ghost use Rattle.mv_machine.specs.Prelude.{Entry as AnyEntry, highest_place, Setup as AnySetup, after, system_of, wakes_of, IsOpenedWith};
+ghost use Rattle.mv_machine.specs.Prelude.{place_of, last_wakes};
 ghost use Rattle.mv_calls.specs.Judge.{HasJudged, IsJudgedNext, IsUnfitNext};
 
 use crate::counters::CallCounters;

@@ -3,8 +3,7 @@
 
 ghost use Rattle.std.specs.Prelude.{◌≡◌, ◌<◌, ◌≤◌, ◌^◌, ℕ, List, All, length, IfOk};
 ghost use Rattle.mv_calls.specs.Program.{Heard};
-ghost use Rattle.mv_machine.specs.Legal.{Legal};
-ghost use Rattle.mv_machine.specs.Limits.{highest_place};
+ghost use Rattle.mv_machine.specs.Prelude.{Legal, highest_place};
 ghost use Rattle.mv_calls.specs.Numbers.{calls};
 ghost use Rattle.mv_calls.specs.OneCall.{IsOneCall, HasOneNumber};
 

@@ -3,8 +3,7 @@
 
 ghost use Rattle.std.specs.Prelude.{◌≡◌, ◌+◌, ◌≤◌, ◌==◌, ◌++◌, ◌⊎◌, not, length, find, IfOk, IfErr, OnOk, Some, None};
 ghost use Rattle.std.specs.List.{range_with_len};
-ghost use Rattle.mv_machine.specs.Limits.{ecbs_limit};
-ghost use Rattle.mv_machine.specs.Setup.{owner_of, is_on_exit};
+ghost use Rattle.mv_machine.specs.Prelude.{ecbs_limit, owner_of, is_on_exit};
 ghost use Rattle.mv_calls.specs.Table.{table_refusal, IsTableOf, IsSoundTable, is_bad_range, first_of_others, first_with_exit};
 ghost use Rattle.mv_calls.specs.Table.{blocks_of_table};
 
