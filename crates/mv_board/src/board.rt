@@ -4,14 +4,9 @@
 
 ghost use Rattle.std.specs.Prelude.{◌≡◌, ◌<◌, ◌≤◌, ◌∷◌, [], true, length, vec_capacity, IfOk, MatchResult, Some};
 ghost use Rattle.std.specs.List.{Contains};
-ghost use Rattle.mv_machine.specs.Check.{IsValid};
-ghost use Rattle.mv_machine.specs.Kept.{allowed};
-ghost use Rattle.mv_machine.specs.Parts.{IsPossible};
-ghost use Rattle.mv_machine.specs.Owned.{owner_at};
-ghost use Rattle.mv_machine.specs.Room.{IsRoomFor};
+ghost use Rattle.mv_machine.specs.Prelude.{IsValid, allowed, IsPossible, owner_at, IsRoomFor, opening};
 ghost use Rattle.mv_board.specs.Faces.{IsOf, IsFresh, AreFresh, Happened, Found, Exchanged, Missed, IsAsListed, MayWatch, PeekedAt, Peeks};
 ghost use Rattle.mv_board.specs.declared.watch.Watch.{Watch as AnyWatch};
-ghost use Rattle.mv_machine.specs.System.{opening};
 ghost use Rattle.mv_board.specs.Rule.{IsLists};
 ghost use Rattle.mv_board.specs.Steps.{MadeAfterLooks, Meets, watch_of};
 ghost use Rattle.mv_board.specs.Words.{HasWord, test_of as test_on, word_count};

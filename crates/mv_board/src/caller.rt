@@ -2,9 +2,7 @@
 
 ghost use Rattle.std.specs.Prelude.{◌≡◌, ◌<◌, ◌≤◌, ◌-◌};
 ghost use Rattle.std.specs.List.{AllByRecursion};
-ghost use Rattle.mv_machine.specs.Limits.{events_limit};
-ghost use Rattle.mv_machine.specs.Log.{with_entry};
-ghost use Rattle.mv_machine.specs.Setup.{Setup};
+ghost use Rattle.mv_machine.specs.Prelude.{events_limit, with_entry, Setup};
 ghost use Rattle.mv_board.specs.Faces.{last_of};
 
 use crate::item::Item;

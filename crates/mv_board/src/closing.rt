@@ -3,10 +3,7 @@
 
 ghost use Rattle.std.specs.Prelude.{◌≡◌, ◌≤◌, ◌++◌, ◌∷◌, [], length, map};
 ghost use Rattle.std.specs.List.{AllByRecursion};
-ghost use Rattle.mv_machine.specs.Legal.{Legal, after};
-ghost use Rattle.mv_machine.specs.Limits.{events_limit};
-ghost use Rattle.mv_machine.specs.Merge.{merged as merged_logs};
-ghost use Rattle.mv_machine.specs.Parts.{KeepsBudgets};
+ghost use Rattle.mv_machine.specs.Prelude.{Legal, after, events_limit, merged as merged_logs, KeepsBudgets};
 ghost use Rattle.mv_board.specs.Faces.{IsOf, AreInOrder, IsPartIn, IsIn, part_of, log_of, AreHeld};
 
 use crate::board::Board;

@@ -3,10 +3,8 @@
 
 ghost use Rattle.std.specs.Prelude.{◌≡◌, ◌<◌, ◌∷◌, [], true};
 ghost use Rattle.std.specs.List.{Contains};
-ghost use Rattle.mv_machine.specs.Kept.{allowed};
-ghost use Rattle.mv_machine.specs.Parts.{IsPossible};
+ghost use Rattle.mv_machine.specs.Prelude.{allowed, IsPossible, is_settled as is_settled_reply};
 ghost use Rattle.mv_board.specs.Faces.{IsOf, Happened, IsAsListed, MayWatch, PeekedIn};
-ghost use Rattle.mv_latch.specs.Latch.{is_settled as is_settled_reply};
 ghost use Rattle.mv_board.specs.Turn.{named_by, MeetsLists};
 ghost use Rattle.mv_board.specs.View.{own, with_turn};
 ghost use Rattle.mv_board.specs.declared.item.Item.TheVariants.{Away};

@@ -3,8 +3,7 @@
 ghost use Rattle.std.specs.Prelude.{◌≡◌, ◌≢◌, ◌<◌, ◌-◌, ◌^◌, [], true, Some, length, OnOk, MatchResult};
 ghost use Rattle.mv_line.specs.Fault.{TellsLowest};
 ghost use Rattle.mv_line.specs.Line.{cut_off};
-ghost use Rattle.mv_machine.specs.Check.{IsValid};
-ghost use Rattle.mv_machine.specs.Config.{setup_of};
+ghost use Rattle.mv_calls.specs.Prelude.{IsValid, setup_of};
 ghost use Rattle.mv_entrytext.specs.Journal.{Events};
 ghost use Rattle.mv_entrytext.specs.Lines.{AtEntries, blank, draft_with, line_read};
 ghost use Rattle.mv_entrytext.specs.Fault.{TellsFirst, kind_number, kind_of_form, listed, text_fault};

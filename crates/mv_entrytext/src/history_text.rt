@@ -4,15 +4,12 @@ ghost use Rattle.std.specs.Prelude.{◌≡◌, ◌≤◌, ◌<◌, ◌+◌, ◌^
 ghost use Rattle.std.specs.declared.option.Option.{Option as AnyOption};
 ghost use Rattle.mv_io.specs.Fault.{Rose};
 ghost use Rattle.mv_io.specs.Sink.{Appends, AppendsFront};
-ghost use Rattle.mv_machine.specs.Legal.{Legal};
-ghost use Rattle.mv_machine.specs.Limits.{events_limit};
-ghost use Rattle.mv_calls.specs.Counters.{HasCounted};
+ghost use Rattle.mv_calls.specs.Prelude.{Legal, events_limit, HasCounted};
 ghost use Rattle.mv_entrytext.specs.EntryText.{IsTyped};
 ghost use Rattle.mv_entrytext.specs.Fault.{HasJournal};
 ghost use Rattle.mv_entrytext.specs.HistoryText.{piece_size, IsWrittenSoFar};
-ghost use Rattle.mv_entrytext.specs.Journal.{End, head_text, journal_text, line};
+ghost use Rattle.mv_entrytext.specs.Journal.{End, Two, head_text, journal_text, line};
 ghost use Rattle.mv_entrytext.specs.Widths.{line_width};
-ghost use Rattle.mv_entrytext.specs.declared.version.Version.TheVariants.{Two};
 
 use crate::reserved::LINE_WIDTH;
 use crate::typed::tell_history;

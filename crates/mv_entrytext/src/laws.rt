@@ -2,12 +2,7 @@
 
 ghost use Rattle.std.specs.Prelude.{◌≡◌, ◌≤◌, ◌↔◌, ℕ, List, All, None, MatchOption, length};
 ghost use Rattle.mv_line.specs.declared.fault.TextFault.{TextFault};
-ghost use Rattle.mv_machine.specs.declared.entry.Entry.{Entry};
-ghost use Rattle.mv_machine.specs.Check.{IsValid};
-ghost use Rattle.mv_machine.specs.Legal.{Legal};
-ghost use Rattle.mv_calls.specs.Numbers.{calls as calls_of};
-ghost use Rattle.mv_machine.specs.Setup.{Setup};
-ghost use Rattle.mv_machine.specs.Limits.{highest_place};
+ghost use Rattle.mv_calls.specs.Prelude.{Entry, IsValid, Legal, calls as calls_of, Setup, highest_place};
 ghost use Rattle.mv_entrytext.specs.declared.version.Version.{Version as AnyVersion};
 ghost use Rattle.mv_entrytext.specs.Ranges.{highest_u32};
 ghost use Rattle.mv_entrytext.specs.EntryText.{IsInRange, IsTyped};

@@ -3,8 +3,7 @@
 
 ghost use Rattle.std.specs.Prelude.{◌≡◌, ◌+◌, ◌<◌, ◌-◌, ◌^◌, [], true, Some, ℕ, List, length, IfOk, IfSome, MatchOption, MatchResult};
 ghost use Rattle.mv_line.specs.Fault.{IsPassed};
-ghost use Rattle.mv_machine.specs.declared.entry.Entry.{Entry as AnyEntry};
-ghost use Rattle.mv_machine.specs.Setup.{Setup};
+ghost use Rattle.mv_calls.specs.Prelude.{Entry as AnyEntry, Setup};
 ghost use Rattle.mv_entrytext.specs.declared.version.Version.{Version as AnyVersion};
 ghost use Rattle.mv_entrytext.specs.EntryText.{entry_text};
 ghost use Rattle.mv_entrytext.specs.Lines.{AtEntries, line_read};

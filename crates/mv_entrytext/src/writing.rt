@@ -3,10 +3,7 @@
 ghost use Rattle.std.specs.Prelude.{◌≡◌, ◌≤◌, ◌<◌, ◌+◌, ◌^◌, ◌++◌, ◌∷◌, [], List, length, All, map, OnOk, IfOk};
 ghost use Rattle.std.specs.Prelude.{codes, decimal, vec_len, vec_capacity};
 ghost use Rattle.std.specs.List.{flat_map};
-ghost use Rattle.mv_machine.specs.Config.{setup_of, exit_of};
-ghost use Rattle.mv_machine.specs.Legal.{Legal};
-ghost use Rattle.mv_machine.specs.Limits.{highest_place};
-ghost use Rattle.mv_machine.specs.Setup.{Setup};
+ghost use Rattle.mv_calls.specs.Prelude.{setup_of, exit_of, Legal, highest_place, Setup};
 ghost use Rattle.mv_entrytext.specs.declared.version.Version.{Version as AnyVersion};
 ghost use Rattle.mv_entrytext.specs.EntryText.{IsInRange, IsTyped};
 ghost use Rattle.mv_entrytext.specs.Journal.{JournalOf, Callers, Elements, Volumes, Latches, Quota, Budget, Owner, ExitTo};

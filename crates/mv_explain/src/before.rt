@@ -2,11 +2,8 @@
 
 ghost use Rattle.std.specs.Prelude.{◌≡◌, ◌<◌, ◌≤◌, ◌^◌, ◌-◌, ◌++◌, All, length, slice_get, option_map, OnOk, IfOk, IfSome, MatchBool};
 ghost use Rattle.std.specs.Borrow.{Bor};
-ghost use Rattle.mv_machine.specs.declared.entry.Entry.{Entry as AnyEntry};
-ghost use Rattle.mv_machine.specs.Legal.{Legal, after, same_object as is_one_object};
-ghost use Rattle.mv_machine.specs.Limits.{highest_place};
-ghost use Rattle.mv_machine.specs.State.{IsOpenedWith, system_of};
-ghost use Rattle.mv_machine.specs.System.{place_of};
+ghost use Rattle.mv_calls.specs.Prelude.{Entry as AnyEntry, Legal, after, same_object as is_one_object, highest_place, IsOpenedWith};
+ghost use Rattle.mv_calls.specs.Prelude.{system_of, place_of};
 ghost use Rattle.mv_explain.specs.Before.{earlier_text, event_at, event_text, is_on as is_event_on, last_below as last_event_below};
 ghost use Rattle.mv_explain.specs.Before.{look_answer_text, look_at, look_text, looked_text, object_text, seen_text, state_text};
 

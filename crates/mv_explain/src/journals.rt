@@ -1,11 +1,7 @@
 //! What is said of a journal: `specs/Journal.antt`.
 
 ghost use Rattle.std.specs.Prelude.{◌≡◌, ℕ, ◌<◌, ◌≤◌, ◌-◌, ◌^◌, ◌++◌, List, All, length, count_by, slice_get, take, OnOk, IfOk};
-ghost use Rattle.mv_machine.specs.Config.{setup_of};
-ghost use Rattle.mv_machine.specs.Legal.{Legal};
-ghost use Rattle.mv_machine.specs.Limits.{highest_place};
-ghost use Rattle.mv_machine.specs.Replay.{IsFirstIllegal};
-ghost use Rattle.mv_machine.specs.System.{opening};
+ghost use Rattle.mv_calls.specs.Prelude.{setup_of, Legal, highest_place, IsFirstIllegal, opening};
 ghost use Rattle.mv_entrytext.specs.Fault.{HasJournal, IsTextIn, TellsFirst, text_fault};
 ghost use Rattle.mv_entrytext.specs.Journal.{first_line};
 ghost use Rattle.mv_explain.specs.Journal.{IsJournalExplained, answer_text, counts_text, fault_of_journal_text, legal_text, machine_text};

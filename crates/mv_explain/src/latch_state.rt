@@ -1,8 +1,7 @@
 //! The requests of the latch that an event is about, before the event: `specs/LatchState.antt`.
 
 ghost use Rattle.std.specs.Prelude.{◌≡◌, ◌++◌, length, OnOk};
-ghost use Rattle.mv_latch.specs.LatchSet.{list_of};
-ghost use Rattle.mv_machine.specs.State.{IsOpenedWith, system_of};
+ghost use Rattle.mv_calls.specs.Prelude.{list_of, IsOpenedWith, system_of};
 ghost use Rattle.mv_explain.specs.LatchState.{latch_named, latch_of as latch_of_op, latch_text, mode_text, request_text};
 ghost use Rattle.mv_explain.specs.LatchState.{requestor_text, requests_text, whose_text};
 

@@ -2,9 +2,7 @@
 //! judgement of mv_replay.
 
 ghost use Rattle.std.specs.Prelude.{◌≡◌, ◌≢◌, ◌≤◌, ◌<◌, length, MatchBool, IfOk, IfErr};
-ghost use Rattle.mv_machine.specs.Limits.{highest_place};
-ghost use Rattle.mv_machine.specs.State.{system_of, wakes_of};
-ghost use Rattle.mv_machine.specs.System.{answer, place_of};
+ghost use Rattle.mv_machine.specs.Prelude.{highest_place, system_of, wakes_of, answer, place_of};
 ghost use Rattle.mv_replay.specs.Judgement.{journal_limit, IsReplayed};
 ghost use Rattle.mv_replay.specs.Outcome.{IsAsked};
 ghost use Rattle.mv_oracle.specs.Machine.{machine_of, after_operation};

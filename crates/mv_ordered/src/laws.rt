@@ -2,12 +2,7 @@
 //! `specs/WaitChain.antt` which caller waits for which.
 
 ghost use Rattle.std.specs.Prelude.{◌≡◌, ◌⊎◌, ◌<◌, ◌++◌, ℕ, Bool, true, false, List, []};
-ghost use Rattle.mv_machine.specs.declared.entry.Entry.{Entry};
-ghost use Rattle.mv_machine.specs.declared.entry.Object.{Object};
-ghost use Rattle.mv_machine.specs.declared.entry.Op.{Op};
-ghost use Rattle.mv_machine.specs.Kept.{standing, allowed};
-ghost use Rattle.mv_machine.specs.Legal.{Legal, of};
-ghost use Rattle.mv_machine.specs.Setup.{Setup};
+ghost use Rattle.mv_calls.specs.Prelude.{Entry, Object, Op, standing, allowed, Legal, of, Setup};
 ghost use Rattle.mv_ordered.specs.WaitChain.{IsOrdered, KeepsLockDiscipline, WaitsAt, HoldsAt, LeadsTo, CanContinue, IsNextEvent};
 ghost use Rattle.mv_ordered.specs.WaitChain.{LeadsToHolder, HasNoLatchDeadlock, SomeoneContinues};
 

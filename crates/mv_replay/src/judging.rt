@@ -2,10 +2,7 @@
 
 ghost use Rattle.std.specs.Prelude.{◌≡◌, ◌≤◌, ◌<◌, ◌+◌, ◌-◌, ◌^◌, ◌∷◌, ◌++◌, [], ℕ, Bool, List, Some, length};
 ghost use Rattle.std.specs.Prelude.{IfOk, OnOk, IsTrue, ◌↔◌, MatchResult};
-ghost use Rattle.mv_machine.specs.declared.entry.Entry.{Entry as AnyEntry};
-ghost use Rattle.mv_machine.specs.Limits.{highest_place};
-ghost use Rattle.mv_machine.specs.Setup.{Setup};
-ghost use Rattle.mv_calls.specs.Numbers.{calls as calls_of};
+ghost use Rattle.mv_calls.specs.Prelude.{Entry as AnyEntry, highest_place, Setup, calls as calls_of};
 ghost use Rattle.mv_entrytext.specs.declared.version.Version.{Version as AnyVersion};
 ghost use Rattle.mv_entrytext.specs.Fault.{AreCallsIn, HasJournal, IsTextIn};
 ghost use Rattle.mv_entrytext.specs.Journal.{first_line, number_of};

@@ -1,10 +1,7 @@
 //! Laws of the texts of journals, whoever judges them. Clauses cite specs/Judgement and specs/Outcome.
 
 ghost use Rattle.std.specs.Prelude.{◌≡◌, ◌≤◌, ℕ, List, length};
-ghost use Rattle.mv_machine.specs.declared.entry.Entry.{Entry};
-ghost use Rattle.mv_machine.specs.Legal.{Legal};
-ghost use Rattle.mv_machine.specs.Limits.{events_limit};
-ghost use Rattle.mv_machine.specs.Setup.{Setup};
+ghost use Rattle.mv_calls.specs.Prelude.{Entry, Legal, events_limit, Setup};
 ghost use Rattle.mv_entrytext.specs.Fault.{HasJournal};
 ghost use Rattle.mv_entrytext.specs.Journal.{text1, journal_text};
 ghost use Rattle.mv_replay.specs.Judgement.{journal_limit, IsLegalJournal};
