@@ -87,7 +87,7 @@ mod token;
 mod waking;
 
 pub use checking::check_latch;
-pub use mv_latch::{LatchForm, LatchForm as Form};
+pub use mv_latch::{LatchForm, LatchForm as Form, Mode};
 pub use obtaining::{Asking, ObtainRefusal, Obtained, begin_obtain, end_obtain, obtain};
 pub use purging::{Purged, purge};
 pub use releasing::{ReleaseLatchRefusal, release_latch};

@@ -28,3 +28,18 @@ pub mod Exits
 pub mod Posts
 -- calls of one event
 pub mod Singles
+-- lemmas of the crates below, for the proofs of the crates above
+pub use Rattle.mv_latch.proofs.Joined
+pub use Rattle.mv_latch.proofs.Members
+pub use Rattle.mv_latch.proofs.Splits
+pub use Rattle.mv_machine.proofs.Chains
+pub use Rattle.mv_machine.proofs.EntryRuns
+pub use Rattle.mv_machine.proofs.Histories
+pub use Rattle.mv_machine.proofs.Lists
+pub use Rattle.mv_machine.proofs.Longer
+pub use Rattle.mv_machine.proofs.Objects
+pub use Rattle.mv_machine.proofs.Places
+pub use Rattle.mv_calls.proofs.Interleaved
+pub use Rattle.mv_calls.proofs.Making
+pub use Rattle.mv_calls.proofs.Sections
+pub use Rattle.mv_calls.proofs.Unrefused

@@ -5,13 +5,12 @@ ghost use Rattle.std.specs.Prelude.{IfOk, IfSome};
 ghost use Rattle.std.specs.List.{list_any};
 ghost use Rattle.slab.specs.Slab.{HasRoomFor, slab_len, entries};
 ghost use Rattle.mv_element.specs.declared.operation.ElementReply.TheVariants.{Closed};
-ghost use Rattle.mv_calls.specs.Keeping.{Kept, nothing_kept, kept_after, generation_after};
-ghost use Rattle.mv_machine.specs.Kept.{StandingRequest, is_posting, less, is_named, is_for};
-ghost use Rattle.mv_machine.specs.Limits.{events_limit};
+ghost use Rattle.mv_calls.specs.Prelude.{Kept, nothing_kept, kept_after, generation_after, StandingRequest, is_posting, less, is_named};
+ghost use Rattle.mv_calls.specs.Prelude.{is_for, stands_after, events_limit, extended_with, in_use_with, generation_with};
 ghost use Rattle.mv_machine.specs.declared.entry.Op.TheVariants as op_on;
 ghost use Rattle.mv_machine.specs.declared.entry.Reply.TheVariants as reply_of;
 ghost use Rattle.mv_wait.specs.Keep.{Keeps, Reaches, HasRoomToStand, IsOfKind, ClosesBelow, AreHeld, HoldsRequest};
-ghost use Rattle.mv_wait.specs.Keep.{meets, request_of, element_after};
+ghost use Rattle.mv_wait.specs.Keep.{AreExtended, AreElements, meets, request_of, element_after};
 
 use mv_ecb::{EcbOp, EcbReply};
 use mv_element::{ElementOp, ElementReply};
@@ -102,10 +101,7 @@ impl Keep {
 }
 
 impl Keep {
-    ghost use Rattle.mv_machine.specs.Kept.{stands_after};
-    ghost use Rattle.mv_calls.specs.Keeping.{extended_with, in_use_with, generation_with};
     ghost use Rattle.mv_machine.specs.declared.entry.Object.TheVariants as object;
-    ghost use Rattle.mv_wait.specs.Keep.{AreExtended, AreElements};
 
     // Records an event on a block: the block is extended from an Extend with the reply Armed until a Clear.
     #[inline(always)]

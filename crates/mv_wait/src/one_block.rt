@@ -1,11 +1,7 @@
 //! A wait for one block. Clauses cite `Waits.antt` and `Exits.antt` of mv_calls, `specs/Run.antt` and `specs/OneBlock.antt`.
 
 ghost use Rattle.std.specs.Prelude.{◌≡◌, ◌<◌, ◌∷◌, [], false, length, Some, Ok};
-ghost use Rattle.mv_ecb.specs.Table.{code_limit};
-ghost use Rattle.mv_machine.specs.Setup.{owner_of};
-ghost use Rattle.mv_calls.specs.Keeping.{kept_of};
-ghost use Rattle.mv_calls.specs.Exits.{StartsExit};
-ghost use Rattle.mv_calls.specs.Waits.{wait};
+ghost use Rattle.mv_calls.specs.Prelude.{code_limit, owner_of, kept_of, StartsExit, wait};
 ghost use Rattle.mv_wait.specs.OneBlock.{WaitedFor};
 ghost use Rattle.mv_wait.specs.Run.{Serves, MayCall};
 

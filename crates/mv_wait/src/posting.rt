@@ -3,10 +3,8 @@
 
 ghost use Rattle.std.specs.Prelude.{◌≡◌, ◌<◌, ◌≤◌, ◌++◌, ◌+◌, ◌∷◌, length, reverse, vec_len, vec_capacity};
 ghost use Rattle.std.specs.List.{AllByRecursion};
-ghost use Rattle.mv_ecb.specs.Table.{code_limit};
-ghost use Rattle.mv_machine.specs.Reach.{reach, total};
+ghost use Rattle.mv_calls.specs.Prelude.{code_limit, reach, total, post};
 ghost use Rattle.mv_board.specs.Faces.{IsOf};
-ghost use Rattle.mv_calls.specs.Posts.{post};
 ghost use Rattle.mv_wait.specs.Posted.{PostedOne};
 ghost use Rattle.mv_wait.specs.Run.{Serves, MayCall};
 ghost use Rattle.mv_wait.specs.Task.{IsRecorded};

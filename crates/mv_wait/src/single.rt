@@ -2,14 +2,10 @@
 //! `specs/Single.antt`.
 
 ghost use Rattle.std.specs.Prelude.{◌≡◌, ◌<◌, ◌≤◌, length, option_map, MatchResult, None, true, false};
-ghost use Rattle.mv_ecb.specs.Table.{code_limit};
-ghost use Rattle.mv_machine.specs.Limits.{exits_limit};
+ghost use Rattle.mv_calls.specs.Prelude.{code_limit, exits_limit, kept_of, try_post, IsAtRest, clear, extend, extend_refusal};
+ghost use Rattle.mv_calls.specs.Prelude.{is_others_block, test_ecb, read_volume, write_volume};
 ghost use Rattle.mv_machine.specs.declared.entry.Object.TheVariants as object;
 ghost use Rattle.mv_board.specs.Faces.{IsOf, Missed};
-ghost use Rattle.mv_calls.specs.Keeping.{kept_of};
-ghost use Rattle.mv_calls.specs.Posts.{try_post};
-ghost use Rattle.mv_calls.specs.Rest.{IsAtRest};
-ghost use Rattle.mv_calls.specs.Waits.{clear, extend, extend_refusal, is_others_block, test_ecb, read_volume, write_volume};
 ghost use Rattle.mv_wait.specs.Answers.{clear_answer, extend_answer, extend_refused};
 ghost use Rattle.mv_wait.specs.Run.{Serves, MayCall};
 ghost use Rattle.mv_wait.specs.Single.{IsExtendCause, HasNoWaitBit};

@@ -3,12 +3,9 @@
 
 ghost use Rattle.std.specs.Prelude.{◌≡◌, ◌<◌, ◌≤◌, ◌+◌, [], ◌++◌, ◌∷◌, true, length, map, vec_len, vec_capacity, IfOk, MatchResult};
 ghost use Rattle.std.specs.List.{Contains};
-ghost use Rattle.mv_machine.specs.Kept.{allowed};
-ghost use Rattle.mv_machine.specs.Limits.{events_limit, highest_generation};
-ghost use Rattle.mv_machine.specs.Parts.{IsPossible};
+ghost use Rattle.mv_calls.specs.Prelude.{allowed, events_limit, highest_generation, IsPossible, NamesUpTo};
 ghost use Rattle.mv_board.specs.Faces.{IsOf, IsFresh, AreFresh, Happened, Found, Exchanged, Missed, IsAsListed, MayWatch, Peeks};
 ghost use Rattle.mv_board.specs.Words.{HasWord, test_of};
-ghost use Rattle.mv_machine.specs.Replies.{NamesUpTo};
 ghost use Rattle.mv_wait.specs.Run.{Went};
 
 use crate::backoff::{Backoff, Waker};
@@ -343,9 +340,7 @@ impl Station {
 
 impl Station {
     ghost use Rattle.std.specs.List.{AllByRecursion};
-    ghost use Rattle.mv_machine.specs.Legal.{Legal, after};
-    ghost use Rattle.mv_machine.specs.Merge.{merged as merged_logs};
-    ghost use Rattle.mv_machine.specs.Parts.{KeepsBudgets};
+    ghost use Rattle.mv_calls.specs.Prelude.{Legal, after, merged as merged_logs, KeepsBudgets};
     ghost use Rattle.mv_board.specs.Faces.{AreInOrder, IsIn, AreHeld};
 
     /// Ends the station: takes back all its tasks, in the order of their numbers, and makes one legal history of their logs.

@@ -3,8 +3,7 @@
 
 ghost use Rattle.std.specs.Prelude.{◌≡◌, ◌<◌, ◌≤◌};
 ghost use Rattle.std.specs.List.{AllByRecursion};
-ghost use Rattle.mv_machine.specs.Limits.{events_limit, highest_generation};
-ghost use Rattle.mv_machine.specs.Setup.{Setup};
+ghost use Rattle.mv_calls.specs.Prelude.{events_limit, highest_generation, Setup};
 ghost use Rattle.mv_board.specs.Faces.{last_of};
 
 use crate::backoff::Backoff;
@@ -129,9 +128,7 @@ impl Task {
 impl Task {
     ghost use Rattle.std.specs.Prelude.{◌<◌, ◌∷◌, [], ◌==◌, length, filter, is_some};
     ghost use Rattle.std.specs.List.{list_any};
-    ghost use Rattle.mv_machine.specs.Kept.{is_posting, standing};
-    ghost use Rattle.mv_machine.specs.Setup.{Setup, element_owner};
-    ghost use Rattle.mv_calls.specs.Keeping.{kept_of};
+    ghost use Rattle.mv_calls.specs.Prelude.{is_posting, standing, Setup, element_owner, kept_of};
 
     /// Returns whether the task holds a block extended: from an `extend` that returned `Ok` until its `clear`. The block must be
     /// one of the configuration's.
@@ -247,10 +244,7 @@ impl Task {
 
 impl Task {
     ghost use Rattle.std.specs.Prelude.{◌^◌, ◌∷◌, [], true, length, option_map, slice_index, IfSome};
-    ghost use Rattle.mv_machine.specs.Setup.{Setup, element_owner};
-    ghost use Rattle.mv_calls.specs.Keeping.{kept_of};
-    ghost use Rattle.mv_calls.specs.Refusal.{ExtendedAt};
-    ghost use Rattle.mv_calls.specs.Waits.{refused_at};
+    ghost use Rattle.mv_calls.specs.Prelude.{Setup, element_owner, kept_of, ExtendedAt, refused_at};
     ghost use Rattle.mv_wait.specs.Keep.{IsKeptAs};
 
     // The first position in this list whose block the task holds extended.
