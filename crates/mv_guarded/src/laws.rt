@@ -1,13 +1,7 @@
 //! What callers know of state that they guard by a latch.
 
 ghost use Rattle.std.specs.Prelude.{◌≡◌, ◌<◌, ◌++◌, ℕ, List};
-ghost use Rattle.mv_latch.specs.declared.request.Mode.{Mode};
-ghost use Rattle.mv_machine.specs.declared.entry.Entry.{Entry};
-ghost use Rattle.mv_machine.specs.declared.entry.Object.TheVariants.{Volume};
-ghost use Rattle.mv_machine.specs.Kept.{StandingRequest};
-ghost use Rattle.mv_machine.specs.Legal.{Legal, of};
-ghost use Rattle.mv_machine.specs.Setup.{Setup};
-ghost use Rattle.mv_calls.specs.Sections.{HasGrant, IsHolder, IsGuarded, is_write};
+ghost use Rattle.mv_wait.specs.Prelude.{Mode, Entry, Volume, StandingRequest, Legal, of, Setup, HasGrant, IsHolder, IsGuarded, is_write};
 ghost use Rattle.mv_ordered.specs.WaitChain.{HoldsAt, KeepsLockDiscipline};
 ghost use Rattle.mv_guarded.specs.Guarded.{HoldsLatch, GuardsVolume, AreInside, HasRead, IsOnlyWriter, IsUnwritten, value, value_from, AreAlone};
 ghost use Rattle.mv_guarded.specs.Guarded.{AllReleased, UnfinishedContinue};

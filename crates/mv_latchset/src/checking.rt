@@ -1,8 +1,7 @@
 //! The state of a request. Clauses cite `LatchCalls.antt` of mv_calls, `Run.antt` of mv_wait, and `specs/Answers.antt`.
 
 ghost use Rattle.std.specs.Prelude.{◌≡◌, ◌<◌};
-ghost use Rattle.mv_calls.specs.LatchCalls.{check_latch};
-ghost use Rattle.mv_wait.specs.Run.{IsServed, MayCall};
+ghost use Rattle.mv_wait.specs.Prelude.{check_latch, IsServed, MayCall};
 ghost use Rattle.mv_latchset.specs.Answers.{standing_as};
 
 use crate::replies::standing_in;

@@ -5,16 +5,9 @@ ghost use Rattle.std.specs.Prelude.{◌≡◌, ◌<◌, ℕ, not, length, option
 ghost use Rattle.std.specs.List.{Contains};
 ghost use Rattle.mv_latch.specs.declared.operation.LatchOp.TheVariants.{Obtain, Confirm};
 ghost use Rattle.mv_latch.specs.declared.request.LatchForm.TheVariants.{Waiting};
-ghost use Rattle.mv_latch.specs.declared.request.Mode.{Mode};
-ghost use Rattle.mv_latch.specs.Request.{posted_ecb};
-ghost use Rattle.mv_machine.specs.Kept.{keeps_quotas, standing};
-ghost use Rattle.mv_machine.specs.System.{posts_own_ecb};
-ghost use Rattle.mv_board.specs.Faces.{CallerFace, IsOf};
+ghost use Rattle.mv_wait.specs.Prelude.{Mode, posted_ecb, keeps_quotas, standing, posts_own_ecb, CallerFace, IsOf, kept_of, obtain};
+ghost use Rattle.mv_wait.specs.Prelude.{obtain_refusal, obtain_events, IsServed, MayCall};
 ghost use Rattle.mv_board.specs.declared.watch.Watch.TheVariants as watch;
-ghost use Rattle.mv_calls.specs.Keeping.{kept_of};
-ghost use Rattle.mv_calls.specs.LatchCalls.{obtain, obtain_refusal};
-ghost use Rattle.mv_calls.specs.Services.{obtain_events};
-ghost use Rattle.mv_wait.specs.Run.{IsServed, MayCall};
 ghost use Rattle.mv_latchset.specs.Answers.{obtain_answer, obtain_refused};
 ghost use Rattle.mv_latchset.specs.Obtaining.{IsAnswered, IsObtainedBy, IsRefusedBy, IsOfLatch, settled_reply};
 ghost use Rattle.mv_latchset.specs.Polling.{IsObtaining, IsObtainMade, IsBegun};

@@ -1,9 +1,7 @@
 //! Purges of a requestor. Clauses cite `LatchCalls.antt` of mv_calls, `Run.antt` of mv_wait, and `specs/Answers.antt`.
 
 ghost use Rattle.std.specs.Prelude.{◌≡◌};
-ghost use Rattle.mv_machine.specs.Reach.{release_cost};
-ghost use Rattle.mv_calls.specs.LatchCalls.{purge};
-ghost use Rattle.mv_wait.specs.Run.{IsServed, MayCall};
+ghost use Rattle.mv_wait.specs.Prelude.{release_cost, purge, IsServed, MayCall};
 ghost use Rattle.mv_latchset.specs.Answers.{counts_of};
 
 use crate::replies::purged_in;

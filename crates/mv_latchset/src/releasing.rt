@@ -2,9 +2,7 @@
 //! `specs/Releasing.antt`.
 
 ghost use Rattle.std.specs.Prelude.{◌≡◌, ◌<◌};
-ghost use Rattle.mv_machine.specs.Reach.{release_cost};
-ghost use Rattle.mv_calls.specs.LatchCalls.{release_latch};
-ghost use Rattle.mv_wait.specs.Run.{IsServed, MayCall};
+ghost use Rattle.mv_wait.specs.Prelude.{release_cost, release_latch, IsServed, MayCall};
 ghost use Rattle.mv_latchset.specs.Answers.{freed_answer};
 ghost use Rattle.mv_latchset.specs.Releasing.{IsReleasedBy};
 

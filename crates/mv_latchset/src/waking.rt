@@ -3,12 +3,8 @@
 
 ghost use Rattle.std.specs.Prelude.{◌≡◌, ◌<◌, ◌∷◌, [], length, slice_get, Some};
 ghost use Rattle.std.specs.List.{All};
-ghost use Rattle.mv_machine.specs.Reach.{reach, total};
-ghost use Rattle.mv_machine.specs.Waking.{IsFairWake, blocks_of};
-ghost use Rattle.mv_board.specs.Faces.{last_of};
-ghost use Rattle.mv_calls.specs.Rest.{IsAtRest};
+ghost use Rattle.mv_wait.specs.Prelude.{reach, total, IsFairWake, blocks_of, last_of, IsAtRest, MayCall};
 ghost use Rattle.mv_latchset.specs.Waking.{PostsWakes};
-ghost use Rattle.mv_wait.specs.Run.{MayCall};
 
 use mv_latch::Wake;
 use mv_wait::{Station, Task};

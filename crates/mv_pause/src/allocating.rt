@@ -2,12 +2,8 @@
 
 ghost use Rattle.std.specs.Prelude.{◌≡◌, ◌<◌, ◌≤◌, ◌-◌, ◌∷◌, [], ℕ, not, find, Some, None, IfOk, IfSome, MatchResult};
 ghost use Rattle.std.specs.List.{range_with_len};
-ghost use Rattle.mv_machine.specs.Setup.{Setup, element_count, element_owner};
-ghost use Rattle.mv_machine.specs.Limits.{highest_generation};
-ghost use Rattle.mv_board.specs.Faces.{IsOf};
-ghost use Rattle.mv_calls.specs.Keeping.{kept_of};
-ghost use Rattle.mv_calls.specs.Pauses.{allocate, lowest_free};
-ghost use Rattle.mv_wait.specs.Run.{IsServed, MayCall};
+ghost use Rattle.mv_wait.specs.Prelude.{Setup, element_count, element_owner, highest_generation, IsOf, kept_of, allocate, lowest_free};
+ghost use Rattle.mv_wait.specs.Prelude.{IsServed, MayCall};
 ghost use Rattle.mv_pause.specs.Answers.{allocate_answer};
 
 use crate::replies::opened;

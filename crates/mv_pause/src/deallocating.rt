@@ -3,10 +3,7 @@
 ghost use Rattle.std.specs.Prelude.{◌≡◌, ◌<◌, false, Ok, MatchResult};
 ghost use Rattle.mv_element.specs.declared.operation.ElementOp.TheVariants as element_op;
 ghost use Rattle.mv_element.specs.declared.operation.ElementReply.TheVariants as element_reply;
-ghost use Rattle.mv_machine.specs.Setup.{element_count};
-ghost use Rattle.mv_calls.specs.Keeping.{kept_of};
-ghost use Rattle.mv_calls.specs.Pauses.{deallocate, is_others_token};
-ghost use Rattle.mv_wait.specs.Run.{IsServed, MayCall};
+ghost use Rattle.mv_wait.specs.Prelude.{element_count, kept_of, deallocate, is_others_token, IsServed, MayCall};
 ghost use Rattle.mv_pause.specs.Answers.{deallocate_answer, IsLow};
 ghost use Rattle.mv_pause.specs.Deallocating.{IsDeallocateCause};
 ghost use Rattle.mv_pause.specs.Pausing.{IsCurrent};

@@ -1,9 +1,7 @@
 //! The owner of an element. Clauses cite `Pauses.antt` of mv_calls.
 
 ghost use Rattle.std.specs.Prelude.{◌≡◌, ◌<◌};
-ghost use Rattle.mv_machine.specs.Setup.{element_count};
-ghost use Rattle.mv_calls.specs.Keeping.{kept_of};
-ghost use Rattle.mv_calls.specs.Pauses.{is_others_token};
+ghost use Rattle.mv_wait.specs.Prelude.{element_count, kept_of, is_others_token};
 
 use crate::releasing::{ReleaseAnswer, ReleaseRefusal};
 use mv_element::Token;

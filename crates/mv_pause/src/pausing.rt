@@ -4,13 +4,9 @@ ghost use Rattle.std.specs.Prelude.{◌≡◌, ◌<◌, ◌≤◌, false, Ok, If
 ghost use Rattle.std.specs.List.{Contains};
 ghost use Rattle.mv_element.specs.declared.operation.ElementOp.TheVariants.{Pause};
 ghost use Rattle.mv_element.specs.declared.operation.ElementReply.TheVariants.{Parked};
-ghost use Rattle.mv_machine.specs.Setup.{element_count, element_owner};
-ghost use Rattle.mv_machine.specs.Limits.{highest_generation};
-ghost use Rattle.mv_board.specs.Faces.{CallerFace, IsOf};
+ghost use Rattle.mv_wait.specs.Prelude.{element_count, element_owner, highest_generation, CallerFace, IsOf, kept_of, gift_of, pause};
+ghost use Rattle.mv_wait.specs.Prelude.{is_others_token, IsServed, MayCall};
 ghost use Rattle.mv_board.specs.declared.watch.Watch.TheVariants as watch;
-ghost use Rattle.mv_calls.specs.Keeping.{kept_of};
-ghost use Rattle.mv_calls.specs.Pauses.{gift_of, pause, is_others_token};
-ghost use Rattle.mv_wait.specs.Run.{IsServed, MayCall};
 ghost use Rattle.mv_pause.specs.Answers.{gift_as, pause_answer, IsLow};
 ghost use Rattle.mv_pause.specs.Pausing.{IsCurrent, IsGiven, IsPauseCause, IsPausedOwn, IsPauseMade, IsPausing, MayPause};
 ghost use Rattle.mv_pause.specs.Replies.{HappenedOn};

@@ -2,11 +2,7 @@
 
 ghost use Rattle.std.specs.Prelude.{◌≡◌, ◌<◌, IfOk, IfSome, Some};
 ghost use Rattle.mv_element.specs.declared.operation.ElementOp.TheVariants as element_op;
-ghost use Rattle.mv_element.specs.Table.{release_limit};
-ghost use Rattle.mv_machine.specs.Setup.{element_count};
-ghost use Rattle.mv_calls.specs.Pauses.{release, try_release};
-ghost use Rattle.mv_calls.specs.Rest.{IsAtRest};
-ghost use Rattle.mv_wait.specs.Run.{IsServed, MayCall};
+ghost use Rattle.mv_wait.specs.Prelude.{release_limit, element_count, release, try_release, IsAtRest, IsServed, MayCall};
 ghost use Rattle.mv_pause.specs.Answers.{release_answer, try_release_answer, IsLow};
 ghost use Rattle.mv_pause.specs.Releasing.{HasNoPause, IsTried};
 ghost use Rattle.mv_pause.specs.Replies.{HappenedOn, reply_to_release};

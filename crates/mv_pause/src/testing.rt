@@ -1,10 +1,7 @@
 //! A read of an element's state. Clauses cite `Pauses.antt` of mv_calls.
 
 ghost use Rattle.std.specs.Prelude.{◌≡◌, ◌<◌, ◌≤◌};
-ghost use Rattle.mv_machine.specs.Setup.{element_count};
-ghost use Rattle.mv_machine.specs.Limits.{highest_generation};
-ghost use Rattle.mv_calls.specs.Pauses.{test_element};
-ghost use Rattle.mv_wait.specs.Run.{IsServed, MayCall};
+ghost use Rattle.mv_wait.specs.Prelude.{element_count, highest_generation, test_element, IsServed, MayCall};
 
 use crate::replies::state;
 use mv_element::ElementState;

@@ -2,15 +2,8 @@
 //! `specs/Transferring.antt`.
 
 ghost use Rattle.std.specs.Prelude.{◌≡◌, ◌<◌, ◌≤◌, ◌+◌, None, IfOk, IfSome, MatchResult, option_map};
-ghost use Rattle.mv_element.specs.Table.{release_limit};
-ghost use Rattle.mv_machine.specs.Setup.{element_count};
-ghost use Rattle.mv_machine.specs.Limits.{highest_generation};
-ghost use Rattle.mv_board.specs.Faces.{IsOf};
-ghost use Rattle.mv_calls.specs.Keeping.{kept_of};
-ghost use Rattle.mv_calls.specs.Pauses.{transfer, transfer_refusal};
-ghost use Rattle.mv_calls.specs.Rest.{IsAtRest};
-ghost use Rattle.mv_calls.specs.Services.{transfer_events};
-ghost use Rattle.mv_wait.specs.Run.{IsServed, MayCall};
+ghost use Rattle.mv_wait.specs.Prelude.{release_limit, element_count, highest_generation, IsOf, kept_of, transfer, transfer_refusal};
+ghost use Rattle.mv_wait.specs.Prelude.{IsAtRest, transfer_events, IsServed, MayCall};
 ghost use Rattle.mv_pause.specs.Answers.{transfer_answer, transfer_refused, IsLow, IsLowRefusal};
 ghost use Rattle.mv_pause.specs.Transferring.{target_refused, IsPausedBy, IsGivenTo, IsTransferCause};
 

@@ -1,7 +1,7 @@
 //! A task of a script between two polls. Clauses cite `specs/Task.antt`.
 
 ghost use Rattle.std.specs.Prelude.{◌≡◌, ℕ, ◌≤◌, ◌+◌, false, [], ◌∷◌, ◌++◌, length, count_by, OnOk, IfOk};
-ghost use Rattle.mv_calls.specs.Table.{IsSoundTable};
+ghost use Rattle.mv_wait.specs.Prelude.{IsSoundTable, MayCall};
 ghost use Rattle.mv_pollscript.specs.Task.{IsStageFor, IsTaskAt};
 ghost use Rattle.mv_pollscript.specs.declared.task.Stage.TheVariants as stage;
 ghost use Rattle.mv_runscript.specs.Making.{AreGoodIn, AreOfLatches, AreSoundIn, IsForScripts, MakesCall, is_wait};
@@ -10,7 +10,6 @@ ghost use Rattle.mv_script.specs.Fault.{obtain_meant};
 ghost use Rattle.mv_script.specs.Script.{is_obtain};
 ghost use Rattle.mv_script.specs.Sound.{IfThere};
 ghost use Rattle.mv_script.specs.declared.answer.Answer.{Answer as AnswerValue};
-ghost use Rattle.mv_wait.specs.Run.{MayCall};
 
 use crate::polls::{poll_pause, poll_wait};
 use mv_calls::ValidTable;

@@ -2,15 +2,8 @@
 //! `Answers.antt` of mv_latchset, and `specs/Ending.antt`.
 
 ghost use Rattle.std.specs.Prelude.{◌≡◌, ◌+◌, ◌<◌, true, length, IfSome};
-ghost use Rattle.mv_ecb.specs.Table.{code_limit};
-ghost use Rattle.mv_machine.specs.Reach.{reach, release_cost};
-ghost use Rattle.mv_machine.specs.Setup.{element_count, element_owner};
-ghost use Rattle.mv_board.specs.Faces.{IsOf};
-ghost use Rattle.mv_calls.specs.Endings.{end_of_job, end_of_task, used_elements};
-ghost use Rattle.mv_calls.specs.Keeping.{kept_of};
-ghost use Rattle.mv_calls.specs.Rest.{IsAtRest};
-ghost use Rattle.mv_calls.specs.Services.{mother_events};
-ghost use Rattle.mv_wait.specs.Run.{IsServed, MayCall};
+ghost use Rattle.mv_wait.specs.Prelude.{code_limit, reach, release_cost, element_count, element_owner, IsOf, end_of_job, end_of_task};
+ghost use Rattle.mv_wait.specs.Prelude.{used_elements, kept_of, IsAtRest, mother_events, IsServed, MayCall};
 ghost use Rattle.mv_latchset.specs.Answers.{counts_of};
 ghost use Rattle.mv_task.specs.Ending.{ClosesOne, ClosesAll, KeepsOthers};
 
