@@ -11,3 +11,5 @@ pub mod Sound
 pub mod Load
 pub mod Names
 pub mod Reading
+-- the words of all of these, from one place
+pub mod Prelude

@@ -4,15 +4,13 @@
 ghost use Rattle.std.specs.Prelude.{◌≡◌, ◌<◌, ◌≤◌, ◌-◌, ◌+◌, ◌^◌, ◌++◌, List, [], ◌∷◌, ℕ, true, false, map, Some, length};
 ghost use Rattle.std.specs.Prelude.{MatchResult, IfOk, IfErr, OnOk, IsSome, if◌then◌else◌};
 ghost use Rattle.std.specs.Str.{bytes_eq};
-ghost use Rattle.mv_deck.specs.Deck.{JobData, job_data, deck_data, deck_of, jobs_of, place_of, fresh_job, step_of};
+ghost use Rattle.mv_deck.specs.Prelude.{JobData, job_data, deck_data, deck_of, jobs_of, place_of, fresh_job, step_of, place_in};
+ghost use Rattle.mv_deck.specs.Prelude.{most_after, most_initiators};
 ghost use Rattle.mv_deck.specs.Fault.{first_fault, TellsFirst, kind_number, kinds_of_statement, line_rules};
 ghost use Rattle.mv_deck.specs.Form.{stated, part_data, listed};
 ghost use Rattle.mv_deck.specs.Held.{HasNumberInRange, held, latches, is_end as ends_by};
-ghost use Rattle.mv_deck.specs.Names.{place_in};
 ghost use Rattle.mv_deck.specs.Reading.{HasFewJobs, IsBehind, IsGoodJob, jobs_read};
 ghost use Rattle.mv_deck.specs.Statement.{Statement, Null, DeckOf, JobOf};
-ghost use Rattle.mv_deck.specs.Operand.{most_after};
-ghost use Rattle.mv_deck.specs.Weight.{most_initiators};
 ghost use Rattle.mv_line.specs.Fault.{TellsLowest};
 
 use crate::fault::Kind;

@@ -10,3 +10,5 @@ pub mod HandingOut
 pub mod PostingEnds
 pub mod CountingAlone
 pub mod Purging
+-- the words of all of these, from one place
+pub mod Prelude

@@ -1,18 +1,13 @@
 //! Laws of every history that follows the plan of the spool, and of every run (`specs/SpoolRun.antt`). The module of specs/ that
 //! is named like a law defines its words: `HandingOut.antt` for `runs_hand_out_each_job`.
 ghost use Rattle.std.specs.Prelude.{◌≡◌, ◌<◌, ◌≤◌, ◌+◌, ℕ, List};
-ghost use Rattle.mv_machine.specs.declared.entry.Entry.{Entry};
-ghost use Rattle.mv_machine.specs.Check.{IsValid};
+ghost use Rattle.mv_calls.specs.Prelude.{Entry, IsValid, Done, Wrong, left_in};
 ghost use Rattle.mv_report.specs.Outcome.{ends};
 ghost use Rattle.mv_plan.specs.PostingEnds.{EndsArePosted};
 ghost use Rattle.mv_plan.specs.CountingAlone.{AreCountedAlone};
 ghost use Rattle.mv_plan.specs.Purging.{ArePurged};
 ghost use Rattle.mv_plan.specs.HandingOut.{AreHandedOut};
-ghost use Rattle.mv_deck.specs.Deck.{JobData};
-ghost use Rattle.mv_deck.specs.Sound.{IsSound};
-ghost use Rattle.mv_deck.specs.Weight.{most_initiators};
-ghost use Rattle.mv_calls.specs.Program.{Done, Wrong};
-ghost use Rattle.mv_calls.specs.Runs.{left_in};
+ghost use Rattle.mv_deck.specs.Prelude.{JobData, IsSound, most_initiators};
 ghost use Rattle.mv_plan.specs.SpoolRun.{Follows, IsRun};
 ghost use Rattle.mv_plan.specs.SpoolSetup.{spool_setup, writer};
 ghost use Rattle.mv_plan.specs.SpoolTasks.{task_program};

@@ -3,18 +3,13 @@
 ghost use Rattle.std.specs.Prelude.{◌≡◌, ℕ, false, ◌<◌, ◌≤◌, [], ◌∷◌, ◌++◌, if◌then◌else◌, map, length, vec_capacity, vec_len};
 ghost use Rattle.std.specs.Prelude.{IfOk, IsSome, ◌⊎◌, ⊤};
 ghost use Rattle.futures.specs.Task.{Hears, IsArmed, Keeps};
-ghost use Rattle.mv_board.specs.Faces.{CallerFace, IsOf, IsSame};
+ghost use Rattle.mv_wait.specs.Prelude.{CallerFace, IsOf, IsSame, AreDistinct, Went, AreOwn, listed_count};
 ghost use Rattle.mv_board.specs.declared.watch.Watch.TheVariants as watch;
-ghost use Rattle.mv_calls.specs.Waits.{AreDistinct};
-ghost use Rattle.mv_wait.specs.Run.{Went};
-ghost use Rattle.mv_wait.specs.Waiting.{AreOwn};
-ghost use Rattle.mv_wait.specs.Listed.{listed_count};
 ghost use Rattle.mv_polled.specs.Futures.{NeedsBlock};
 ghost use Rattle.mv_polled.specs.Keys.{key_of};
-ghost use Rattle.mv_polled.specs.Turn.{MatchTurn};
+ghost use Rattle.mv_polled.specs.Turn.{MatchTurn, Begun, Over};
 ghost use Rattle.mv_polled.specs.Waiting.{new_wait, unready, AreFoundOpen, StaysListed, IsWaitAt, IsWaiting, IsWaited, IsLeftWaiting};
 ghost use Rattle.mv_polled.specs.Wakers.{no_wakers, HearsAll, HaveWakers, AreRung};
-ghost use Rattle.mv_polled.specs.declared.turn.Stage.TheVariants.{Begun, Over};
 
 use crate::keys::{key, ring_one};
 use crate::turn::{Stage, Turn};

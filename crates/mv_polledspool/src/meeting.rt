@@ -1,9 +1,7 @@
 //! The polled call of what a task waits for. Clauses cite `specs/Meeting.antt`.
 
 ghost use Rattle.std.specs.Prelude.{◌≡◌, ◌≤◌, ℕ, length, IfOk};
-ghost use Rattle.mv_board.specs.Faces.{CallerFace, IsOf, IsSame};
-ghost use Rattle.mv_element.specs.declared.element.Token.{Token as TokenValue};
-ghost use Rattle.mv_latch.specs.declared.request.Mode.{Mode as ModeValue};
+ghost use Rattle.mv_wait.specs.Prelude.{CallerFace, IsOf, IsSame, Token as TokenValue, Mode as ModeValue};
 ghost use Rattle.mv_polled.specs.Obtaining.{IsObtainAt};
 ghost use Rattle.mv_polled.specs.Pausing.{IsPauseAt};
 ghost use Rattle.mv_polled.specs.Waiting.{IsWaitAt};

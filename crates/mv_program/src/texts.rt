@@ -2,18 +2,13 @@
 //! `Outcome.antt` of mv_report.
 
 ghost use Rattle.std.specs.Prelude.{◌≡◌, ◌≤◌, length, None, IfOk, IfErr};
-ghost use Rattle.mv_deck.specs.Deck.{deck_data, deck_of};
-ghost use Rattle.mv_deck.specs.Fault.{first_fault};
-ghost use Rattle.mv_deck.specs.Load.{load_text};
-ghost use Rattle.mv_deck.specs.Sound.{IsSound};
+ghost use Rattle.mv_deck.specs.Prelude.{deck_data, deck_of, first_fault, load_text, IsSound, most_initiators};
 ghost use Rattle.mv_report.specs.Outcome.{report};
 ghost use Rattle.mv_report.specs.Summary.{load_summary};
-ghost use Rattle.mv_deck.specs.Weight.{most_initiators};
 ghost use Rattle.mv_work.specs.Recording.{IsRunOf};
 ghost use Rattle.mv_program.specs.Command.{AreInitiators, AreJobs};
 ghost use Rattle.mv_script.specs.Fault as scripts;
-ghost use Rattle.mv_script.specs.Script.{script_data, script_of};
-ghost use Rattle.mv_script.specs.Sound.{IsSound as IsSoundScript};
+ghost use Rattle.mv_script.specs.Prelude.{script_data, script_of, IsSound as IsSoundScript};
 ghost use Rattle.mv_program.specs.Program.{IsRefusedDeck, IsRefusedScript};
 ghost use Rattle.mv_program.specs.Texts.{report_of, IsJournalOfRun, IsRunOfScript, deck_limit};
 

@@ -1,13 +1,12 @@
 //! One call of a script, of any kind (`specs/Making.antt`).
 
 ghost use Rattle.std.specs.Prelude.{◌≡◌, ◌<◌, ◌≤◌, ◌+◌, true, length, count_by, vec_capacity, [], ◌∷◌};
-ghost use Rattle.mv_calls.specs.Table.{IsSoundTable};
+ghost use Rattle.mv_wait.specs.Prelude.{IsSoundTable, MayCall};
 ghost use Rattle.mv_script.specs.Costs.{cost};
 ghost use Rattle.mv_script.specs.Fault.{obtain_meant};
 ghost use Rattle.mv_script.specs.Script.{is_obtain};
 ghost use Rattle.mv_script.specs.Sound.{IfThere};
 ghost use Rattle.mv_runscript.specs.Making.{MakesCall, AreOfLatches, HaveSlots, IsForScripts, is_wait, token_in, AreGoodIn};
-ghost use Rattle.mv_wait.specs.Run.{MayCall};
 
 use crate::answered::obtained;
 use crate::serving::{serve, wait_in};

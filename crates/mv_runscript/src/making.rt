@@ -1,12 +1,11 @@
 //! All calls of a task, one after the other, on its thread. Clauses cite `specs/Making.antt` and `specs/Rooms.antt`.
 
 ghost use Rattle.std.specs.Prelude.{[], slice_index_or};
-ghost use Rattle.mv_calls.specs.Table.{IsSoundTable};
+ghost use Rattle.mv_wait.specs.Prelude.{IsSoundTable, MayCall};
 ghost use Rattle.mv_script.specs.Costs.{costs_of};
 ghost use Rattle.mv_script.specs.Sound.{IfThere, IsSound};
 ghost use Rattle.mv_runscript.specs.Making.{IsForScripts, AreSoundIn, MakesCalls};
 ghost use Rattle.mv_runscript.specs.Rooms.{HasRoom, HasMade, script_with};
-ghost use Rattle.mv_wait.specs.Run.{MayCall};
 
 use crate::calling::make_call;
 use crate::room::Room;

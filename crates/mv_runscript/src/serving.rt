@@ -3,21 +3,12 @@
 
 ghost use Rattle.std.specs.Prelude.{◌≡◌, ◌<◌, ◌≤◌, ◌+◌, ◌*◌, false, length, Option};
 ghost use Rattle.std.specs.List.{AllByRecursion};
-ghost use Rattle.mv_ecb.specs.Table.{code_limit};
-ghost use Rattle.mv_machine.specs.Reach.{release_cost};
-ghost use Rattle.mv_calls.specs.declared.table.Table.{Table};
+ghost use Rattle.mv_wait.specs.Prelude.{code_limit, release_cost, Table, IsSoundTable, MayCall};
 ghost use Rattle.mv_calls.specs.Services as service;
-ghost use Rattle.mv_calls.specs.Table.{IsSoundTable};
 ghost use Rattle.mv_script.specs.declared.call.Call.TheVariants as call;
-ghost use Rattle.mv_script.specs.Costs.{cost};
-ghost use Rattle.mv_script.specs.Fault.{obtain_meant};
-ghost use Rattle.mv_script.specs.Operand.{event_count, position_count};
-ghost use Rattle.mv_script.specs.Script.{is_obtain};
-ghost use Rattle.mv_script.specs.Sound.{IfThere};
-ghost use Rattle.mv_script.specs.Tasks.{named_table};
+ghost use Rattle.mv_script.specs.Prelude.{cost, obtain_meant, event_count, position_count, is_obtain, IfThere, named_table};
 ghost use Rattle.mv_runscript.specs.Making.{MakesCall, AreOfLatches, IsForScripts, is_wait, AreGoodIn};
 ghost use Rattle.mv_runscript.specs.Served.{Serves};
-ghost use Rattle.mv_wait.specs.Run.{MayCall};
 
 use crate::answered::{
     allocated, cleared, deallocated, entered, extended, freed, handed_out, paused, posted, purged,

@@ -1,16 +1,11 @@
 //! Tries: a post and a release by one exchange, which succeeds if the object has the expected word (`specs/Making.antt`).
 
 ghost use Rattle.std.specs.Prelude.{◌≡◌, ◌<◌, ◌≤◌, length, List, Option};
-ghost use Rattle.mv_ecb.specs.Table.{code_limit};
-ghost use Rattle.mv_element.specs.Table.{release_limit};
-ghost use Rattle.mv_machine.specs.Limits.{highest_place, highest_generation};
-ghost use Rattle.mv_machine.specs.Setup.{element_count};
-ghost use Rattle.mv_calls.specs.declared.table.Table.{Table};
+ghost use Rattle.mv_wait.specs.Prelude.{code_limit, release_limit, highest_place, highest_generation, element_count, Table, MayCall};
 ghost use Rattle.mv_latchset.specs.declared.token.LatchToken.{LatchToken};
 ghost use Rattle.mv_script.specs.declared.call.Call.TheVariants as call;
 ghost use Rattle.mv_script.specs.Costs as expected;
 ghost use Rattle.mv_runscript.specs.Making.{MakesCall};
-ghost use Rattle.mv_wait.specs.Run.{MayCall};
 
 use crate::answered::posted;
 use mv_board::Moved;

@@ -14,3 +14,5 @@ pub mod AnswerText
 pub mod Sound
 pub mod Events
 pub mod Reading
+-- the words of all of these, from one place
+pub mod Prelude

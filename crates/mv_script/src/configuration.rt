@@ -1,8 +1,7 @@
 //! The configuration of a script (`specs/Costs.antt`).
 
 ghost use Rattle.std.specs.Prelude.{◌≡◌, map, replicate, IfOk};
-ghost use Rattle.mv_machine.specs.Check.{IsValid};
-ghost use Rattle.mv_machine.specs.Config.{exit_of};
+ghost use Rattle.mv_wait.specs.Prelude.{IsValid, exit_of};
 ghost use Rattle.mv_script.specs.Costs.{script_setup};
 
 use crate::limits::{ELEMENTS_PER_TASK, LATCHES, POSTED_QUOTA, QUOTA, VOLUMES};

@@ -1,12 +1,10 @@
 //! The costs of calls (`specs/Costs.antt`).
 
 ghost use Rattle.std.specs.Prelude.{◌≡◌, ◌<◌, ◌≤◌, length, Option};
-ghost use Rattle.mv_calls.specs.declared.table.Table.{Table};
+ghost use Rattle.mv_wait.specs.Prelude.{Table, mother_events, highest_reach};
 ghost use Rattle.mv_script.specs.Costs.{cost as cost_of};
 ghost use Rattle.mv_script.specs.Limits.{elements_per_task};
 ghost use Rattle.mv_script.specs.Sound.{HasGoodNumbers, IfThere};
-ghost use Rattle.mv_calls.specs.Services.{mother_events};
-ghost use Rattle.mv_machine.specs.Limits.{highest_reach};
 
 use crate::call::Call;
 use crate::limits::ELEMENTS_PER_TASK;

@@ -5,24 +5,12 @@
 ghost use Rattle.std.specs.Prelude.{◌≡◌, ◌≤◌, ℕ, List, [], Some, None, MatchOption, length, slice_get, slice_index_or};
 ghost use Rattle.mv_line.specs.declared.fault.TextFault.{TextFault as ScriptFault};
 ghost use Rattle.mv_line.specs.Fault.{IsNoLater};
-ghost use Rattle.mv_element.specs.declared.element.Token.{Token};
-ghost use Rattle.mv_machine.specs.declared.entry.Entry.{Entry};
-ghost use Rattle.mv_machine.specs.Setup.{Setup};
-ghost use Rattle.mv_calls.specs.declared.table.Table.{Table};
-ghost use Rattle.mv_calls.specs.Keeping.{Kept};
-ghost use Rattle.mv_calls.specs.Services.{most_events};
-ghost use Rattle.mv_script.specs.declared.answer.Answer.{Answer};
+ghost use Rattle.mv_wait.specs.Prelude.{Token, Entry, Setup, Table, Kept, most_events};
+ghost use Rattle.mv_script.specs.Prelude.{Answer, Call, AreInRange, answers_text, Asked, cost, service_of, EventsAreHandedOut, HasFault};
+ghost use Rattle.mv_script.specs.Prelude.{first_fault, IsScriptRun, answer_at, script_answers, unless_moved, ScriptData, script_of};
+ghost use Rattle.mv_script.specs.Prelude.{IsSound, Moves, calls_at};
 ghost use Rattle.mv_script.specs.declared.answer.Answer.TheVariants.{Posted, Early};
-ghost use Rattle.mv_script.specs.declared.call.Call.{Call};
 ghost use Rattle.mv_script.specs.declared.call.Call.TheVariants.{TryPost, TryRelease};
-ghost use Rattle.mv_script.specs.AnswerText.{AreInRange, answers_text};
-ghost use Rattle.mv_script.specs.Costs.{Asked, cost, service_of};
-ghost use Rattle.mv_script.specs.Events.{EventsAreHandedOut};
-ghost use Rattle.mv_script.specs.Fault.{HasFault, first_fault};
-ghost use Rattle.mv_script.specs.Run.{IsScriptRun, answer_at, script_answers, unless_moved};
-ghost use Rattle.mv_script.specs.Script.{ScriptData, script_of};
-ghost use Rattle.mv_script.specs.Sound.{IsSound};
-ghost use Rattle.mv_script.specs.Tasks.{Moves, calls_at};
 
 /// Shows that the first fault is one that the text has, and that no other comes before it by line and then by kind.
 ///

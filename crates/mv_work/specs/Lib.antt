@@ -22,3 +22,5 @@ pub mod Initiating
 pub mod Writing
 -- the work of a task
 pub mod Works
+-- the words of clauses, from one place
+pub mod Prelude

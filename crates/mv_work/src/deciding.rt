@@ -8,12 +8,11 @@
 
 ghost use Rattle.std.specs.Prelude.{◌≡◌, ◌<◌, ◌≤◌, length, map};
 ghost use Rattle.std.specs.List.{AllByRecursion, range_with_len};
-ghost use Rattle.mv_element.specs.Table.{release_limit};
+ghost use Rattle.mv_wait.specs.Prelude.{release_limit, slot_of, slots_of};
 ghost use Rattle.mv_deck.specs.Operand.{most_after};
 ghost use Rattle.mv_deck.specs.Weight.{most_initiators};
 ghost use Rattle.mv_plan.specs.SpoolSetup.{jobs_limit, idle};
 ghost use Rattle.mv_plan.specs.SpoolTasks.{code_of, ends_of, some_end_above};
-ghost use Rattle.mv_wait.specs.Answers.{slot_of, slots_of};
 ghost use Rattle.mv_work.specs.Parts.{is_end_above};
 
 use crate::initiator::NOT_TO_RUN;

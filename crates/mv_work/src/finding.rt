@@ -5,8 +5,7 @@
 //! ```
 
 ghost use Rattle.std.specs.Prelude.{◌≡◌, ◌<◌, length, IfOk, MatchResult};
-ghost use Rattle.mv_calls.specs.Program.{finished, wrong};
-ghost use Rattle.mv_wait.specs.Answers.{slots_of};
+ghost use Rattle.mv_wait.specs.Prelude.{finished, wrong, slots_of};
 ghost use Rattle.mv_work.specs.Parts.{lowest_complete, pair_of};
 
 use crate::lost::Lost;

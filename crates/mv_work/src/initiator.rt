@@ -12,21 +12,14 @@
 
 ghost use Rattle.std.specs.Prelude.{◌≡◌, ◌<◌, ◌≤◌, ◌+◌, ◌-◌, suc, [], false, length, map, sum_by, Some, None, IfOk, MatchResult};
 ghost use Rattle.std.specs.List.{AllByRecursion};
-ghost use Rattle.mv_board.specs.Faces.{CallerFace, IsFresh};
-ghost use Rattle.mv_deck.specs.Deck.{deck_data, job_data};
-ghost use Rattle.mv_deck.specs.EndCode.{not_run};
+ghost use Rattle.mv_wait.specs.Prelude.{CallerFace, IsFresh, MayCall};
+ghost use Rattle.mv_deck.specs.Prelude.{deck_data, job_data, not_run};
 ghost use Rattle.mv_pause.specs.Answers.{gift_as};
-ghost use Rattle.mv_plan.specs.Jobs.{job_at};
-ghost use Rattle.mv_plan.specs.SpoolSetup.{jobs_limit, initiator as plan_initiator};
-ghost use Rattle.mv_plan.specs.SpoolTasks.{job_named as named_by};
-ghost use Rattle.mv_work.specs.Initiating.{InitiatorComes, IsAtJob, IsInitiatorAnswer, IsBetween, IsOwn, initiator_due, initiator_left};
-ghost use Rattle.mv_work.specs.Initiating.{job_marks, named_then, marks_left, rounds_after, rounds_due, steps_events, step_marks, steps_marks};
-ghost use Rattle.mv_work.specs.Initiating.{steps_then};
-ghost use Rattle.mv_work.specs.Needs.{Gave, answer_of};
-ghost use Rattle.mv_work.specs.Noting.{initiating_noted, record_of, rounds_noted};
-ghost use Rattle.mv_work.specs.Parts.{named_of};
-ghost use Rattle.mv_wait.specs.Run.{MayCall};
-ghost use Rattle.mv_work.specs.Works.{HasComeAs, IsNewInitiator, ToldAs};
+ghost use Rattle.mv_plan.specs.Prelude.{job_at, jobs_limit, initiator as plan_initiator, job_named as named_by};
+ghost use Rattle.mv_work.specs.Prelude.{InitiatorComes, IsAtJob, IsInitiatorAnswer, IsBetween, IsOwn, initiator_due, initiator_left};
+ghost use Rattle.mv_work.specs.Prelude.{job_marks, named_then, marks_left, rounds_after, rounds_due, steps_events, step_marks};
+ghost use Rattle.mv_work.specs.Prelude.{steps_marks, steps_then, Gave, answer_of, initiating_noted, record_of, rounds_noted, named_of};
+ghost use Rattle.mv_work.specs.Prelude.{HasComeAs, IsNewInitiator, ToldAs};
 ghost use Rattle.mv_work.specs.declared.stage.InitiatorStage.TheVariants as stage;
 ghost use Rattle.mv_work.specs.declared.work.Role.TheVariants as role;
 

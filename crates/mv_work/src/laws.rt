@@ -6,14 +6,10 @@
 //! ```
 
 ghost use Rattle.std.specs.Prelude.{◌≡◌, ◌≤◌, ◌↔◌, ℕ, List, []};
-ghost use Rattle.mv_calls.specs.Keeping.{Kept};
-ghost use Rattle.mv_calls.specs.Program.{Done, Heard, Says, left};
+ghost use Rattle.mv_wait.specs.Prelude.{Kept, Done, Heard, Says, left, Entry, Setup};
 ghost use Rattle.mv_deck.specs.Deck.{JobData};
 ghost use Rattle.mv_deck.specs.Sound.{IsSound};
-ghost use Rattle.mv_machine.specs.declared.entry.Entry.{Entry};
-ghost use Rattle.mv_machine.specs.Setup.{Setup};
-ghost use Rattle.mv_plan.specs.SpoolRun.{IsRun};
-ghost use Rattle.mv_plan.specs.SpoolTasks.{initiating};
+ghost use Rattle.mv_plan.specs.Prelude.{IsRun, initiating};
 ghost use Rattle.mv_report.specs.Outcome.{lines};
 ghost use Rattle.mv_work.specs.Noting.{initiating_noted};
 ghost use Rattle.mv_work.specs.Recording.{AreBrought, AreRecorded, all_records, lines_recorded};

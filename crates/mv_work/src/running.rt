@@ -7,15 +7,13 @@
 //! ```
 
 ghost use Rattle.std.specs.Prelude.{◌≡◌, ◌<◌, ◌≤◌, ◌+◌, length, IfOk};
-ghost use Rattle.mv_board.specs.Faces.{IsOf, IsSame};
-ghost use Rattle.mv_calls.specs.Rest.{IsAtRest};
+ghost use Rattle.mv_wait.specs.Prelude.{IsOf, IsSame, IsAtRest, MayCall};
 ghost use Rattle.mv_deck.specs.Operand.{highest_latch};
 ghost use Rattle.mv_deck.specs.Weight.{step_events};
 ghost use Rattle.mv_plan.specs.Jobs.{job_at};
 ghost use Rattle.mv_work.specs.Initiating.{InitiatorComes, IsRunning, initiator_due, initiator_left, step_marks, steps_from};
 ghost use Rattle.mv_work.specs.Needs.{Holds};
 ghost use Rattle.mv_work.specs.Steps.{AreKept, DoesStep, IsGoodDid, requests_of, step_at};
-ghost use Rattle.mv_wait.specs.Run.{MayCall};
 ghost use Rattle.mv_work.specs.declared.stage.InitiatorStage.TheVariants as stage;
 
 use crate::initiator::Initiator;

@@ -14,18 +14,12 @@
 //! leads to `Dismissal(0)`.
 
 ghost use Rattle.std.specs.Prelude.{◌≡◌, ◌<◌, ◌≤◌, ◌+◌, ◌*◌, ◌-◌, [], ◌∷◌, length, MatchResult, Some};
-ghost use Rattle.mv_element.specs.Table.{release_limit};
-ghost use Rattle.mv_calls.specs.Program.{Done, Wrong};
-ghost use Rattle.mv_board.specs.Faces.{CallerFace, IsFresh};
-ghost use Rattle.mv_plan.specs.Jobs.{job_at};
-ghost use Rattle.mv_plan.specs.SpoolSetup.{scheduler};
-ghost use Rattle.mv_plan.specs.SpoolTasks.{ends_awaited, hand_over as handed};
-ghost use Rattle.mv_wait.specs.Answers.{slots_of};
+ghost use Rattle.mv_wait.specs.Prelude.{release_limit, Done, Wrong, CallerFace, IsFresh, slots_of, MayCall};
+ghost use Rattle.mv_plan.specs.Prelude.{job_at, scheduler, ends_awaited, hand_over as handed};
 ghost use Rattle.mv_work.specs.Needs.{Slots, answer_of};
 ghost use Rattle.mv_work.specs.Ran.{Ran};
 ghost use Rattle.mv_work.specs.Scheduling.{IsSchedulerAnswer, SchedulerAsks, SchedulerComes, scheduler_due, scheduler_left};
 ghost use Rattle.mv_work.specs.Scheduling.{dismissals_from, exit_set, jobs_due, jobs_from, then_jobs};
-ghost use Rattle.mv_wait.specs.Run.{MayCall};
 ghost use Rattle.mv_work.specs.Works.{HasComeAs, ToldAs};
 ghost use Rattle.mv_work.specs.declared.stage.SchedulerStage.TheVariants as stage;
 ghost use Rattle.mv_work.specs.declared.work.Role.TheVariants as role;

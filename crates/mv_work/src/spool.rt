@@ -13,12 +13,9 @@
 
 ghost use Rattle.std.specs.Prelude.{◌≡◌, ◌<◌, ◌≤◌, ◌+◌, length};
 ghost use Rattle.std.specs.List.{AllByRecursion};
-ghost use Rattle.mv_deck.specs.Deck.{deck_data};
-ghost use Rattle.mv_deck.specs.Operand.{most_after};
-ghost use Rattle.mv_deck.specs.Sound.{HasGoodNumbers};
+ghost use Rattle.mv_deck.specs.Prelude.{deck_data, most_after, HasGoodNumbers};
 ghost use Rattle.mv_machine.specs.Reach.{reach, release_cost};
-ghost use Rattle.mv_plan.specs.Jobs.{job_at};
-ghost use Rattle.mv_plan.specs.SpoolSetup.{done, end_for_writer, entered, idle, scheduler, writer};
+ghost use Rattle.mv_plan.specs.Prelude.{job_at, done, end_for_writer, entered, idle, scheduler, writer};
 ghost use Rattle.mv_work.specs.Meeting.{MayMeet};
 ghost use Rattle.mv_work.specs.Spool.{IsSpool, spool_of};
 ghost use Rattle.mv_work.specs.Steps.{BearsSteps, step_at};

@@ -6,10 +6,9 @@
 //! ```
 
 ghost use Rattle.std.specs.Prelude.{◌≡◌, ◌<◌, ◌≤◌, ◌-◌, ◌*◌, [], ◌∷◌, length, vec_capacity, Some};
-ghost use Rattle.mv_board.specs.Faces.{CallerFace, IsFresh};
+ghost use Rattle.mv_wait.specs.Prelude.{CallerFace, IsFresh, MayCall};
 ghost use Rattle.mv_plan.specs.SpoolSetup.{writer};
 ghost use Rattle.mv_work.specs.Needs.{Slots};
-ghost use Rattle.mv_wait.specs.Run.{MayCall};
 ghost use Rattle.mv_work.specs.Works.{HasComeAs, ToldAs};
 ghost use Rattle.mv_work.specs.Writing.{WriterAsks, WriterComes, ends_from, room_in, writer_due, writer_left};
 ghost use Rattle.mv_work.specs.declared.work.Role.TheVariants as role;
