@@ -1,20 +1,13 @@
 -- What the calls of the writer and of a reader leave of their task. Used by write_pair and read_pair.
 use Rattle.std.proofs.Common.{◌≡◌, ℕ, ◌≤◌, false, List, [], ◌∷◌, ◌++◌, Result, inl, refl, sym, ap, ◌∙◌, subst, append_assoc, le_refl}
 use Rattle.std.specs.List.{AllByRecursion, Contains}
-use Rattle.mv_latch.specs.declared.operation.LatchOp.TheVariants.{Obtain}
-use Rattle.mv_latch.specs.declared.request.LatchForm.TheVariants.{Waiting}
-use Rattle.mv_latch.specs.declared.request.Mode.{Mode}
-use Rattle.mv_latch.specs.declared.request.Mode.TheVariants.{Exclusive, Shared}
-use Rattle.mv_latch.proofs.Members.{rest_is_in}
-use Rattle.mv_machine.specs.Reach.{release_cost}
-use Rattle.mv_machine.specs.Setup.{Setup}
-use Rattle.mv_board.specs.Faces.{BoardFace, CallerFace}
-use Rattle.mv_calls.specs.Keeping.{kept_of}
-use Rattle.mv_calls.specs.LatchCalls.{Requested, obtain, release_latch}
-use Rattle.mv_calls.specs.Program.{Call}
-use Rattle.mv_calls.specs.Refusal.{Refusal}
-use Rattle.mv_calls.specs.Waits.{read_volume, write_volume}
-use Rattle.mv_wait.specs.Run.{IsServed}
+use Rattle.mv_wait.specs.Prelude.latch_op.{Obtain}
+use Rattle.mv_wait.specs.Prelude.latch_form.{Waiting}
+use Rattle.mv_wait.specs.Prelude.{Mode, release_cost, Setup, BoardFace, CallerFace, kept_of, obtain, release_latch, Call, Refusal}
+use Rattle.mv_wait.specs.Prelude.{read_volume, write_volume, IsServed}
+use Rattle.mv_wait.specs.Prelude.mode.{Exclusive, Shared}
+use Rattle.mv_wait.proofs.Members.{rest_is_in}
+use Rattle.mv_wait.specs.LatchCalls.{Requested}
 use Rattle.mv_wait.proofs.Compose.{still_served}
 use Rattle.mv_latchset.specs.declared.obtaining.Obtained.TheVariants as got
 use Rattle.mv_latchset.specs.declared.token.LatchToken.{LatchToken}

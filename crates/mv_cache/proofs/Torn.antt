@@ -3,23 +3,16 @@
 use Rattle.std.proofs.Common.{◌≡◌, ℕ, ◌<◌, true, List, [], ◌∷◌, ◌++◌, inl, inr, sym, ap, ◌∙◌, subst, append_assoc}
 use Rattle.std.proofs.lemmas.Bool.{false≢true}
 use Rattle.std.specs.List.{Contains}
-use Rattle.mv_latch.specs.declared.operation.LatchOp.TheVariants.{Purge}
-use Rattle.mv_latch.specs.declared.request.Mode.TheVariants.{Exclusive, Shared}
-use Rattle.mv_latch.specs.declared.request.Request.{Request}
-use Rattle.mv_machine.specs.declared.entry.Entry.{Entry}
-use Rattle.mv_machine.specs.declared.entry.Object.{Object}
-use Rattle.mv_machine.specs.declared.entry.Object.TheVariants.{Volume}
-use Rattle.mv_machine.specs.declared.entry.Op.{Op}
-use Rattle.mv_machine.specs.declared.entry.Op.TheVariants as op_on
-use Rattle.mv_machine.specs.declared.entry.VolumeOp.TheVariants.{Write}
-use Rattle.mv_machine.specs.Legal.{Legal, of}
-use Rattle.mv_machine.specs.Setup.{Setup}
-use Rattle.mv_machine.specs.System.{opening}
-use Rattle.mv_machine.proofs.Histories.{LegalFrom-front}
-use Rattle.mv_machine.proofs.Objects.{of-append}
-use Rattle.mv_machine.proofs.Places.{of_longer_mine}
-use Rattle.mv_calls.specs.Sections.{is_write}
-use Rattle.mv_calls.proofs.Sections.{one_holder}
+use Rattle.mv_wait.specs.Prelude.latch_op.{Purge}
+use Rattle.mv_wait.specs.Prelude.mode.{Exclusive, Shared}
+use Rattle.mv_wait.specs.Prelude.{Request, Entry, Object, Volume, Op, Legal, of, Setup, is_write}
+use Rattle.mv_wait.specs.Prelude.op_on
+use Rattle.mv_wait.specs.Prelude.volume_op.{Write}
+use Rattle.mv_wait.specs.System.{opening}
+use Rattle.mv_wait.proofs.Histories.{LegalFrom-front}
+use Rattle.mv_wait.proofs.Objects.{of-append}
+use Rattle.mv_wait.proofs.Places.{of_longer_mine}
+use Rattle.mv_wait.proofs.Sections.{one_holder}
 use Rattle.mv_guarded.specs.Guarded.{HoldsLatch, KeepsLatch, Keeps, IsGuarding, GuardsVolume, value, value_from, Reads}
 use Rattle.mv_guarded.proofs.Holding.{still_holds}
 use Rattle.mv_guarded.proofs.Reading.{grants, value_read}

@@ -1,6 +1,6 @@
 -- The configuration of a pair that tasks share.
 use Rattle.std.specs.Prelude.{ℕ, ◌*◌, [], ◌∷◌}
-use Rattle.mv_machine.specs.Setup.{Setup}
+use Rattle.mv_wait.specs.Prelude.{Setup}
 
 -- how many pairs are written at most
 abbrev pub pairs_limit : ℕ

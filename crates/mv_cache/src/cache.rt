@@ -2,8 +2,7 @@
 
 ghost use Rattle.std.specs.Prelude.{◌≡◌, ◌<◌, ◌≤◌, ◌+◌, ◌*◌, ◌∷◌, [], length, vec_capacity, IfOk, IfSome, All};
 ghost use Rattle.std.specs.List.{AllByRecursion, Contains};
-ghost use Rattle.mv_machine.specs.Legal.{Legal};
-ghost use Rattle.mv_machine.specs.Limits.{highest_place};
+ghost use Rattle.mv_wait.specs.Prelude.{Legal, highest_place};
 ghost use Rattle.mv_ordered.specs.Held.{held};
 ghost use Rattle.mv_ordered.specs.WaitChain.{HasNoLatchDeadlock};
 ghost use Rattle.mv_attach.specs.Rooms.{HasRoom};
@@ -12,11 +11,8 @@ ghost use Rattle.mv_cache.specs.Setup.{pairs_limit, reads_limit, cache_setup};
 ghost use Rattle.mv_cache.specs.Whole.{IsSharing, IsWriting, IsReading, HasDone, WasRead, IsLonger, first_pair};
 
 use mv_attach::{Work, run_tasks};
-use mv_io::NoMemory;
-use mv_latch::{LatchForm, Mode};
-use mv_latchset::{Obtained, obtain, release_latch};
-use mv_machine::{Config, History, ValidConfig};
-use mv_wait::{Station, Task};
+use mv_latchset::{LatchForm, Mode, Obtained, obtain, release_latch};
+use mv_wait::{Config, History, NoMemory, Station, Task, ValidConfig};
 use std::alloc::Global;
 use std::sync::Wait;
 use std::thread::Threads;

@@ -5,7 +5,7 @@
 mod cache;
 
 pub use cache::{Pair, Shared, share};
-use mv_machine::replay;
+use mv_wait::replay;
 use std::io::{self, Print};
 
 // The pairs that are written, one after the other.

@@ -1,9 +1,7 @@
 -- The waiter is told the code that is posted. Used by complete.
 use Rattle.std.proofs.Common.{◌≡◌, ℕ, ◌<◌, List, get_or, refl, subst}
-use Rattle.mv_machine.specs.declared.entry.Entry.{Entry}
-use Rattle.mv_machine.specs.Legal.{Legal, of}
-use Rattle.mv_machine.specs.Setup.{Setup}
-use Rattle.mv_machine.proofs.Lists.{all_at}
+use Rattle.mv_wait.specs.Prelude.{Entry, Legal, of, Setup}
+use Rattle.mv_wait.proofs.Lists.{all_at}
 use Rattle.mv_attach.specs.Entries.{Finds, IsPosted}
 use Rattle.mv_attach.proofs.Entries.{all_entries, found_was_posted}
 use Rattle.mv_completion.specs.Told.{IsTold, PostsIt, HasDone}

@@ -1,14 +1,9 @@
 -- The configuration of a completion, and what each of its tasks has done.
 use Rattle.std.specs.Prelude.{◌≡◌, ℕ, List, [], ◌∷◌}
 use Rattle.std.specs.List.{AllByRecursion}
-use Rattle.mv_ecb.specs.declared.operation.EcbOp.TheVariants.{Post}
-use Rattle.mv_machine.specs.declared.entry.Entry.{Entry}
-use Rattle.mv_machine.specs.declared.entry.Object.{Object}
-use Rattle.mv_machine.specs.declared.entry.Object.TheVariants.{Ecb}
-use Rattle.mv_machine.specs.declared.entry.Op.{Op}
-use Rattle.mv_machine.specs.declared.entry.Op.TheVariants as op_on
-use Rattle.mv_machine.specs.Legal.{of}
-use Rattle.mv_machine.specs.Setup.{Setup}
+use Rattle.mv_wait.specs.Prelude.ecb_op.{Post}
+use Rattle.mv_wait.specs.Prelude.{Entry, Object, Ecb, Op, of, Setup}
+use Rattle.mv_wait.specs.Prelude.op_on
 use Rattle.mv_attach.specs.Blocks.{blocks_setup}
 use Rattle.mv_attach.specs.Entries.{Finds, IsPosted}
 

@@ -1,14 +1,11 @@
 //! A task that waits for an event, and one that completes it. Clauses cite `specs/Told.antt`.
 
 ghost use Rattle.std.specs.Prelude.{◌≡◌, ◌<◌, IfOk};
-ghost use Rattle.mv_ecb.specs.Table.{code_limit};
-ghost use Rattle.mv_machine.specs.Legal.{Legal};
+ghost use Rattle.mv_wait.specs.Prelude.{code_limit, Legal};
 ghost use Rattle.mv_completion.specs.Told.{completion_setup, IsTold, HasDone};
 
 use mv_attach::{Work, config_of_blocks, run_tasks};
-use mv_io::NoMemory;
-use mv_machine::History;
-use mv_wait::{Station, Task};
+use mv_wait::{History, NoMemory, Station, Task};
 use std::alloc::Global;
 use std::sync::Wait;
 use std::thread::Threads;

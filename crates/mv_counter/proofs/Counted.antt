@@ -4,17 +4,11 @@ use Rattle.std.proofs.Math.Nat.{mod-add-mod}
 use Rattle.std.proofs.lemmas.Bool.{false≢true}
 use Rattle.std.proofs.lemmas.List.{length-append}
 use Rattle.std.proofs.lemmas.List.Elements.{filter-append}
-use Rattle.mv_latch.specs.declared.operation.LatchOp.TheVariants.{Purge}
-use Rattle.mv_machine.specs.declared.entry.Entry.{Entry}
-use Rattle.mv_machine.specs.declared.entry.Object.{Object}
-use Rattle.mv_machine.specs.declared.entry.Op.{Op}
-use Rattle.mv_machine.specs.declared.entry.Op.TheVariants as op_on
-use Rattle.mv_machine.specs.declared.entry.Reply.{Reply}
-use Rattle.mv_machine.specs.declared.entry.VolumeOp.TheVariants.{Write}
-use Rattle.mv_machine.specs.Legal.{Legal, of}
-use Rattle.mv_machine.specs.Setup.{Setup}
-use Rattle.mv_machine.proofs.EntryRuns.{entry_of}
-use Rattle.mv_calls.specs.Sections.{is_write}
+use Rattle.mv_wait.specs.Prelude.latch_op.{Purge}
+use Rattle.mv_wait.specs.Prelude.{Entry, Object, Op, Reply, Legal, of, Setup, is_write}
+use Rattle.mv_wait.specs.Prelude.op_on
+use Rattle.mv_wait.specs.Prelude.volume_op.{Write}
+use Rattle.mv_wait.proofs.EntryRuns.{entry_of}
 use Rattle.mv_guarded.specs.Guarded.{Keeps, IsGuarding, GuardsVolume, value, value_with}
 use Rattle.mv_guarded.proofs.Quiet.{IsCalm}
 use Rattle.mv_guarded.proofs.Reading.{value_read}

@@ -1,15 +1,12 @@
 //! Four tasks that count one number up. Clauses cite `specs/Counter.antt`, and definitions of mv_guarded.
 
 ghost use Rattle.std.specs.Prelude.{◌≡◌, ◌≤◌, ◌*◌, ◌+◌, IfOk};
-ghost use Rattle.mv_machine.specs.Legal.{Legal};
+ghost use Rattle.mv_wait.specs.Prelude.{Legal};
 ghost use Rattle.mv_counter.specs.Counter.{times_limit, counter_setup, IsReady, IsCounter, HasDone, IsCounted, additions};
 
 use mv_attach::{Work, run_tasks};
-use mv_io::NoMemory;
-use mv_latch::{LatchForm, Mode};
-use mv_latchset::{Obtained, obtain, release_latch};
-use mv_machine::{Config, History, ValidConfig};
-use mv_wait::{Station, Task};
+use mv_latchset::{LatchForm, Mode, Obtained, obtain, release_latch};
+use mv_wait::{Config, History, NoMemory, Station, Task, ValidConfig};
 use std::alloc::Global;
 use std::sync::Wait;
 use std::thread::Threads;

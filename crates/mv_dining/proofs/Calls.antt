@@ -1,17 +1,11 @@
 -- What an obtain and a release leave of a philosopher. Used by take_fork and put_fork.
 use Rattle.std.proofs.Common.{◌≡◌, ℕ, ◌≤◌, ◌<◌, false, Result, refl, sym, subst, le_refl}
-use Rattle.mv_latch.specs.declared.request.LatchForm.TheVariants.{Waiting}
-use Rattle.mv_latch.specs.declared.request.Mode.TheVariants.{Exclusive}
-use Rattle.mv_machine.specs.Kept.{standing}
-use Rattle.mv_machine.specs.Reach.{release_cost}
-use Rattle.mv_machine.specs.Setup.{Setup}
-use Rattle.mv_machine.proofs.Lists.{all_append, all_map}
-use Rattle.mv_board.specs.Faces.{BoardFace, CallerFace}
-use Rattle.mv_calls.specs.Keeping.{kept_of}
-use Rattle.mv_calls.specs.LatchCalls.{Requested, obtain, release_latch}
-use Rattle.mv_calls.specs.Program.{Call, entries}
-use Rattle.mv_calls.specs.Refusal.{Refusal}
-use Rattle.mv_wait.specs.Run.{IsServed}
+use Rattle.mv_wait.specs.Prelude.latch_form.{Waiting}
+use Rattle.mv_wait.specs.Prelude.mode.{Exclusive}
+use Rattle.mv_wait.specs.Prelude.{standing, release_cost, Setup, BoardFace, CallerFace, kept_of, obtain, release_latch, Call, entries}
+use Rattle.mv_wait.specs.Prelude.{Refusal, IsServed}
+use Rattle.mv_wait.proofs.Lists.{all_append, all_map}
+use Rattle.mv_wait.specs.LatchCalls.{Requested}
 use Rattle.mv_wait.proofs.Compose.{still_served}
 use Rattle.mv_attach.proofs.Always.{served_keeps}
 use Rattle.mv_attach.proofs.Says.{always_obtain}

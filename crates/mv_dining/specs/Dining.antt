@@ -1,10 +1,7 @@
 -- What a philosopher keeps to, and that no fork has two holders.
 use Rattle.std.specs.Prelude.{◌≡◌, ℕ, ◌<◌, ◌≤◌, List, [], ◌++◌}
 use Rattle.std.specs.List.{AllByRecursion}
-use Rattle.mv_machine.specs.declared.entry.Entry.{Entry}
-use Rattle.mv_machine.specs.Setup.{Setup}
-use Rattle.mv_board.specs.Faces.{BoardFace, CallerFace, IsOf}
-use Rattle.mv_calls.specs.Rest.{IsAtRest}
+use Rattle.mv_wait.specs.Prelude.{Entry, Setup, BoardFace, CallerFace, IsOf, IsAtRest}
 use Rattle.mv_ordered.specs.Held.{held}
 use Rattle.mv_ordered.specs.LatchOrder.{HasLockDiscipline}
 use Rattle.mv_ordered.specs.WaitChain.{HoldsAt}

@@ -1,6 +1,6 @@
 -- The configuration of four philosophers.
 use Rattle.std.specs.Prelude.{ℕ, ◌*◌, [], ◌∷◌}
-use Rattle.mv_machine.specs.Setup.{Setup}
+use Rattle.mv_wait.specs.Prelude.{Setup}
 
 -- how many meals a philosopher may have
 abbrev pub meals_limit : ℕ

@@ -1,8 +1,7 @@
 //! The philosophers. Clauses cite `specs/Setup.antt` and `specs/Dining.antt`, and definitions of mv_ordered and mv_guarded.
 
 ghost use Rattle.std.specs.Prelude.{◌≡◌, ◌<◌, ◌≤◌, ◌+◌, ◌*◌, ◌++◌, ◌∷◌, [], IfOk, IfSome, MatchOption, All};
-ghost use Rattle.mv_machine.specs.Legal.{Legal};
-ghost use Rattle.mv_machine.specs.Limits.{highest_place};
+ghost use Rattle.mv_wait.specs.Prelude.{Legal, highest_place};
 ghost use Rattle.mv_ordered.specs.Held.{held, without};
 ghost use Rattle.mv_ordered.specs.WaitChain.{HasNoLatchDeadlock};
 ghost use Rattle.mv_guarded.specs.Guarded.{AllReleased};
@@ -10,11 +9,8 @@ ghost use Rattle.mv_dining.specs.Setup.{meals_limit, dining_setup};
 ghost use Rattle.mv_dining.specs.Dining.{AreLower, IsDining, IsTable, HasDined, NoForkIsShared};
 
 use mv_attach::{Work, run_tasks};
-use mv_io::NoMemory;
-use mv_latch::{LatchForm, Mode};
-use mv_latchset::{LatchToken, Obtained, obtain, release_latch};
-use mv_machine::{Config, History, ValidConfig};
-use mv_wait::{Station, Task};
+use mv_latchset::{LatchForm, LatchToken, Mode, Obtained, obtain, release_latch};
+use mv_wait::{Config, History, NoMemory, Station, Task, ValidConfig};
 use std::alloc::Global;
 use std::sync::Wait;
 use std::thread::Threads;

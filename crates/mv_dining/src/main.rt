@@ -5,8 +5,7 @@
 mod dining;
 
 pub use dining::dine;
-use mv_latch::LatchOp;
-use mv_machine::{Entry, Op, replay};
+use mv_wait::{Entry, LatchOp, Op, replay};
 use std::io::{self, Print};
 
 // How often each is to eat.

@@ -2,22 +2,15 @@
 use Rattle.std.proofs.Common.{◌≡◌, ℕ, true, List, [], ◌∷◌, ◌++◌, Option, Some, None, ◌⊎◌, inl, inr, refl, sym}
 use Rattle.std.proofs.Common.{subst}
 use Rattle.std.proofs.lemmas.Bool.{cases_eq, eq-eqb, ne_eqb, eqb-true, false≢true, and_parts}
-use Rattle.mv_ecb.specs.declared.operation.EcbOp.{EcbOp}
-use Rattle.mv_ecb.specs.declared.operation.EcbOp.TheVariants.{Arm, Extend, Settle, Clear, Post, Test}
-use Rattle.mv_ecb.specs.Table.{ecb_step}
-use Rattle.mv_ecb.specs.Word.{EcbState, Zero, Waiting, Extended, Complete}
-use Rattle.mv_machine.specs.declared.entry.Entry.{Entry}
-use Rattle.mv_machine.specs.declared.entry.Object.{Object}
-use Rattle.mv_machine.specs.declared.entry.Object.TheVariants.{Ecb, Element, Volume, Latches}
-use Rattle.mv_machine.specs.declared.entry.Op.{Op}
-use Rattle.mv_machine.specs.declared.entry.Op.TheVariants as op_on
-use Rattle.mv_machine.specs.declared.entry.Reply.{Reply}
-use Rattle.mv_machine.specs.declared.entry.Reply.TheVariants as reply_of
-use Rattle.mv_machine.specs.Legal.{IsNext, LegalFrom, Legal, next, of}
-use Rattle.mv_machine.specs.Setup.{Setup, owner_of}
-use Rattle.mv_machine.specs.System.{System, Cell, opening, ecb_admitted}
-use Rattle.mv_machine.proofs.EntryRuns.{entry_of}
-use Rattle.mv_machine.proofs.Places.{of_mine, of_other}
+use Rattle.mv_wait.specs.Prelude.{EcbOp, ecb_step, Entry, Object, Ecb, Element, Volume, Latches, Op, Reply, Legal, of, Setup, owner_of}
+use Rattle.mv_wait.specs.Prelude.ecb_op.{Arm, Extend, Settle, Clear, Post, Test}
+use Rattle.mv_wait.specs.Word.{EcbState, Zero, Waiting, Extended, Complete}
+use Rattle.mv_wait.specs.Prelude.op_on
+use Rattle.mv_wait.specs.Prelude.reply_of
+use Rattle.mv_wait.specs.Legal.{IsNext, LegalFrom, next}
+use Rattle.mv_wait.specs.System.{System, Cell, opening, ecb_admitted}
+use Rattle.mv_wait.proofs.EntryRuns.{entry_of}
+use Rattle.mv_wait.proofs.Places.{of_mine, of_other}
 use Rattle.mv_handover.specs.Slots.{posts, seen_by, taken_by, takes_from, takes}
 use Rattle.mv_handover.proofs.Lists.{IsWithin, within_add, within_second}
 

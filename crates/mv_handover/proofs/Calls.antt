@@ -1,24 +1,16 @@
 -- What a take and a put add to a task's log, and that the task is ready behind them. Used by take and put.
 use Rattle.std.proofs.Common.{◌≡◌, ℕ, ◌==◌, Bool, true, false, List, [], ◌∷◌, ◌++◌, Result, Ok, refl, ap}
 use Rattle.std.proofs.Common.{sym, ◌∙◌, arith, append_assoc, if◌then◌else◌}
-use Rattle.mv_ecb.specs.declared.operation.EcbOp.TheVariants.{Clear, Post}
-use Rattle.mv_machine.specs.declared.entry.Entry.{Entry}
-use Rattle.mv_machine.specs.declared.entry.Object.TheVariants.{Ecb}
-use Rattle.mv_machine.specs.declared.entry.Op.TheVariants as op_on
-use Rattle.mv_machine.specs.Setup.{Setup, owner_of}
-use Rattle.mv_board.specs.Faces.{BoardFace, CallerFace, IsOf}
-use Rattle.mv_calls.specs.Keeping.{Kept, kept_from, kept_of, nothing_kept}
-use Rattle.mv_calls.specs.declared.outcomes.PostAnswer.{PostAnswer}
-use Rattle.mv_calls.specs.Posts.{post}
-use Rattle.mv_calls.specs.Program.{Program, Do, Done, Heard, on_ecb, unless_refused}
-use Rattle.mv_calls.specs.Refusal.{Refusal}
-use Rattle.mv_calls.specs.Refusal as refusal
-use Rattle.mv_calls.specs.Rest.{IsAtRest}
-use Rattle.mv_calls.specs.Waits.{is_others_block, clear, the_word, refused_if}
-use Rattle.mv_calls.proofs.Making.{kept_from-append, kept_caller}
-use Rattle.mv_calls.proofs.Unrefused.{own_block as not_others}
-use Rattle.mv_wait.specs.Run.{IsServed}
-use Rattle.mv_wait.specs.OneBlock.{WaitedFor}
+use Rattle.mv_wait.specs.Prelude.ecb_op.{Clear, Post}
+use Rattle.mv_wait.specs.Prelude.{Entry, Ecb, Setup, owner_of, BoardFace, CallerFace, IsOf, Kept, kept_of, PostAnswer, post, Done, Heard}
+use Rattle.mv_wait.specs.Prelude.{Refusal, IsAtRest, clear, IsServed, WaitedFor}
+use Rattle.mv_wait.specs.Prelude.op_on
+use Rattle.mv_wait.specs.Keeping.{kept_from, nothing_kept}
+use Rattle.mv_wait.specs.Program.{Program, Do, on_ecb, unless_refused}
+use Rattle.mv_wait.specs.Refusal as refusal
+use Rattle.mv_wait.specs.Waits.{is_others_block, the_word, refused_if}
+use Rattle.mv_wait.proofs.Making.{kept_from-append, kept_caller}
+use Rattle.mv_wait.proofs.Unrefused.{own_block as not_others}
 use Rattle.mv_attach.proofs.Once.{served_once}
 use Rattle.mv_handover.specs.Ready.{CanHandOver, Added, Put, Took}
 use Rattle.mv_handover.specs.Setup.{slots_setup}

@@ -1,7 +1,7 @@
 -- What is posted to a block and what is taken out of it, by a log that grows.
 use Rattle.std.proofs.Common.{◌≡◌, ℕ, List, [], ◌∷◌, ◌++◌, Option, refl, sym, ap, ◌∙◌, append_assoc}
 use Rattle.std.proofs.lemmas.List.Elements.{filter_map-append}
-use Rattle.mv_machine.specs.declared.entry.Entry.{Entry}
+use Rattle.mv_wait.specs.Prelude.{Entry}
 use Rattle.mv_handover.specs.Slots.{post_code, posts, seen_with, seen_after, taken_with, takes_from}
 
 pub posts-append : (n : ℕ) (xs ys : List Entry) → posts n (xs ++ ys) ≡ posts n xs ++ posts n ys

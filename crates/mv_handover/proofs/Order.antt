@@ -3,15 +3,12 @@ use Rattle.std.proofs.Common.{◌≡◌, ℕ, ◌<◌, ◌≤◌, List, [], ◌�
 use Rattle.std.proofs.Common.{arith}
 use Rattle.std.proofs.lemmas.Bool.{cases_eq}
 use Rattle.std.specs.List.{AllByRecursion}
-use Rattle.mv_latch.proofs.Joined.{both_empty}
-use Rattle.mv_machine.specs.declared.entry.Entry.{Entry}
-use Rattle.mv_machine.specs.Legal.{Legal, of}
-use Rattle.mv_machine.specs.Setup.{Setup, owner_of}
-use Rattle.mv_machine.specs.System.{opening}
+use Rattle.mv_wait.proofs.Joined.{both_empty}
+use Rattle.mv_wait.specs.Prelude.{Entry, Legal, of, Setup, owner_of, BoardFace, CallerFace, AreInOrder, IsIn}
+use Rattle.mv_wait.specs.System.{opening}
 use Rattle.mv_attach.proofs.Back.{log_in, last_room, no_task}
-use Rattle.mv_board.specs.Faces.{BoardFace, CallerFace, AreInOrder, IsIn}
-use Rattle.mv_machine.proofs.Places.{of_mine, of_other}
-use Rattle.mv_calls.proofs.Interleaved.{callers_exist}
+use Rattle.mv_wait.proofs.Places.{of_mine, of_other}
+use Rattle.mv_wait.proofs.Interleaved.{callers_exist}
 use Rattle.mv_handover.specs.Ready.{HasPut, HasTaken, HasDone}
 use Rattle.mv_handover.specs.Setup.{slots, HasSlots}
 use Rattle.mv_handover.specs.Slots.{posts, takes, part}

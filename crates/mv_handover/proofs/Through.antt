@@ -2,8 +2,7 @@
 use Rattle.std.proofs.Common.{◌≡◌, ℕ, zero, suc, ◌+◌, ◌%◌, ◌<◌, ◌==◌, List, [], ◌∷◌, ◌++◌, length, None, ◌⊎◌, inl, inr, refl, ap}
 use Rattle.std.proofs.Common.{◌∙◌, arith, append-nil, if◌then◌else◌}
 use Rattle.std.proofs.lemmas.Bool.{cases_eq, eq-eqb, ne_eqb}
-use Rattle.mv_machine.specs.Setup.{Setup, owner_of}
-use Rattle.mv_board.specs.Faces.{CallerFace}
+use Rattle.mv_wait.specs.Prelude.{Setup, owner_of, CallerFace}
 use Rattle.mv_handover.specs.Ready.{Put, Took}
 use Rattle.mv_handover.specs.Setup.{slots, slots_setup, HasSlots}
 use Rattle.mv_handover.specs.Slots.{posts, seen_after, takes_from, takes, part_from, part}

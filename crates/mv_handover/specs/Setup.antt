@@ -1,6 +1,6 @@
 -- The configuration of a hand-over.
 use Rattle.std.specs.Prelude.{◌≡◌, ℕ, ◌+◌, ◌*◌, [], ◌∷◌}
-use Rattle.mv_machine.specs.Setup.{Setup}
+use Rattle.mv_wait.specs.Prelude.{Setup}
 
 -- the number of slots
 abbrev pub slots : ℕ

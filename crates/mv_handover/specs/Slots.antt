@@ -1,16 +1,11 @@
 -- What goes through a block: the codes with which it is posted, and those that are taken out of it.
 use Rattle.std.specs.Prelude.{ℕ, ◌+◌, ◌%◌, ◌==◌, List, [], ◌∷◌, ◌++◌, Option, Some, None, if◌then◌else◌}
 use Rattle.std.specs.List.{filter_map}
-use Rattle.mv_ecb.specs.declared.operation.EcbOp.{EcbOp}
-use Rattle.mv_ecb.specs.declared.operation.EcbOp.TheVariants.{Settle, Clear, Post}
-use Rattle.mv_ecb.specs.declared.operation.EcbReply.TheVariants.{Complete}
-use Rattle.mv_machine.specs.declared.entry.Entry.{Entry}
-use Rattle.mv_machine.specs.declared.entry.Object.{Object}
-use Rattle.mv_machine.specs.declared.entry.Object.TheVariants.{Ecb}
-use Rattle.mv_machine.specs.declared.entry.Op.{Op}
-use Rattle.mv_machine.specs.declared.entry.Op.TheVariants as op_on
-use Rattle.mv_machine.specs.declared.entry.Reply.{Reply}
-use Rattle.mv_machine.specs.declared.entry.Reply.TheVariants as reply_of
+use Rattle.mv_wait.specs.Prelude.{EcbOp, Entry, Object, Ecb, Op, Reply}
+use Rattle.mv_wait.specs.Prelude.ecb_op.{Settle, Clear, Post}
+use Rattle.mv_wait.specs.Prelude.ecb_reply.{Complete}
+use Rattle.mv_wait.specs.Prelude.op_on
+use Rattle.mv_wait.specs.Prelude.reply_of
 use Rattle.mv_handover.specs.Setup.{slots}
 
 -- the code, if this operation is a post of block n

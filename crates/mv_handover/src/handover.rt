@@ -2,17 +2,13 @@
 
 ghost use Rattle.std.specs.Prelude.{◌≡◌, ℕ, ◌<◌, ◌≤◌, ◌+◌, ◌*◌, [], length, vec_capacity, IfOk, All};
 ghost use Rattle.std.specs.List.{AllByRecursion};
-ghost use Rattle.mv_ecb.specs.Table.{code_limit};
-ghost use Rattle.mv_machine.specs.Legal.{Legal, of};
-ghost use Rattle.mv_machine.specs.Limits.{highest_place};
+ghost use Rattle.mv_wait.specs.Prelude.{code_limit, Legal, of, highest_place};
 ghost use Rattle.mv_handover.specs.Ready.{CanHandOver, IsNew, IsOwn, Put, Took, HasPut, HasTaken, CanStart, HasDone, AreRooms};
 ghost use Rattle.mv_handover.specs.Setup.{slots, items_limit, slots_setup};
 ghost use Rattle.mv_handover.specs.Slots.{posts, takes, part};
 
 use mv_attach::{Work, config_of_blocks, run_tasks};
-use mv_io::NoMemory;
-use mv_machine::{History, ValidConfig};
-use mv_wait::{Station, Task};
+use mv_wait::{History, NoMemory, Station, Task, ValidConfig};
 use std::alloc::Global;
 use std::sync::Wait;
 use std::thread::Threads;

@@ -5,7 +5,7 @@
 mod handover;
 
 pub use handover::{HandedOver, hand_over};
-use mv_machine::replay;
+use mv_wait::replay;
 use std::io::{self, Print};
 
 // The items that are handed over.

@@ -3,18 +3,12 @@ use Rattle.std.proofs.Common.{◌≡◌, ℕ, zero, suc, ◌+◌, ◌<◌, ◌�
 use Rattle.std.proofs.Common.{◌∙◌, subst, arith, if◌then◌else◌}
 use Rattle.std.proofs.lemmas.Bool.{cases_eq, eq-eqb, false≢true}
 use Rattle.std.proofs.lemmas.List.{append-nil}
-use Rattle.mv_latch.specs.declared.operation.LatchOp.TheVariants.{Purge}
-use Rattle.mv_machine.specs.declared.entry.Entry.{Entry}
-use Rattle.mv_machine.specs.declared.entry.Object.{Object}
-use Rattle.mv_machine.specs.declared.entry.Object.TheVariants.{Volume}
-use Rattle.mv_machine.specs.declared.entry.Op.{Op}
-use Rattle.mv_machine.specs.declared.entry.Op.TheVariants as op_on
-use Rattle.mv_machine.specs.declared.entry.VolumeOp.TheVariants.{Write}
-use Rattle.mv_machine.specs.Legal.{Legal, of}
-use Rattle.mv_machine.specs.Setup.{Setup}
-use Rattle.mv_machine.proofs.Objects.{of-append}
-use Rattle.mv_machine.proofs.Places.{of_mine, of_other}
-use Rattle.mv_calls.specs.Sections.{is_write}
+use Rattle.mv_wait.specs.Prelude.latch_op.{Purge}
+use Rattle.mv_wait.specs.Prelude.{Entry, Object, Volume, Op, Legal, of, Setup, is_write}
+use Rattle.mv_wait.specs.Prelude.op_on
+use Rattle.mv_wait.specs.Prelude.volume_op.{Write}
+use Rattle.mv_wait.proofs.Objects.{of-append}
+use Rattle.mv_wait.proofs.Places.{of_mine, of_other}
 use Rattle.mv_guarded.specs.Guarded.{Keeps, IsGuarding, GuardsVolume, value, value_with}
 use Rattle.mv_guarded.proofs.Reading.{value_read}
 use Rattle.mv_guarded.proofs.Rules.{keeps_weaker, caller_exists, entry_keeps}

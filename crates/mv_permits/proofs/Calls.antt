@@ -1,17 +1,10 @@
 -- What a call leaves of its task. Used by the functions that make one call.
 use Rattle.std.proofs.Common.{◌≡◌, ℕ, zero, suc, ◌+◌, ◌≤◌, ◌<◌, [], ◌∷◌, Result, refl, sym, ap, ◌∙◌, subst, arith, le_refl, false, not}
-use Rattle.mv_latch.specs.declared.request.LatchForm.TheVariants.{Waiting}
-use Rattle.mv_latch.specs.declared.request.Mode.TheVariants.{Exclusive}
-use Rattle.mv_machine.specs.declared.entry.Object.TheVariants.{Volume}
-use Rattle.mv_machine.specs.Reach.{release_cost}
-use Rattle.mv_machine.specs.Setup.{Setup, owner_of}
-use Rattle.mv_board.specs.Faces.{BoardFace, CallerFace}
-use Rattle.mv_calls.specs.Keeping.{kept_of}
-use Rattle.mv_calls.specs.LatchCalls.{Requested, obtain, release_latch}
-use Rattle.mv_calls.specs.Program.{Call}
-use Rattle.mv_calls.specs.Refusal.{Refusal}
-use Rattle.mv_calls.specs.Waits.{read_volume, write_volume}
-use Rattle.mv_wait.specs.Run.{IsServed}
+use Rattle.mv_wait.specs.Prelude.latch_form.{Waiting}
+use Rattle.mv_wait.specs.Prelude.mode.{Exclusive}
+use Rattle.mv_wait.specs.Prelude.{Volume, release_cost, Setup, owner_of, BoardFace, CallerFace, kept_of, obtain, release_latch, Call}
+use Rattle.mv_wait.specs.Prelude.{Refusal, read_volume, write_volume, IsServed}
+use Rattle.mv_wait.specs.LatchCalls.{Requested}
 use Rattle.mv_wait.proofs.Compose.{still_served}
 use Rattle.mv_attach.proofs.Says.{always_write}
 use Rattle.mv_ordered.specs.Held.{held}

@@ -1,13 +1,10 @@
 -- Whether a task has a permit, with more entries in its log; and entries that write nothing and purge no requestor. Used by the functions
 -- that make one call, and by share.
 use Rattle.std.proofs.Common.{◌≡◌, ℕ, ◌+◌, Bool, true, false, arith, List, [], ◌∷◌, ◌++◌, refl, sym, ap, ◌∙◌}
-use Rattle.mv_latch.specs.declared.operation.LatchOp.TheVariants.{Purge}
-use Rattle.mv_machine.specs.declared.entry.Entry.{Entry}
-use Rattle.mv_machine.specs.declared.entry.Object.{Object}
-use Rattle.mv_machine.specs.declared.entry.Object.TheVariants.{Volume}
-use Rattle.mv_machine.specs.declared.entry.Op.{Op}
-use Rattle.mv_machine.specs.declared.entry.Op.TheVariants as op_on
-use Rattle.mv_machine.specs.declared.entry.VolumeOp.TheVariants.{Write}
+use Rattle.mv_wait.specs.Prelude.latch_op.{Purge}
+use Rattle.mv_wait.specs.Prelude.{Entry, Object, Volume, Op}
+use Rattle.mv_wait.specs.Prelude.op_on
+use Rattle.mv_wait.specs.Prelude.volume_op.{Write}
 use Rattle.mv_guarded.proofs.Quiet.{IsCalm, AreCalm}
 use Rattle.mv_permits.specs.Permits.{permit_with, permit_from, has_permit, given_with, given_from, given_back, one, IsAllowed}
 

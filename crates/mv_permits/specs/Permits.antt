@@ -1,17 +1,10 @@
 -- What the tasks of a pool keep to, each by its own log, and what follows for all of them.
 use Rattle.std.specs.Prelude.{◌≡◌, ℕ, ◌+◌, ◌<◌, ◌≤◌, Bool, true, false, not, List, [], ◌∷◌, ◌++◌, get_or}
-use Rattle.mv_latch.specs.declared.operation.LatchOp.TheVariants.{Purge}
-use Rattle.mv_latch.specs.declared.request.Mode.TheVariants.{Exclusive}
-use Rattle.mv_machine.specs.declared.entry.Entry.{Entry}
-use Rattle.mv_machine.specs.declared.entry.Object.{Object}
-use Rattle.mv_machine.specs.declared.entry.Object.TheVariants.{Volume}
-use Rattle.mv_machine.specs.declared.entry.Op.{Op}
-use Rattle.mv_machine.specs.declared.entry.Op.TheVariants as op_on
-use Rattle.mv_machine.specs.declared.entry.VolumeOp.TheVariants.{Write}
-use Rattle.mv_machine.specs.Legal.{of}
-use Rattle.mv_machine.specs.Setup.{Setup}
-use Rattle.mv_board.specs.Faces.{BoardFace, CallerFace, IsOf}
-use Rattle.mv_calls.specs.Rest.{IsAtRest}
+use Rattle.mv_wait.specs.Prelude.latch_op.{Purge}
+use Rattle.mv_wait.specs.Prelude.mode.{Exclusive}
+use Rattle.mv_wait.specs.Prelude.{Entry, Object, Volume, Op, of, Setup, BoardFace, CallerFace, IsOf, IsAtRest}
+use Rattle.mv_wait.specs.Prelude.op_on
+use Rattle.mv_wait.specs.Prelude.volume_op.{Write}
 use Rattle.mv_ordered.specs.Held.{held}
 use Rattle.mv_ordered.specs.LatchOrder.{HasLockDiscipline}
 use Rattle.mv_guarded.specs.Guarded.{HoldsLatch, Keeps, HasRead, value}

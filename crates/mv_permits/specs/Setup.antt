@@ -1,6 +1,6 @@
 -- The configuration of a pool of permits.
 use Rattle.std.specs.Prelude.{ℕ, ◌+◌, ◌*◌, [], ◌∷◌}
-use Rattle.mv_machine.specs.Setup.{Setup}
+use Rattle.mv_wait.specs.Prelude.{Setup}
 
 -- how many workers there are: callers 0 to 2
 abbrev pub workers : ℕ

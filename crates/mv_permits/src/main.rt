@@ -3,7 +3,7 @@
 
 mod permits;
 
-use mv_machine::replay;
+use mv_wait::replay;
 pub use permits::{Shared, share};
 use std::io::{self, Print};
 

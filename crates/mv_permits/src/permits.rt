@@ -2,9 +2,8 @@
 //! and mv_ordered.
 
 ghost use Rattle.std.specs.Prelude.{◌≡◌, ◌<◌, ◌≤◌, ◌+◌, ◌*◌, ◌∷◌, ◌++◌, [], true, false, not, IfOk, IfSome, MatchOption, All};
-ghost use Rattle.mv_machine.specs.Legal.{Legal};
-ghost use Rattle.mv_machine.specs.Limits.{highest_place};
-ghost use Rattle.mv_latch.specs.declared.request.Mode.TheVariants.{Exclusive};
+ghost use Rattle.mv_wait.specs.Prelude.{Legal, highest_place};
+ghost use Rattle.mv_wait.specs.Prelude.mode.{Exclusive};
 ghost use Rattle.mv_ordered.specs.Held.{held, without};
 ghost use Rattle.mv_ordered.specs.WaitChain.{HasNoLatchDeadlock};
 ghost use Rattle.mv_guarded.specs.Guarded.{HoldsLatch, AllReleased};
@@ -12,11 +11,8 @@ ghost use Rattle.mv_permits.specs.Setup.{permits, tries_limit, pool_setup};
 ghost use Rattle.mv_permits.specs.Permits.{IsPool, IsPooled, HasDone, IsBounded, IsCounted, HaveWorked, has_permit, given_back, one};
 
 use mv_attach::{Work, run_tasks};
-use mv_io::NoMemory;
-use mv_latch::{LatchForm, Mode};
-use mv_latchset::{LatchToken, Obtained, obtain, release_latch};
-use mv_machine::{Config, History, ValidConfig};
-use mv_wait::{Station, Task, WaitSlot};
+use mv_latchset::{LatchForm, LatchToken, Mode, Obtained, obtain, release_latch};
+use mv_wait::{Config, History, NoMemory, Station, Task, ValidConfig, WaitSlot};
 use std::alloc::Global;
 use std::sync::Wait;
 use std::thread::Threads;

@@ -1,17 +1,11 @@
 -- What a call leaves of its task. Used by the functions that make calls.
 use Rattle.mv_attach.proofs.Always.{Grown}
 use Rattle.mv_attach.proofs.Says.{always_write}
-use Rattle.mv_board.specs.Faces.{BoardFace, CallerFace}
-use Rattle.mv_calls.specs.Keeping.{kept_of}
-use Rattle.mv_calls.specs.Program.{Call}
-use Rattle.mv_calls.specs.Waits.{write_volume}
+use Rattle.mv_wait.specs.Prelude.{BoardFace, CallerFace, kept_of, Call, write_volume, release_cost, Setup, Volume, IsServed}
 use Rattle.mv_guarded.proofs.Careful.{careful_event, careful_while}
 use Rattle.mv_guarded.proofs.Holding.{write_held, wrote_one}
 use Rattle.mv_guarded.specs.Guarded.{HasRead, HoldsLatch, IsCareful}
-use Rattle.mv_latch.specs.declared.request.Mode.TheVariants.{Exclusive}
-use Rattle.mv_machine.specs.Reach.{release_cost}
-use Rattle.mv_machine.specs.Setup.{Setup}
-use Rattle.mv_machine.specs.declared.entry.Object.TheVariants.{Volume}
+use Rattle.mv_wait.specs.Prelude.mode.{Exclusive}
 use Rattle.mv_ordered.proofs.Calls.{IsPlain}
 use Rattle.mv_ordered.specs.Held.{held}
 use Rattle.mv_ordered.specs.LatchOrder.{HasLockDiscipline}
@@ -19,7 +13,6 @@ use Rattle.mv_queue.proofs.Logs.{IsStill, count_moves, even_counted, still_in, s
 use Rattle.mv_queue.specs.Queue.{Did, IsAllowed, IsEven, IsReady, OwesPut, OwesTake, came_out, went_in}
 use Rattle.mv_queue.specs.Setup.{put_count, queue_setup, room, taken_count}
 use Rattle.mv_wait.proofs.Compose.{served_left}
-use Rattle.mv_wait.specs.Run.{IsServed}
 use Rattle.std.proofs.Common.{List, [], ap, append_assoc, arith, inr, le_refl, refl, subst, sym, ℕ, ◌++◌, ◌+◌, ◌∙◌, ◌≡◌, ◌≤◌, ◌⊎◌}
 
 -- ---- the configuration

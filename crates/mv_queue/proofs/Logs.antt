@@ -1,13 +1,9 @@
 -- What one more entry tells of a log, or of a history: which item it puts in or takes out, and what it counts.
 use Rattle.mv_guarded.proofs.Gathered.{gathered_more, nothing_gathered, numbers}
-use Rattle.mv_latch.specs.declared.operation.LatchOp.TheVariants.{Purge}
-use Rattle.mv_machine.specs.declared.entry.Entry.{Entry}
-use Rattle.mv_machine.specs.declared.entry.Object.{Object}
-use Rattle.mv_machine.specs.declared.entry.Object.TheVariants.{Ecb, Element, Latches, Volume}
-use Rattle.mv_machine.specs.declared.entry.Op.{Op}
-use Rattle.mv_machine.specs.declared.entry.Reply.{Reply}
-use Rattle.mv_machine.specs.declared.entry.VolumeOp.TheVariants.{Read, Write}
-use Rattle.mv_machine.specs.declared.entry.VolumeReply.TheVariants.{Value}
+use Rattle.mv_wait.specs.Prelude.latch_op.{Purge}
+use Rattle.mv_wait.specs.Prelude.{Entry, Object, Ecb, Element, Latches, Volume, Op, Reply}
+use Rattle.mv_wait.specs.Prelude.volume_op.{Read, Write}
+use Rattle.mv_wait.specs.Prelude.volume_reply.{Value}
 use Rattle.mv_queue.specs.Queue.{IsAllowed, IsEven, OwesPut, OwesTake, came_out, count_by, counted, put_by, taken_by, went_in}
 use Rattle.mv_queue.specs.Setup.{put_count, room, taken_count}
 use Rattle.std.proofs.Common.{List, None, Option, Some, [], ap, arith, if◌then◌else◌, inl, inr, length, refl, subst, sym, ℕ, ◌++◌, ◌+◌, ◌<◌}
@@ -15,8 +11,8 @@ use Rattle.std.proofs.Common.{◌∙◌, ◌∷◌, ◌≡◌, ◌≤◌, ◌⊎
 use Rattle.std.proofs.lemmas.Bool.{le-ltb, lt-ltb, ne_eqb}
 use Rattle.std.proofs.lemmas.List.{append-nil, length-append}
 use Rattle.std.specs.List.{AllByRecursion, filter_map}
-use Rattle.mv_machine.specs.declared.entry.Op.TheVariants as op_on
-use Rattle.mv_machine.specs.declared.entry.Reply.TheVariants as reply_of
+use Rattle.mv_wait.specs.Prelude.op_on
+use Rattle.mv_wait.specs.Prelude.reply_of
 
 -- ---- what an operation with its reply tells
 

@@ -1,6 +1,6 @@
 -- At each moment of a history what came out is what went in, in order, and the rest is in the slots. By the invariant that each section of the
 -- latch restores. Used by pass.
-use Rattle.mv_calls.specs.Sections.{is_write}
+use Rattle.mv_wait.specs.Prelude.{is_write, Legal, of, Setup, Entry, Object, Volume, Op, Reply}
 use Rattle.mv_guarded.proofs.Gathered.{numbers}
 use Rattle.mv_guarded.proofs.Holding.{still_holds}
 use Rattle.mv_guarded.proofs.LockInvariant.{IsKept, IsStep, kept_at_each_moment}
@@ -8,17 +8,10 @@ use Rattle.mv_guarded.proofs.Reading.{value_read}
 use Rattle.mv_guarded.proofs.Rules.{keeps_weaker}
 use Rattle.mv_guarded.proofs.Volumes.{read_replies, value_kept, value_written}
 use Rattle.mv_guarded.specs.Guarded.{GuardsVolume, HasRead, HoldsLatch, IsGuarding, Keeps, value}
-use Rattle.mv_latch.specs.declared.operation.LatchOp.TheVariants.{Purge}
-use Rattle.mv_latch.specs.declared.request.Mode.TheVariants.{Exclusive}
-use Rattle.mv_machine.proofs.EntryRuns.{entry_of}
-use Rattle.mv_machine.specs.Legal.{Legal, of}
-use Rattle.mv_machine.specs.Setup.{Setup}
-use Rattle.mv_machine.specs.declared.entry.Entry.{Entry}
-use Rattle.mv_machine.specs.declared.entry.Object.{Object}
-use Rattle.mv_machine.specs.declared.entry.Object.TheVariants.{Volume}
-use Rattle.mv_machine.specs.declared.entry.Op.{Op}
-use Rattle.mv_machine.specs.declared.entry.Reply.{Reply}
-use Rattle.mv_machine.specs.declared.entry.VolumeOp.TheVariants.{Read, Write}
+use Rattle.mv_wait.specs.Prelude.latch_op.{Purge}
+use Rattle.mv_wait.specs.Prelude.mode.{Exclusive}
+use Rattle.mv_wait.proofs.EntryRuns.{entry_of}
+use Rattle.mv_wait.specs.Prelude.volume_op.{Read, Write}
 use Rattle.mv_queue.proofs.Logs.{Tally, Tells, even_counted, even_still, tally, tells_nothing, tells_put, tells_puts, tells_taken}
 use Rattle.mv_queue.proofs.Logs.{tells_takes}
 use Rattle.mv_queue.specs.Queue.{HasSeen, IsAllowed, IsCount, IsEven, IsPut, IsQueue, IsTake, came_out, counted, slot, went_in}
@@ -30,7 +23,7 @@ use Rattle.std.proofs.Math.Nat.{eq-or-lt_of_le}
 use Rattle.std.proofs.Math.Seq.{get_or-append_seam}
 use Rattle.std.proofs.lemmas.Bool.{false≢true}
 use Rattle.std.proofs.lemmas.List.{append-nil, length-append}
-use Rattle.mv_machine.specs.declared.entry.Op.TheVariants as op_on
+use Rattle.mv_wait.specs.Prelude.op_on
 
 -- ---- one log
 

@@ -2,19 +2,13 @@
 use Rattle.std.specs.Prelude.{◌≡◌, ℕ, ◌+◌, ◌%◌, ◌==◌, ◌<◌, ◌≤◌, nat_lt, List, [], ◌∷◌, ◌++◌, ◌⊎◌, length, Option, Some, None}
 use Rattle.std.specs.Prelude.{if◌then◌else◌}
 use Rattle.std.specs.List.{filter_map}
-use Rattle.mv_latch.specs.declared.operation.LatchOp.TheVariants.{Purge}
-use Rattle.mv_latch.specs.declared.request.Mode.TheVariants.{Exclusive}
-use Rattle.mv_machine.specs.declared.entry.Entry.{Entry}
-use Rattle.mv_machine.specs.declared.entry.Object.{Object}
-use Rattle.mv_machine.specs.declared.entry.Object.TheVariants.{Volume}
-use Rattle.mv_machine.specs.declared.entry.Op.{Op}
-use Rattle.mv_machine.specs.declared.entry.Op.TheVariants as op_on
-use Rattle.mv_machine.specs.declared.entry.Reply.{Reply}
-use Rattle.mv_machine.specs.declared.entry.Reply.TheVariants as reply_of
-use Rattle.mv_machine.specs.declared.entry.VolumeOp.TheVariants.{Read, Write}
-use Rattle.mv_machine.specs.declared.entry.VolumeReply.TheVariants.{Value}
-use Rattle.mv_machine.specs.Legal.{of}
-use Rattle.mv_board.specs.Faces.{BoardFace, CallerFace}
+use Rattle.mv_wait.specs.Prelude.latch_op.{Purge}
+use Rattle.mv_wait.specs.Prelude.mode.{Exclusive}
+use Rattle.mv_wait.specs.Prelude.{Entry, Object, Volume, Op, Reply, of, BoardFace, CallerFace}
+use Rattle.mv_wait.specs.Prelude.op_on
+use Rattle.mv_wait.specs.Prelude.reply_of
+use Rattle.mv_wait.specs.Prelude.volume_op.{Read, Write}
+use Rattle.mv_wait.specs.Prelude.volume_reply.{Value}
 use Rattle.mv_latchset.specs.declared.token.LatchToken.{LatchToken}
 use Rattle.mv_ordered.specs.Held.{held}
 use Rattle.mv_ordered.specs.LatchOrder.{HasLockDiscipline}

@@ -1,6 +1,6 @@
 -- The configuration of a bounded queue.
 use Rattle.std.specs.Prelude.{ℕ, ◌*◌, [], ◌∷◌}
-use Rattle.mv_machine.specs.Setup.{Setup}
+use Rattle.mv_wait.specs.Prelude.{Setup}
 
 -- how many items may be in the queue
 abbrev pub room : ℕ

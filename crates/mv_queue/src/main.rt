@@ -3,7 +3,7 @@
 
 mod queue;
 
-use mv_machine::replay;
+use mv_wait::replay;
 pub use queue::{Passed, pass};
 use std::io::{self, Print};
 

@@ -3,9 +3,8 @@
 ghost use Rattle.std.specs.Prelude.{◌≡◌, ℕ, ◌<◌, ◌≤◌, ◌+◌, ◌*◌, ◌^◌, ◌++◌, ◌∷◌, [], length, slice_index_or, vec_capacity, IfOk};
 ghost use Rattle.std.specs.Prelude.{MatchOption, All, if◌then◌else◌};
 ghost use Rattle.std.specs.List.{AllByRecursion};
-ghost use Rattle.mv_machine.specs.Legal.{Legal, of};
-ghost use Rattle.mv_machine.specs.Limits.{highest_place};
-ghost use Rattle.mv_latch.specs.declared.request.Mode.TheVariants.{Exclusive};
+ghost use Rattle.mv_wait.specs.Prelude.{Legal, of, highest_place};
+ghost use Rattle.mv_wait.specs.Prelude.mode.{Exclusive};
 ghost use Rattle.mv_ordered.specs.Held.{held};
 ghost use Rattle.mv_ordered.specs.WaitChain.{HasNoLatchDeadlock};
 ghost use Rattle.mv_attach.specs.Rooms.{HasRoom};
@@ -14,11 +13,8 @@ ghost use Rattle.mv_queue.specs.Setup.{room, tries_limit, queue_setup};
 ghost use Rattle.mv_queue.specs.Queue.{IsReady, Did, HasEntered, HasSeen, IsOpen, HasDone, IsQueue, AreFirst, AreTheirs, went_in, came_out};
 
 use mv_attach::{Work, run_tasks};
-use mv_io::NoMemory;
-use mv_latch::{LatchForm, Mode};
-use mv_latchset::{LatchToken, Obtained, obtain, release_latch};
-use mv_machine::{Config, History, ValidConfig};
-use mv_wait::{Station, Task};
+use mv_latchset::{LatchForm, LatchToken, Mode, Obtained, obtain, release_latch};
+use mv_wait::{Config, History, NoMemory, Station, Task, ValidConfig};
 use std::alloc::Global;
 use std::sync::Wait;
 use std::thread::Threads;

@@ -1,14 +1,11 @@
 -- One write more. Used by restore.
 use Rattle.std.proofs.Common.{◌≡◌, ℕ, suc, ◌+◌, ◌≤◌, ◌<◌, List, [], ◌∷◌, ◌++◌, length, get_or, take, refl, sym, ap, ◌∙◌, subst, arith, append_assoc}
 use Rattle.std.proofs.lemmas.List.{length-append, length-take-le, take_more}
-use Rattle.mv_machine.specs.declared.entry.Entry.{Entry}
-use Rattle.mv_machine.specs.declared.entry.Object.TheVariants.{Volume}
-use Rattle.mv_machine.specs.declared.entry.Op.TheVariants as op_on
-use Rattle.mv_machine.specs.declared.entry.VolumeOp.TheVariants.{Write}
-use Rattle.mv_board.specs.Faces.{BoardFace, CallerFace}
-use Rattle.mv_calls.specs.Program.{on_volume}
-use Rattle.mv_calls.specs.Waits.{write_volume, stored}
-use Rattle.mv_wait.specs.Run.{IsServed}
+use Rattle.mv_wait.specs.Prelude.{Entry, Volume, BoardFace, CallerFace, write_volume, IsServed}
+use Rattle.mv_wait.specs.Prelude.op_on
+use Rattle.mv_wait.specs.Prelude.volume_op.{Write}
+use Rattle.mv_wait.specs.Program.{on_volume}
+use Rattle.mv_wait.specs.Waits.{stored}
 use Rattle.mv_wait.proofs.Compose.{still_served, served_left}
 use Rattle.mv_attach.proofs.Once.{served_once}
 use Rattle.mv_rounds.specs.Restored.{AreWrites, HasRestored}

@@ -1,11 +1,8 @@
 -- The numbers that a task has written into the volumes at the beginning of a round.
 use Rattle.std.specs.Prelude.{◌≡◌, ℕ, suc, ◌+◌, ◌≤◌, List, [], ◌∷◌, ◌++◌, length}
-use Rattle.mv_machine.specs.declared.entry.Entry.{Entry}
-use Rattle.mv_machine.specs.declared.entry.Object.TheVariants.{Volume}
-use Rattle.mv_machine.specs.declared.entry.Op.TheVariants as op_on
-use Rattle.mv_machine.specs.declared.entry.VolumeOp.TheVariants.{Write}
-use Rattle.mv_board.specs.Faces.{BoardFace, CallerFace, IsOf}
-use Rattle.mv_calls.specs.Rest.{IsAtRest}
+use Rattle.mv_wait.specs.Prelude.{Entry, Volume, BoardFace, CallerFace, IsOf, IsAtRest}
+use Rattle.mv_wait.specs.Prelude.op_on
+use Rattle.mv_wait.specs.Prelude.volume_op.{Write}
 
 -- these entries write these numbers into the volumes, from this volume on
 abbrev pub AreWrites : ℕ → List ℕ → List Entry → Type 0

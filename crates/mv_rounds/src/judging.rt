@@ -1,11 +1,9 @@
 //! The judgement of a round's history.
 
 ghost use Rattle.std.specs.Prelude.{◌≡◌, ◌≤◌, All, IfOk};
-ghost use Rattle.mv_machine.specs.Legal.{Legal};
-ghost use Rattle.mv_machine.specs.Limits.{highest_place};
+ghost use Rattle.mv_wait.specs.Prelude.{Legal, highest_place};
 
-use mv_io::NoMemory;
-use mv_machine::{History, Listed, ReplayRefusal, replay};
+use mv_wait::{History, Listed, NoMemory, ReplayRefusal, replay};
 use std::alloc::Global;
 
 /// Judges the history of a round, of which no entry has been read, and returns it as a list.

@@ -2,7 +2,7 @@
 
 ghost use Rattle.std.specs.Prelude.{◌≡◌, ◌<◌, ℕ, true, false, OnOk};
 
-use mv_io::NoMemory;
+use mv_wait::NoMemory;
 use std::alloc::Global;
 use std::sync::Wait;
 use std::thread::Threads;

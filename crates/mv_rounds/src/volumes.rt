@@ -1,7 +1,7 @@
 //! The numbers in the volumes, which a round leaves to the next one. Clauses cite `specs/Restored.antt`.
 
 ghost use Rattle.std.specs.Prelude.{◌≤◌, length};
-ghost use Rattle.mv_wait.specs.Run.{MayCall};
+ghost use Rattle.mv_wait.specs.Prelude.{MayCall};
 ghost use Rattle.mv_rounds.specs.Restored.{HasRestored};
 
 use mv_wait::{Station, Task};

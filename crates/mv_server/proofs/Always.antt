@@ -1,19 +1,9 @@
 -- The calls of the pool's tasks make right entries, and leave their task ready.
 use Rattle.std.proofs.Common.{◌≡◌, ℕ, ◌+◌, ◌≤◌, ◌<◌, List, length, Result, sym, ap, ◌∙◌, subst, arith}
-use Rattle.mv_element.specs.declared.element.Token.{Token}
-use Rattle.mv_machine.specs.declared.entry.Entry.{Entry}
-use Rattle.mv_machine.specs.Reach.{reach}
-use Rattle.mv_machine.specs.Setup.{Setup}
-use Rattle.mv_machine.proofs.Lists.{all_append}
-use Rattle.mv_board.specs.Faces.{BoardFace, CallerFace}
-use Rattle.mv_calls.specs.Keeping.{kept_of}
-use Rattle.mv_calls.specs.Pauses.{Gift, Reached, pause, release}
-use Rattle.mv_calls.specs.declared.outcomes.PostAnswer.{PostAnswer}
-use Rattle.mv_calls.specs.Posts.{post}
-use Rattle.mv_calls.specs.Program.{Call}
-use Rattle.mv_calls.specs.Refusal.{Refusal}
-use Rattle.mv_calls.specs.Waits.{clear}
-use Rattle.mv_wait.specs.Run.{IsServed}
+use Rattle.mv_wait.specs.Prelude.{Token, Entry, reach, Setup, BoardFace, CallerFace, kept_of, pause, release, PostAnswer, post, Call}
+use Rattle.mv_wait.specs.Prelude.{Refusal, clear, IsServed}
+use Rattle.mv_wait.proofs.Lists.{all_append}
+use Rattle.mv_wait.specs.Pauses.{Gift, Reached}
 use Rattle.mv_wait.proofs.Compose.{served_left}
 use Rattle.mv_attach.proofs.Always.{Always, served_grown}
 use Rattle.mv_attach.proofs.Says.{always_clear, always_post, always_pause, always_release}

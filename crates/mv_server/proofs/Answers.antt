@@ -1,12 +1,9 @@
 -- In a history of right entries a block of an answer was found complete with nothing but that answer, which a worker posted.
 use Rattle.std.proofs.Common.{◌≡◌, ℕ, ◌<◌, ◌≤◌, List, subst}
-use Rattle.mv_ecb.specs.declared.operation.EcbOp.TheVariants.{Post}
-use Rattle.mv_machine.specs.declared.entry.Entry.{Entry}
-use Rattle.mv_machine.specs.declared.entry.Object.TheVariants.{Ecb}
-use Rattle.mv_machine.specs.declared.entry.Op.TheVariants as op_on
-use Rattle.mv_machine.specs.Legal.{Legal, of}
-use Rattle.mv_machine.specs.Setup.{Setup}
-use Rattle.mv_machine.proofs.Lists.{all_at}
+use Rattle.mv_wait.specs.Prelude.ecb_op.{Post}
+use Rattle.mv_wait.specs.Prelude.{Entry, Ecb, Legal, of, Setup}
+use Rattle.mv_wait.specs.Prelude.op_on
+use Rattle.mv_wait.proofs.Lists.{all_at}
 use Rattle.mv_attach.proofs.Entries.{all_entries, found_was_posted}
 use Rattle.mv_attach.specs.Entries.{Finds, IsPosted}
 use Rattle.mv_server.specs.Pool.{workers, answer_at}

@@ -7,10 +7,7 @@ use Rattle.std.proofs.Math.Nat.{eq-or-lt_of_le}
 use Rattle.std.proofs.Math.Seq.{get_or-append_seam}
 use Rattle.std.specs.List.{AllByRecursion}
 use Rattle.mv_attach.proofs.Back.{log_in, last_room, no_task}
-use Rattle.mv_board.specs.Faces.{BoardFace, CallerFace, AreInOrder, IsIn}
-use Rattle.mv_machine.specs.declared.entry.Entry.{Entry}
-use Rattle.mv_machine.specs.Legal.{Legal, of}
-use Rattle.mv_machine.specs.Setup.{Setup}
+use Rattle.mv_wait.specs.Prelude.{BoardFace, CallerFace, AreInOrder, IsIn, Entry, Legal, of, Setup}
 use Rattle.mv_attach.specs.Entries.{Finds}
 use Rattle.mv_server.specs.Pool.{workers, pool_setup, days_in, answer_at}
 use Rattle.mv_server.specs.Right.{AreRight, HasDone, IsWorkersPost}

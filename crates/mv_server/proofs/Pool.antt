@@ -4,10 +4,9 @@ use Rattle.std.specs.List.{AllByRecursion}
 use Rattle.std.proofs.lemmas.List.{length-replicate}
 use Rattle.std.proofs.lemmas.List.Folds.{sum_by-replicate}
 use Rattle.std.proofs.lemmas.List.Sums.{sum_by_push}
-use Rattle.mv_machine.proofs.Chains.{all_copies}
-use Rattle.mv_machine.specs.Limits.{events_limit}
-use Rattle.mv_machine.specs.Reach.{reach, reach_within}
-use Rattle.mv_machine.specs.Setup.{Setup}
+use Rattle.mv_wait.proofs.Chains.{all_copies}
+use Rattle.mv_wait.specs.Prelude.{events_limit, reach, Setup}
+use Rattle.mv_wait.specs.Reach.{reach_within}
 use Rattle.mv_server.specs.Pool.{workers, requests_limit, worker_events, server_events, pool_setup, days_in, answer_at}
 
 pub block_exists : (c : Setup) (n e : ℕ) → c ≡ pool_setup n → e < workers + n → e < length c.owners

@@ -2,33 +2,22 @@
 use Rattle.std.proofs.Common.{◌≡◌, ℕ, zero, suc, ◌*◌, ◌≤◌, true, false, not, List, [], ◌∷◌, length, Some, Ok, Result, refl}
 use Rattle.std.proofs.Common.{sym, ap, ◌∙◌, subst, arith}
 use Rattle.std.proofs.lemmas.Bool.{eq-eqb}
-use Rattle.mv_ecb.specs.declared.operation.EcbOp.TheVariants.{Post}
-use Rattle.mv_element.specs.declared.element.Token.{Token}
-use Rattle.mv_element.specs.declared.operation.ElementOp.{ElementOp}
-use Rattle.mv_element.specs.declared.operation.ElementOp.TheVariants as element_op
-use Rattle.mv_element.specs.declared.operation.ElementReply.TheVariants as element_reply
-use Rattle.mv_machine.specs.declared.entry.Entry.{Entry}
-use Rattle.mv_machine.specs.declared.entry.Object.{Object}
-use Rattle.mv_machine.specs.declared.entry.Object.TheVariants.{Ecb, Element}
-use Rattle.mv_machine.specs.declared.entry.Op.{Op}
-use Rattle.mv_machine.specs.declared.entry.Op.TheVariants as op_on
-use Rattle.mv_machine.specs.declared.entry.Reply.{Reply}
-use Rattle.mv_machine.specs.declared.entry.Reply.TheVariants as reply_of
-use Rattle.mv_machine.specs.Reach.{reach}
-use Rattle.mv_machine.specs.Setup.{Setup, element_owner}
-use Rattle.mv_board.specs.Faces.{CallerFace}
-use Rattle.mv_calls.specs.Keeping.{Kept, kept_after, kept_from, kept_of, nothing_kept, generation_after}
-use Rattle.mv_calls.specs.Pauses.{Gift, gift_of, token_of, allocate, open_lowest, lowest_free, opened, pause, paused, resumed}
-use Rattle.mv_calls.specs.Pauses.{is_others_token}
-use Rattle.mv_calls.specs.declared.outcomes.PostAnswer.{PostAnswer}
-use Rattle.mv_calls.specs.Posts.{post, post_within}
-use Rattle.mv_calls.specs.Program.{Program, Call, Do, Done, Heard, Says, left, asks, heard, entries, on_element, unless_refused}
-use Rattle.mv_calls.specs.Refusal.{Refusal}
-use Rattle.mv_calls.specs.Refusal as refusal
-use Rattle.mv_calls.specs.Waits.{refused_if}
-use Rattle.mv_calls.proofs.Making.{kept_caller, kept_from-append}
+use Rattle.mv_wait.specs.Prelude.ecb_op.{Post}
+use Rattle.mv_wait.specs.Prelude.{Token, ElementOp, Entry, Object, Ecb, Element, Op, Reply, reach, Setup, element_owner, CallerFace, Kept}
+use Rattle.mv_wait.specs.Prelude.{kept_of, gift_of, allocate, lowest_free, pause, is_others_token, PostAnswer, post, Call, Done, Heard}
+use Rattle.mv_wait.specs.Prelude.{Says, left, entries, Refusal, IsServed}
+use Rattle.mv_wait.specs.Prelude.element_op
+use Rattle.mv_wait.specs.Prelude.element_reply
+use Rattle.mv_wait.specs.Prelude.op_on
+use Rattle.mv_wait.specs.Prelude.reply_of
+use Rattle.mv_wait.specs.Keeping.{kept_after, kept_from, nothing_kept, generation_after}
+use Rattle.mv_wait.specs.Pauses.{Gift, token_of, open_lowest, opened, paused, resumed}
+use Rattle.mv_wait.specs.Posts.{post_within}
+use Rattle.mv_wait.specs.Program.{Program, Do, asks, heard, on_element, unless_refused}
+use Rattle.mv_wait.specs.Refusal as refusal
+use Rattle.mv_wait.specs.Waits.{refused_if}
+use Rattle.mv_wait.proofs.Making.{kept_caller, kept_from-append}
 use Rattle.mv_pause.specs.Pausing.{IsCurrent, pause_own}
-use Rattle.mv_wait.specs.Run.{IsServed}
 use Rattle.mv_wait.proofs.OneBlock.{asked_is}
 use Rattle.mv_server.specs.Pool.{pool_setup}
 use Rattle.mv_server.proofs.Pool.{reach_one}

@@ -3,18 +3,13 @@ use Rattle.std.proofs.Common.{◌≡◌, ℕ, zero, suc, ◌+◌, ◌<◌, ◌�
 use Rattle.std.proofs.Common.{None, refl, sym, ap, ◌∙◌, arith, if◌then◌else◌}
 use Rattle.std.proofs.lemmas.List.{get_or-replicate}
 use Rattle.std.specs.List.{AllByRecursion, range_with_len}
-use Rattle.mv_ecb.specs.declared.operation.EcbOp.TheVariants.{Clear, Extend}
-use Rattle.mv_machine.specs.declared.entry.Entry.{Entry}
-use Rattle.mv_machine.specs.declared.entry.Object.{Object}
-use Rattle.mv_machine.specs.declared.entry.Object.TheVariants.{Ecb}
-use Rattle.mv_machine.specs.declared.entry.Op.{Op}
-use Rattle.mv_machine.specs.declared.entry.Op.TheVariants as op_on
-use Rattle.mv_machine.specs.declared.entry.Reply.{Reply}
-use Rattle.mv_machine.specs.Setup.{Setup, owner_of}
-use Rattle.mv_calls.specs.Keeping.{Kept, kept_after, kept_from, kept_of, nothing_kept, extended_with}
-use Rattle.mv_calls.specs.Waits.{wait_refusal, is_others_block, AreDistinct}
-use Rattle.mv_calls.proofs.Making.{kept_caller}
-use Rattle.mv_calls.proofs.Unrefused.{IsFree, own_block as not_others, wait_unrefused}
+use Rattle.mv_wait.specs.Prelude.ecb_op.{Clear, Extend}
+use Rattle.mv_wait.specs.Prelude.{Entry, Object, Ecb, Op, Reply, Setup, owner_of, Kept, kept_of, AreDistinct}
+use Rattle.mv_wait.specs.Prelude.op_on
+use Rattle.mv_wait.specs.Keeping.{kept_after, kept_from, nothing_kept, extended_with}
+use Rattle.mv_wait.specs.Waits.{wait_refusal, is_others_block}
+use Rattle.mv_wait.proofs.Making.{kept_caller}
+use Rattle.mv_wait.proofs.Unrefused.{IsFree, own_block as not_others, wait_unrefused}
 use Rattle.mv_server.specs.Pool.{workers, pool_setup}
 use Rattle.mv_server.specs.Right.{IsRight, AreRight}
 

@@ -1,6 +1,6 @@
 -- The configuration of a pool, and the requests to its server.
 use Rattle.std.specs.Prelude.{ℕ, ◌+◌, ◌*◌, ◌-◌, ◌^◌, List, [], ◌∷◌, ◌++◌, replicate, slice_index}
-use Rattle.mv_machine.specs.Setup.{Setup}
+use Rattle.mv_wait.specs.Prelude.{Setup}
 use Rattle.mv_attach.specs.Blocks.{blocks_setup}
 
 -- the number of workers, which are the callers from 0 on; the server is the caller after them

@@ -2,14 +2,9 @@
 -- that answer.
 use Rattle.std.specs.Prelude.{◌≡◌, ℕ, ◌+◌, ◌<◌, ◌≤◌, List, length, slice_index}
 use Rattle.std.specs.List.{AllByRecursion}
-use Rattle.mv_ecb.specs.declared.operation.EcbOp.TheVariants.{Extend, Post}
-use Rattle.mv_machine.specs.declared.entry.Entry.{Entry}
-use Rattle.mv_machine.specs.declared.entry.Object.{Object}
-use Rattle.mv_machine.specs.declared.entry.Object.TheVariants.{Ecb}
-use Rattle.mv_machine.specs.declared.entry.Op.{Op}
-use Rattle.mv_machine.specs.declared.entry.Op.TheVariants as op_on
-use Rattle.mv_board.specs.Faces.{BoardFace, CallerFace, IsOf}
-use Rattle.mv_calls.specs.Rest.{IsAtRest}
+use Rattle.mv_wait.specs.Prelude.ecb_op.{Extend, Post}
+use Rattle.mv_wait.specs.Prelude.{Entry, Object, Ecb, Op, BoardFace, CallerFace, IsOf, IsAtRest}
+use Rattle.mv_wait.specs.Prelude.op_on
 use Rattle.mv_attach.specs.Entries.{Finds, IsPosted}
 use Rattle.mv_server.specs.Pool.{workers, requests_limit, weeks_limit, pool_setup, answer_at}
 

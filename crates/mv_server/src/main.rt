@@ -4,7 +4,7 @@
 mod rounds;
 mod server;
 
-use mv_machine::replay;
+use mv_wait::replay;
 pub use rounds::serve_in_rounds;
 pub use server::{Served, answer_to, serve_all};
 use std::alloc::Global;

@@ -7,8 +7,8 @@ ghost use Rattle.mv_server.specs.Pool.{requests_limit, weeks_limit, days_in};
 ghost use Rattle.mv_server.specs.Rounds.{HasServed};
 
 use crate::server::{Served, serve_all};
-use mv_io::NoMemory;
 use mv_rounds::{Service, judge, run_rounds};
+use mv_wait::NoMemory;
 use std::alloc::Global;
 use std::sync::Wait;
 use std::thread::Threads;

@@ -2,9 +2,7 @@
 
 ghost use Rattle.std.specs.Prelude.{◌≡◌, ◌<◌, ◌≤◌, ◌+◌, ℕ, [], length, map, slice_index, IfOk, All};
 ghost use Rattle.std.specs.List.{AllByRecursion};
-ghost use Rattle.mv_element.specs.Table.{release_limit};
-ghost use Rattle.mv_machine.specs.Legal.{Legal};
-ghost use Rattle.mv_machine.specs.Limits.{highest_place};
+ghost use Rattle.mv_wait.specs.Prelude.{release_limit, Legal, highest_place};
 ghost use Rattle.mv_attach.specs.Entries.{Finds};
 ghost use Rattle.mv_attach.specs.Rooms.{HasRoom};
 ghost use Rattle.mv_server.specs.Pool.{workers, requests_limit, weeks_limit, worker_events, hand_out_events, server_events};
@@ -12,11 +10,8 @@ ghost use Rattle.mv_server.specs.Pool.{pool_setup, days_in};
 ghost use Rattle.mv_server.specs.Right.{IsAsked, CanServe, IsBack, StaysReady, HasDone, IsWorkersPost};
 
 use mv_attach::{Work, config_of_blocks, run_tasks};
-use mv_element::Token;
-use mv_io::NoMemory;
-use mv_machine::{History, ValidConfig};
-use mv_pause::{allocate, pause, release};
-use mv_wait::{Station, Task, WaitSlot};
+use mv_pause::{Token, allocate, pause, release};
+use mv_wait::{History, NoMemory, Station, Task, ValidConfig, WaitSlot};
 use std::alloc::Global;
 use std::sync::Wait;
 use std::thread::Threads;

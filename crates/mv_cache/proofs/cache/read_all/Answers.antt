@@ -1,7 +1,7 @@
 use Rattle.std.proofs.Common.{◌∷◌, [], length, Vec, Global, vec_capacity, sym, ap, ◌∙◌, subst, arith}
 use Rattle.std.proofs.lemmas.List.{length-append}
 use Rattle.std.specs.List.{AllByRecursion}
-use Rattle.mv_machine.proofs.Lists.{all_push}
+use Rattle.mv_wait.proofs.Lists.{all_push}
 use Rattle.mv_cache.specs.declared.cache.Pair.{Pair}
 use Rattle.mv_cache.specs.Whole.{WasRead}
 use Rattle.mv_cache.proofs.Calls.{all_read_later}

@@ -1,7 +1,7 @@
 use Rattle.std.proofs.Common.{◌≡◌, ◌∷◌, ◌++◌, [], Ok, sym, ap, ◌∙◌, subst, append_assoc}
-use Rattle.mv_latch.specs.declared.request.Mode.TheVariants.{Shared}
-use Rattle.mv_latch.specs.declared.operation.LatchOp.TheVariants.{Obtain}
-use Rattle.mv_latch.specs.declared.request.LatchForm.TheVariants.{Waiting}
+use Rattle.mv_wait.specs.Prelude.mode.{Shared}
+use Rattle.mv_wait.specs.Prelude.latch_op.{Obtain}
+use Rattle.mv_wait.specs.Prelude.latch_form.{Waiting}
 use Rattle.mv_latchset.specs.Obtaining.{IsObtainedBy, IsOfLatch}
 use Rattle.mv_ordered.specs.Held.{held}
 use Rattle.mv_guarded.specs.Guarded.{HoldsLatch}

@@ -1,8 +1,8 @@
 use Rattle.std.proofs.Common.{◌≡◌, [], ◌∷◌, Ok, sym, ap, ◌∙◌, subst}
 use Rattle.std.proofs.lemmas.List.Elements.{Contains-get_or}
-use Rattle.mv_latch.specs.declared.request.Mode.TheVariants.{Exclusive}
-use Rattle.mv_latch.specs.declared.operation.LatchOp.TheVariants.{Obtain}
-use Rattle.mv_latch.specs.declared.request.LatchForm.TheVariants.{Waiting}
+use Rattle.mv_wait.specs.Prelude.mode.{Exclusive}
+use Rattle.mv_wait.specs.Prelude.latch_op.{Obtain}
+use Rattle.mv_wait.specs.Prelude.latch_form.{Waiting}
 use Rattle.mv_latchset.specs.Obtaining.{IsObtainedBy, IsOfLatch}
 use Rattle.mv_ordered.specs.Held.{held}
 use Rattle.mv_guarded.proofs.Holding.{HasTaken, takes_only, write_held, release_bares}

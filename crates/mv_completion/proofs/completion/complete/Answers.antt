@@ -1,5 +1,5 @@
 use Rattle.std.proofs.Common.{◌≡◌, length, sym, ap, ◌∙◌, subst, arith}
-use Rattle.mv_machine.specs.Setup.{Setup}
+use Rattle.mv_wait.specs.Prelude.{Setup}
 use Rattle.mv_attach.proofs.Back.{done_in}
 use Rattle.mv_completion.specs.Told.{IsTold, HasDone}
 use Rattle.mv_completion.proofs.Told.{told_code}

@@ -1,11 +1,8 @@
 use Rattle.std.proofs.Common.{[], ◌∷◌, ◌+◌, ◌%◌, ◌^◌, ◌≤◌, Ok, refl, sym, ap, ◌∙◌, subst, le_refl}
-use Rattle.mv_latch.specs.declared.operation.LatchOp.TheVariants.{Obtain}
-use Rattle.mv_latch.specs.declared.request.LatchForm.TheVariants.{Waiting}
-use Rattle.mv_latch.specs.declared.request.Mode.TheVariants.{Exclusive}
-use Rattle.mv_machine.specs.Reach.{release_cost}
-use Rattle.mv_machine.specs.Setup.{Setup}
-use Rattle.mv_calls.specs.Keeping.{kept_of}
-use Rattle.mv_calls.specs.Waits.{write_volume}
+use Rattle.mv_wait.specs.Prelude.latch_op.{Obtain}
+use Rattle.mv_wait.specs.Prelude.latch_form.{Waiting}
+use Rattle.mv_wait.specs.Prelude.mode.{Exclusive}
+use Rattle.mv_wait.specs.Prelude.{release_cost, Setup, kept_of, write_volume}
 use Rattle.mv_latchset.specs.Obtaining.{IsObtainedBy, IsOfLatch}
 use Rattle.mv_attach.proofs.Says.{always_write}
 use Rattle.mv_ordered.specs.Held.{held}

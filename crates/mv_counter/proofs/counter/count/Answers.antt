@@ -1,10 +1,9 @@
 use Rattle.std.proofs.Common.{◌≡◌, [], length, sym, ap, ◌∙◌, subst, arith}
 use Rattle.std.proofs.Math.Nat.{mod-eq_of_lt}
 use Rattle.std.proofs.lemmas.List.{append-nil}
-use Rattle.mv_latch.proofs.Splits.{length_filter}
-use Rattle.mv_machine.specs.Setup.{Setup}
+use Rattle.mv_wait.proofs.Splits.{length_filter}
+use Rattle.mv_wait.specs.Prelude.{Setup, is_write}
 use Rattle.mv_attach.proofs.Back.{done_in}
-use Rattle.mv_calls.specs.Sections.{is_write}
 use Rattle.mv_counter.specs.Counter.{HasDone, IsCounted}
 use Rattle.mv_counter.proofs.Counted.{is_counted}
 use Rattle.mv_counter.proofs.counter.count.Goals.{After-close-closed}

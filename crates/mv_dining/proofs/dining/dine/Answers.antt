@@ -1,6 +1,6 @@
 use Rattle.std.proofs.Common.{◌≡◌, length, sym, ap, ◌∙◌, subst, arith}
-use Rattle.mv_machine.specs.Setup.{Setup}
-use Rattle.mv_machine.proofs.Longer.{entries_fit}
+use Rattle.mv_wait.specs.Prelude.{Setup}
+use Rattle.mv_wait.proofs.Longer.{entries_fit}
 use Rattle.mv_attach.proofs.Back.{done_in}
 use Rattle.mv_ordered.specs.WaitChain.{HasNoLatchDeadlock}
 use Rattle.mv_ordered.proofs.Calls.{each_keeps_discipline}

@@ -1,5 +1,5 @@
 use Rattle.std.proofs.Common.{Ok, subst}
-use Rattle.mv_latch.specs.declared.request.Mode.TheVariants.{Exclusive}
+use Rattle.mv_wait.specs.Prelude.mode.{Exclusive}
 use Rattle.mv_latchset.specs.Obtaining.{IsOfLatch}
 use Rattle.mv_ordered.specs.Held.{held}
 use Rattle.mv_guarded.proofs.Holding.{HasTaken, obtain_takes}

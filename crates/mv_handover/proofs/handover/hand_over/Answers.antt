@@ -1,6 +1,6 @@
 use Rattle.std.proofs.Common.{◌≡◌, ap, ◌∙◌, arith}
-use Rattle.mv_machine.specs.Setup.{Setup}
-use Rattle.mv_machine.proofs.Longer.{entries_fit}
+use Rattle.mv_wait.specs.Prelude.{Setup}
+use Rattle.mv_wait.proofs.Longer.{entries_fit}
 use Rattle.mv_handover.proofs.Order.{Back, both_back, closed_in_order, closed_posted, closed_taken}
 use Rattle.mv_handover.proofs.handover.hand_over.Goals.{After-close-closed}
 use Rattle.mv_handover.proofs.handover.hand_over.Goals as goal

@@ -1,8 +1,5 @@
 use Rattle.std.proofs.Common.{◌≡◌, ◌<◌, ◌≤◌, length, sym, subst}
-use Rattle.mv_calls.specs.Posts.{post}
-use Rattle.mv_machine.specs.Reach.{reach}
-use Rattle.mv_machine.specs.Setup.{Setup}
-use Rattle.mv_wait.specs.Run.{IsServed}
+use Rattle.mv_wait.specs.Prelude.{post, reach, Setup, IsServed}
 use Rattle.mv_handover.proofs.Calls.{put_made, put_ready}
 use Rattle.mv_handover.proofs.handover.put.Goals as goal
 

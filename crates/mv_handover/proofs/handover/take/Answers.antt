@@ -1,5 +1,5 @@
 use Rattle.std.proofs.Common.{◌≡◌, ◌<◌, length, Ok, sym, ◌∙◌, subst}
-use Rattle.mv_machine.specs.Setup.{Setup}
+use Rattle.mv_wait.specs.Prelude.{Setup}
 use Rattle.mv_handover.proofs.Calls.{took_made, took_ready, own_block}
 use Rattle.mv_handover.proofs.handover.take.Goals as goal
 

@@ -1,5 +1,5 @@
 use Rattle.std.proofs.Common.{◌∷◌, [], ◌<◌, ◌+◌, length, sym, ◌∙◌, subst, arith}
-use Rattle.mv_machine.specs.Setup.{Setup}
+use Rattle.mv_wait.specs.Prelude.{Setup}
 use Rattle.mv_guarded.proofs.Quiet.{wait_is_quiet, wait_held, clear_is_quiet, clear_held, no_exit_starts}
 use Rattle.mv_permits.proofs.Calls.{still_pooled, same_permit, same_given, no_exits, own_block}
 use Rattle.mv_permits.proofs.permits.await_go.Goals as goal

@@ -1,6 +1,5 @@
 use Rattle.std.proofs.Common.{◌<◌, ◌≤◌, length, sym, subst, arith, le_refl}
-use Rattle.mv_machine.specs.Reach.{reach}
-use Rattle.mv_machine.specs.Setup.{Setup}
+use Rattle.mv_wait.specs.Prelude.{reach, Setup}
 use Rattle.mv_guarded.proofs.Quiet.{post_is_quiet, post_held}
 use Rattle.mv_permits.proofs.Calls.{still_pooled, same_permit, same_given, no_exits}
 use Rattle.mv_permits.proofs.permits.tell.Goals as goal

@@ -1,17 +1,12 @@
 use Rattle.mv_attach.proofs.Always.{served_grown}
 use Rattle.mv_attach.proofs.Says.{always_clear, always_wait}
-use Rattle.mv_board.specs.Faces.{BoardFace, CallerFace}
-use Rattle.mv_calls.specs.Keeping.{kept_of}
-use Rattle.mv_calls.specs.Refusal.{Refusal}
-use Rattle.mv_calls.specs.Waits.{clear, wait}
+use Rattle.mv_wait.specs.Prelude.{BoardFace, CallerFace, kept_of, Refusal, clear, wait, Setup, owner_of, IsServed}
 use Rattle.mv_guarded.proofs.Quiet.{clear_held, clear_is_quiet, no_exit_starts, wait_held, wait_is_quiet}
-use Rattle.mv_machine.specs.Setup.{Setup, owner_of}
 use Rattle.mv_ordered.specs.Held.{held}
 use Rattle.mv_queue.proofs.Calls.{did_then, no_exits, still_did}
 use Rattle.mv_queue.proofs.Logs.{IsStill}
 use Rattle.mv_queue.specs.Queue.{Did, IsReady}
 use Rattle.mv_queue.specs.Setup.{queue_setup}
-use Rattle.mv_wait.specs.Run.{IsServed}
 use Rattle.std.proofs.Common.{List, Option, Result, [], ap, arith, length, subst, sym, ℕ, ◌+◌, ◌<◌, ◌∙◌, ◌∷◌, ◌≡◌}
 use Rattle.std.proofs.lemmas.List.FromFn.{get_or-range_with_len}
 use Rattle.mv_queue.proofs.queue.await_news.Goals as goal

@@ -1,17 +1,14 @@
 use Rattle.mv_attach.proofs.Always.{served_grown}
 use Rattle.mv_attach.proofs.Says.{always_read}
-use Rattle.mv_board.specs.Faces.{BoardFace, CallerFace}
-use Rattle.mv_calls.specs.Keeping.{kept_of}
-use Rattle.mv_calls.specs.Waits.{read_volume}
+use Rattle.mv_wait.specs.Prelude.{BoardFace, CallerFace, kept_of, read_volume, IsServed}
 use Rattle.mv_guarded.proofs.Holding.{read_held, read_inside, read_past_read}
 use Rattle.mv_guarded.proofs.Quiet.{read_is_quiet}
-use Rattle.mv_latch.specs.declared.request.Mode.TheVariants.{Exclusive}
+use Rattle.mv_wait.specs.Prelude.mode.{Exclusive}
 use Rattle.mv_ordered.specs.Held.{held}
 use Rattle.mv_queue.proofs.Calls.{did_then, still_did}
 use Rattle.mv_queue.proofs.Logs.{IsStill}
 use Rattle.mv_queue.specs.Queue.{Did, IsReady}
 use Rattle.mv_queue.specs.Setup.{put_count, room, taken_count}
-use Rattle.mv_wait.specs.Run.{IsServed}
 use Rattle.std.proofs.Common.{[], arith, subst, ℕ, ◌≡◌, ◌≤◌}
 use Rattle.mv_queue.proofs.queue.look.Goals as goal
 

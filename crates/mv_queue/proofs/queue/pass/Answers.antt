@@ -1,8 +1,6 @@
 use Rattle.std.proofs.Common.{◌≡◌, ◌<◌, ℕ, List, [], ◌∷◌, Vec, Global, length, get_or, sym, ap, ◌∙◌, subst, arith}
-use Rattle.mv_machine.specs.declared.entry.Entry.{Entry}
-use Rattle.mv_machine.specs.Legal.{of}
-use Rattle.mv_machine.specs.Setup.{Setup}
-use Rattle.mv_machine.proofs.Longer.{entries_fit}
+use Rattle.mv_wait.specs.Prelude.{Entry, of, Setup}
+use Rattle.mv_wait.proofs.Longer.{entries_fit}
 use Rattle.mv_attach.proofs.Back.{done_in}
 use Rattle.mv_ordered.specs.WaitChain.{HasNoLatchDeadlock}
 use Rattle.mv_ordered.proofs.Calls.{each_keeps_discipline}

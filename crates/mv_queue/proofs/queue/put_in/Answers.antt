@@ -1,19 +1,15 @@
 use Rattle.mv_wait.proofs.Compose.{served_left}
 use Rattle.mv_attach.proofs.Says.{always_write}
-use Rattle.mv_board.specs.Faces.{BoardFace, CallerFace}
-use Rattle.mv_calls.specs.Keeping.{kept_of}
-use Rattle.mv_calls.specs.Waits.{write_volume}
+use Rattle.mv_wait.specs.Prelude.{BoardFace, CallerFace, kept_of, write_volume, Volume, IsServed}
 use Rattle.mv_guarded.proofs.Careful.{careful_event}
 use Rattle.mv_guarded.proofs.Holding.{read_past_write, write_held, write_inside, wrote_one}
-use Rattle.mv_latch.specs.declared.request.Mode.TheVariants.{Exclusive}
-use Rattle.mv_machine.specs.declared.entry.Object.TheVariants.{Volume}
+use Rattle.mv_wait.specs.Prelude.mode.{Exclusive}
 use Rattle.mv_ordered.proofs.Calls.{IsPlain}
 use Rattle.mv_ordered.specs.Held.{held}
 use Rattle.mv_queue.proofs.Calls.{counts_item}
 use Rattle.mv_queue.proofs.Logs.{Tally, Tells, tally, tells_put}
 use Rattle.mv_queue.specs.Queue.{Did, HasSeen, IsAllowed, IsReady, slot}
 use Rattle.mv_queue.specs.Setup.{put_count, room}
-use Rattle.mv_wait.specs.Run.{IsServed}
 use Rattle.std.proofs.Common.{None, Some, [], arith, inl, refl, subst, sym, ℕ, ◌+◌, ◌<◌, ◌∷◌}
 use Rattle.mv_queue.proofs.queue.put_in.Goals as goal
 

@@ -1,14 +1,10 @@
-use Rattle.mv_board.specs.Faces.{BoardFace, CallerFace}
-use Rattle.mv_calls.specs.LatchCalls.{release_latch}
-use Rattle.mv_calls.specs.Refusal.{Refusal}
+use Rattle.mv_wait.specs.Prelude.{BoardFace, CallerFace, release_latch, Refusal, release_cost, IsServed}
 use Rattle.mv_guarded.proofs.Holding.{release_bares}
 use Rattle.mv_guarded.proofs.Quiet.{release_grown, release_is_quiet}
-use Rattle.mv_machine.specs.Reach.{release_cost}
 use Rattle.mv_ordered.specs.Held.{held}
 use Rattle.mv_queue.proofs.Calls.{cheap, did_more, still_did}
 use Rattle.mv_queue.proofs.Logs.{IsStill}
 use Rattle.mv_queue.specs.Queue.{Did, IsReady}
-use Rattle.mv_wait.specs.Run.{IsServed}
 use Rattle.std.proofs.Common.{List, Result, [], ap, false, sym, ℕ, ◌∙◌, ◌∷◌, ◌≡◌}
 use Rattle.mv_queue.proofs.queue.put_latch.Goals as goal
 

@@ -1,22 +1,18 @@
 use Rattle.mv_attach.proofs.Always.{served_grown}
 use Rattle.mv_attach.proofs.Says.{always_obtain}
-use Rattle.mv_board.specs.Faces.{BoardFace, CallerFace}
-use Rattle.mv_calls.specs.Keeping.{kept_of}
-use Rattle.mv_calls.specs.LatchCalls.{Requested, obtain}
-use Rattle.mv_calls.specs.Refusal.{Refusal}
+use Rattle.mv_wait.specs.Prelude.{BoardFace, CallerFace, kept_of, obtain, Refusal, Setup, IsServed}
+use Rattle.mv_wait.specs.LatchCalls.{Requested}
 use Rattle.mv_guarded.proofs.Holding.{HasTaken, holds_granted, takes_only}
 use Rattle.mv_guarded.proofs.Quiet.{obtain_is_quiet}
 use Rattle.mv_guarded.specs.Guarded.{HoldsLatch}
-use Rattle.mv_latch.specs.declared.operation.LatchOp.TheVariants.{Obtain}
-use Rattle.mv_latch.specs.declared.request.LatchForm.TheVariants.{Waiting}
-use Rattle.mv_latch.specs.declared.request.Mode.TheVariants.{Exclusive}
+use Rattle.mv_wait.specs.Prelude.latch_op.{Obtain}
+use Rattle.mv_wait.specs.Prelude.latch_form.{Waiting}
+use Rattle.mv_wait.specs.Prelude.mode.{Exclusive}
 use Rattle.mv_latchset.specs.Obtaining.{IsObtainedBy, IsOfLatch}
-use Rattle.mv_machine.specs.Setup.{Setup}
 use Rattle.mv_ordered.specs.Held.{held}
 use Rattle.mv_queue.proofs.Calls.{still_did}
 use Rattle.mv_queue.proofs.Logs.{IsStill}
 use Rattle.mv_queue.specs.Queue.{Did, IsReady}
-use Rattle.mv_wait.specs.Run.{IsServed}
 use Rattle.std.proofs.Common.{List, Ok, Result, [], le_refl, subst, sym, ℕ, ◌∷◌, ◌≡◌, ◌≤◌}
 use Rattle.mv_queue.proofs.queue.take_latch.Goals as goal
 

@@ -1,23 +1,19 @@
 use Rattle.mv_wait.proofs.Compose.{served_left}
 use Rattle.mv_attach.proofs.Says.{always_read}
-use Rattle.mv_board.specs.Faces.{BoardFace, CallerFace}
-use Rattle.mv_calls.specs.Keeping.{kept_of}
-use Rattle.mv_calls.specs.Waits.{read_volume, write_volume}
+use Rattle.mv_wait.specs.Prelude.{BoardFace, CallerFace, kept_of, read_volume, write_volume, Volume, IsServed}
 use Rattle.mv_guarded.proofs.Careful.{careful_event}
 use Rattle.mv_guarded.proofs.Holding.{read_held, read_inside, read_one, read_past_read}
-use Rattle.mv_latch.specs.declared.request.Mode.TheVariants.{Exclusive}
-use Rattle.mv_machine.specs.declared.entry.Object.TheVariants.{Volume}
-use Rattle.mv_machine.specs.declared.entry.VolumeOp.TheVariants.{Read}
+use Rattle.mv_wait.specs.Prelude.mode.{Exclusive}
+use Rattle.mv_wait.specs.Prelude.volume_op.{Read}
 use Rattle.mv_ordered.proofs.Calls.{IsPlain}
 use Rattle.mv_ordered.specs.Held.{held}
 use Rattle.mv_queue.proofs.Calls.{counts_item}
 use Rattle.mv_queue.proofs.Logs.{Tally, Tells, tally, tells_taken}
 use Rattle.mv_queue.specs.Queue.{Did, HasSeen, IsAllowed, IsReady, slot}
 use Rattle.mv_queue.specs.Setup.{taken_count}
-use Rattle.mv_wait.specs.Run.{IsServed}
 use Rattle.std.proofs.Common.{None, Some, [], arith, inl, inr, refl, subst, sym, ℕ, ◌+◌, ◌<◌, ◌∷◌, ◌≡◌}
 use Rattle.mv_queue.proofs.queue.take_out.Goals as goal
-use Rattle.mv_machine.specs.declared.entry.Op.TheVariants as op_on
+use Rattle.mv_wait.specs.Prelude.op_on
 
 takes_item : (b : BoardFace) (taken put item : ℕ) (Are : Unit {0} → Type 0) (t u v : CallerFace)
     → HasSeen t.number taken put t.log → taken < put → IsServed 1 (read_volume (slot taken)) (λ a. a ≡ item) t u

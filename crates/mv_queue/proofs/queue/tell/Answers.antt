@@ -1,17 +1,11 @@
 use Rattle.mv_attach.proofs.Always.{served_grown}
 use Rattle.mv_attach.proofs.Says.{always_post}
-use Rattle.mv_board.specs.Faces.{BoardFace, CallerFace}
-use Rattle.mv_calls.specs.Keeping.{kept_of}
-use Rattle.mv_calls.specs.Posts.{post}
-use Rattle.mv_calls.specs.declared.outcomes.PostAnswer.{PostAnswer}
+use Rattle.mv_wait.specs.Prelude.{BoardFace, CallerFace, kept_of, post, PostAnswer, reach, Setup, IsServed}
 use Rattle.mv_guarded.proofs.Quiet.{post_held, post_is_quiet}
-use Rattle.mv_machine.specs.Reach.{reach}
-use Rattle.mv_machine.specs.Setup.{Setup}
 use Rattle.mv_ordered.specs.Held.{held}
 use Rattle.mv_queue.proofs.Calls.{did_more, did_then, no_exits, still_did}
 use Rattle.mv_queue.proofs.Logs.{IsStill}
 use Rattle.mv_queue.specs.Queue.{Did, IsReady}
-use Rattle.mv_wait.specs.Run.{IsServed}
 use Rattle.std.proofs.Common.{[], arith, le_refl, length, subst, sym, ℕ, ◌+◌, ◌<◌, ◌≤◌}
 use Rattle.mv_queue.proofs.queue.tell.Goals as goal
 

@@ -1,6 +1,6 @@
 use Rattle.std.proofs.Common.{◌≤◌, sym, ◌∙◌, subst}
 use Rattle.std.specs.Prelude.{All}
-use Rattle.mv_machine.specs.Limits.{highest_place}
+use Rattle.mv_wait.specs.Prelude.{highest_place}
 use Rattle.mv_rounds.proofs.judging.judge.Goals as goal
 
 pub replay-requires : goal.replay-requires

@@ -1,7 +1,5 @@
 use Rattle.std.proofs.Common.{[], ◌∷◌, length}
-use Rattle.mv_calls.specs.Keeping.{kept_of}
-use Rattle.mv_calls.specs.Program.{entries}
-use Rattle.mv_calls.specs.Waits.{wait}
+use Rattle.mv_wait.specs.Prelude.{kept_of, entries, wait}
 use Rattle.mv_attach.proofs.Entries.{finds_longer, waited_finds}
 use Rattle.mv_attach.proofs.Says.{always_wait}
 use Rattle.mv_server.specs.Right.{IsRight}

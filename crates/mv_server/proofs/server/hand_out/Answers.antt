@@ -1,11 +1,8 @@
 use Rattle.std.proofs.Common.{◌≡◌, ◌+◌, ◌*◌, length, sym, ◌∙◌, subst, arith}
 use Rattle.std.specs.List.{range_with_len}
-use Rattle.mv_ecb.specs.declared.operation.EcbOp.TheVariants.{Arm, Settle}
-use Rattle.mv_machine.specs.declared.entry.Object.TheVariants.{Ecb}
-use Rattle.mv_machine.specs.declared.entry.Op.TheVariants as op_on
-use Rattle.mv_calls.specs.Keeping.{kept_of}
-use Rattle.mv_calls.specs.Waits.{wait}
-use Rattle.mv_wait.specs.Answers.{wait_answer}
+use Rattle.mv_wait.specs.Prelude.ecb_op.{Arm, Settle}
+use Rattle.mv_wait.specs.Prelude.{Ecb, kept_of, wait, wait_answer}
+use Rattle.mv_wait.specs.Prelude.op_on
 use Rattle.mv_attach.proofs.Says.{always_wait}
 use Rattle.mv_server.specs.Pool.{workers, hand_out_events}
 use Rattle.mv_server.specs.Right.{IsRight, StaysReady}

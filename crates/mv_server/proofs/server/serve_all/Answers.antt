@@ -1,6 +1,6 @@
 use Rattle.std.proofs.Common.{◌≡◌, ℕ, ◌+◌, ◌<◌, length, map, get_or, ap, ◌∙◌, arith}
-use Rattle.mv_machine.specs.Setup.{Setup}
-use Rattle.mv_machine.proofs.Longer.{entries_fit}
+use Rattle.mv_wait.specs.Prelude.{Setup}
+use Rattle.mv_wait.proofs.Longer.{entries_fit}
 use Rattle.mv_server.specs.Pool.{workers, days_in}
 use Rattle.mv_server.specs.Right.{IsWorkersPost}
 use Rattle.mv_server.proofs.Closing.{closed_answers}

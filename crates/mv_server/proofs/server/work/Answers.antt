@@ -1,7 +1,5 @@
 use Rattle.std.proofs.Common.{◌≡◌, ◌<◌, ◌+◌, ◌*◌, length, sym, ◌∙◌, subst, arith}
-use Rattle.mv_machine.specs.Setup.{element_count}
-use Rattle.mv_calls.specs.Keeping.{kept_of}
-use Rattle.mv_calls.specs.Pauses.{allocate}
+use Rattle.mv_wait.specs.Prelude.{element_count, kept_of, allocate}
 use Rattle.mv_pause.specs.Answers.{allocate_answer}
 use Rattle.mv_attach.proofs.Says.{always_allocate}
 use Rattle.mv_server.specs.Pool.{workers, worker_events}

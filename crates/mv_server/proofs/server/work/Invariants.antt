@@ -1,5 +1,5 @@
 use Rattle.std.proofs.Common.{◌≤◌, ◌<◌, ◌+◌, ◌*◌}
-use Rattle.mv_machine.specs.Setup.{element_count}
+use Rattle.mv_wait.specs.Prelude.{element_count}
 use Rattle.mv_server.specs.Right.{StaysReady}
 use Rattle.mv_server.proofs.Tokens.{MayPause}
 use Rattle.mv_server.proofs.server.work.Given as goal

@@ -1,6 +1,5 @@
 use Rattle.std.proofs.Common.{[], ◌∷◌, refl, ap, ◌∙◌}
-use Rattle.mv_machine.specs.Setup.{Setup}
-use Rattle.mv_calls.specs.Keeping.{kept_of}
+use Rattle.mv_wait.specs.Prelude.{Setup, kept_of}
 use Rattle.mv_attach.proofs.Always.{served_keeps}
 use Rattle.mv_attach.proofs.Entries.{waited_finds}
 use Rattle.mv_attach.proofs.Says.{always_wait, always_post}

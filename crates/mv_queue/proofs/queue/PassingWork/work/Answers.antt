@@ -1,5 +1,5 @@
 use Rattle.std.proofs.Common.{ℕ, refl, sym, subst}
-use Rattle.mv_board.specs.Faces.{BoardFace, CallerFace, IsFresh}
+use Rattle.mv_wait.specs.Prelude.{BoardFace, CallerFace, IsFresh}
 use Rattle.mv_guarded.proofs.Careful.{careful_fresh}
 use Rattle.mv_queue.specs.Queue.{IsAllowed, IsEven, IsReady, IsOpen}
 use Rattle.mv_queue.proofs.queue.PassingWork.work.Goals as goal
