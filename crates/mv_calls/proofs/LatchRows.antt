@@ -16,7 +16,8 @@ use Rattle.mv_machine.specs.declared.entry.VolumeReply.TheVariants as volume_rep
 use Rattle.mv_machine.specs.Legal.{Legal}
 use Rattle.mv_machine.specs.Setup.{Setup}
 use Rattle.mv_calls.specs.Keeping.{nothing_kept}
-use Rattle.mv_calls.specs.LatchCalls.{GrantedAs, PendingAs, Holds, Waits, IsOut, obtain}
+use Rattle.mv_calls.specs.LatchCalls.{GrantedAs, PendingAs, obtain}
+use Rattle.mv_calls.specs.declared.outcomes.Standing.TheVariants as standing
 use Rattle.mv_calls.specs.declared.outcomes.PostAnswer.TheVariants as answer
 use Rattle.mv_calls.specs.Program.{Early, Call, Says, left, accepted}
 use Rattle.mv_calls.specs.Refusal as refusal
@@ -85,7 +86,7 @@ posted_grant : IsRow (one_task (0 ∷ []) []) 0 examples.grant_posts
     ∷ does (TestEcb 0) 1 0
     ∷ does (ReleaseLatch 0 0 true) 2 (Ok 1)
     ∷ does (TestEcb 0) 1 1073741824
-    ∷ does (CheckLatch 0 1) 1 Holds
+    ∷ does (CheckLatch 0 1) 1 standing.Granted
     ∷ does (ReleaseLatch 0 0 true) 1 (Err refusal.Gone)
     ∷ []
     )
@@ -106,10 +107,10 @@ posted_purge : IsRow (one_task (0 ∷ []) []) 0
     (
     does (Obtain 0 1 Exclusive Conditional) 1 (Ok (GrantedAs 0))
     ∷ does (Obtain 0 2 Exclusive (Posted 0)) 1 (Ok (PendingAs 1))
-    ∷ does (CheckLatch 0 1) 1 Waits
+    ∷ does (CheckLatch 0 1) 1 standing.Waiting
     ∷ does (ReleaseLatch 0 1 true) 1 (Err refusal.StillWaiting)
     ∷ does (Purge 2) 2 (record { removed = 1; granted = 0 })
-    ∷ does (CheckLatch 0 1) 1 IsOut
+    ∷ does (CheckLatch 0 1) 1 standing.Gone
     ∷ []
     )
 posted_purge = row refl refl

@@ -28,7 +28,7 @@ use Rattle.mv_machine.specs.Waking.{AreFairWakes, blocks_of}
 use Rattle.mv_calls.specs.Endings as endings
 use Rattle.mv_calls.specs.Keeping.{Kept}
 use Rattle.mv_calls.specs.LatchCalls as latches
-use Rattle.mv_calls.specs.LatchCalls.{Counts}
+use Rattle.mv_calls.specs.declared.outcomes.Purged.{Purged}
 use Rattle.mv_calls.specs.Made.{told_with, told_by, HasItsWakes, HaveTheirWakes}
 use Rattle.mv_calls.specs.Pauses as pauses
 use Rattle.mv_calls.specs.Posts as posts
@@ -224,7 +224,7 @@ obtain_asks P c latch requestor mode (form_of.Posted e) kept =
 -- ---- ends of jobs and tasks
 
 -- the post of a mother's block, if there is one
-mother_asks : (c : Setup) (mother : Option ℕ) (code : ℕ) (kept : Kept) (counts : Counts) → mother_events c mother ≤ 524287
+mother_asks : (c : Setup) (mother : Option ℕ) (code : ℕ) (kept : Kept) (counts : Purged) → mother_events c mother ≤ 524287
     → Asks (IsHeard c) (mother_events c mother) (posts.wake_posted c mother code kept (Done counts))
 mother_asks c None code kept counts low = none_asks (IsHeard c) 0 (Done counts) tt
 mother_asks c (Some e) code kept counts low =

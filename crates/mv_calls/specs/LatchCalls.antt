@@ -13,6 +13,9 @@ use Rattle.mv_machine.specs.Check.{or_else}
 use Rattle.mv_machine.specs.Kept.{keeps_quotas}
 use Rattle.mv_machine.specs.Setup.{Setup}
 use Rattle.mv_machine.specs.System.{posts_own_ecb}
+use Rattle.mv_calls.specs.declared.outcomes.Purged.{Purged}
+use Rattle.mv_calls.specs.declared.outcomes.Standing.{Standing}
+use Rattle.mv_calls.specs.declared.outcomes.Standing.TheVariants as standing
 use Rattle.mv_calls.specs.Keeping.{Kept}
 use Rattle.mv_calls.specs.Posts.{wakes_posted}
 use Rattle.mv_calls.specs.Program.{Program, Do, Done, Early, Wrong, Call, on_latch, unless_refused}
@@ -25,17 +28,6 @@ use Rattle.mv_calls.specs.Waits.{refused_if}
 pub data Requested : Type 0 where
   GrantedAs : (id : ℕ) → Requested
   PendingAs : (id : ℕ) → Requested
-
--- the state of a request: it holds its latch, it waits for it, or it is in no list
-pub data RequestState : Type 0 where
-  Holds : RequestState
-  Waits : RequestState
-  IsOut : RequestState
-
--- the outcome of a purge: how many requests it took out, and how many others were granted by that
-pub record Counts : Type 0 where
-  pub removed : ℕ
-  pub granted : ℕ
 
 -- ---- obtain
 
@@ -72,14 +64,14 @@ obtain c latch requestor mode form kept =
 -- ---- check
 
 -- the state of a request by the reply to a confirm
-abbrev pub checked : LatchReply → Program RequestState
-checked (latch_reply.Granted id) = Done Holds
-checked latch_reply.Waiting = Done Waits
-checked latch_reply.Gone = Done IsOut
+abbrev pub checked : LatchReply → Program Standing
+checked (latch_reply.Granted id) = Done standing.Granted
+checked latch_reply.Waiting = Done standing.Waiting
+checked latch_reply.Gone = Done standing.Gone
 checked reply = Wrong
 
 -- check: the state of the request of this number at its latch
-abbrev pub check_latch : ℕ → ℕ → Call RequestState
+abbrev pub check_latch : ℕ → ℕ → Call Standing
 check_latch latch id kept = Do Latches (op_on.Latch (latch_op.Confirm latch id)) (λ h. on_latch h.entry.reply checked)
 
 -- ---- release
@@ -100,11 +92,11 @@ release_latch c latch id conditional kept =
 -- ---- purge
 
 -- the rest of a purge after its reply
-abbrev pub purged : Setup → List Wake → Kept → LatchReply → Program Counts
+abbrev pub purged : Setup → List Wake → Kept → LatchReply → Program Purged
 purged c wakes kept (latch_reply.Purged removed granted) =
     wakes_posted c wakes kept (Done (record { removed = removed; granted = granted }))
 purged c wakes kept reply = Wrong
 
 -- purge: takes a requestor's requests out, and posts the blocks of the requests that it grants, and of those that waited
-abbrev pub purge : Setup → ℕ → Call Counts
+abbrev pub purge : Setup → ℕ → Call Purged
 purge c requestor kept = Do Latches (op_on.Latch (latch_op.Purge requestor)) (λ h. on_latch h.entry.reply (purged c h.wakes kept))

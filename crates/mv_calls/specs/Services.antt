@@ -14,7 +14,9 @@ use Rattle.mv_calls.specs.Events as events
 use Rattle.mv_calls.specs.Events.{Entering, Finding}
 use Rattle.mv_calls.specs.Keeping.{Kept}
 use Rattle.mv_calls.specs.LatchCalls as latches
-use Rattle.mv_calls.specs.LatchCalls.{Requested, RequestState, Counts}
+use Rattle.mv_calls.specs.declared.outcomes.Purged.{Purged}
+use Rattle.mv_calls.specs.declared.outcomes.Standing.{Standing}
+use Rattle.mv_calls.specs.LatchCalls.{Requested}
 use Rattle.mv_calls.specs.Pauses as pauses
 use Rattle.mv_calls.specs.Pauses.{Gift, Reached}
 use Rattle.mv_calls.specs.Posts as posts
@@ -67,11 +69,11 @@ Answer (Transfer current target code) = Result (Option Gift) Refusal
 Answer (Deallocate token) = Result (Unit {0}) Refusal
 Answer (TestElement element) = ElementState
 Answer (Obtain latch requestor mode form) = Result Requested Refusal
-Answer (CheckLatch latch id) = RequestState
+Answer (CheckLatch latch id) = Standing
 Answer (ReleaseLatch latch id conditional) = Result ℕ Refusal
-Answer (Purge requestor) = Counts
-Answer (EndOfJob requestor block code) = Counts
-Answer (EndOfTask requestor mother code) = Counts
+Answer (Purge requestor) = Purged
+Answer (EndOfJob requestor block code) = Purged
+Answer (EndOfTask requestor mother code) = Purged
 Answer (PostEvent table index code) = Result Entering Refusal
 Answer (NextEvent table position) = Result Finding Refusal
 

@@ -10,3 +10,23 @@ pub enum PostAnswer {
     /// The block was complete before with this code, which it keeps; the new code is dropped.
     Already(u32),
 }
+
+/// The state of a request for a latch.
+#[derive(Clone, Copy, Debug, PartialEq, Eq)]
+pub enum Standing {
+    /// The request holds its latch.
+    Granted,
+    /// The request is queued.
+    Waiting,
+    /// The latch has no such request of this task: it was released or purged, or was never made.
+    Gone,
+}
+
+/// What a purge did.
+#[derive(Clone, Copy, Debug, PartialEq, Eq)]
+pub struct Purged {
+    /// The number of requests that it took out.
+    pub removed: u32,
+    /// The number of other requests that this granted.
+    pub granted: u32,
+}

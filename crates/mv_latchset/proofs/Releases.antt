@@ -9,8 +9,9 @@ use Rattle.mv_machine.specs.Reach.{reach, release_cost, total}
 use Rattle.mv_machine.specs.Setup.{Setup}
 use Rattle.mv_machine.specs.Waking.{AreFairWakes, blocks_of}
 use Rattle.mv_board.specs.Faces.{CallerFace}
+use Rattle.mv_calls.specs.declared.outcomes.Purged.{Purged}
 use Rattle.mv_calls.specs.Keeping.{kept_of}
-use Rattle.mv_calls.specs.LatchCalls.{Counts, release_latch, let_go, purge, purged}
+use Rattle.mv_calls.specs.LatchCalls.{release_latch, let_go, purge, purged}
 use Rattle.mv_calls.specs.Posts.{wakes_posted}
 use Rattle.mv_calls.specs.Program.{Program, Done}
 use Rattle.mv_calls.specs.Refusal.{Refusal}
@@ -107,12 +108,12 @@ module _ (c : Setup) (latch id : ℕ) (conditional : Bool) where
       (waits_conditionally c t u latch id conditional h may, h)
 
 -- a purge, and those were told whom it took out or grants
-pub purge_served : (c : Setup) (requestor : ℕ) (Is : Counts → Type 0) (t v u : CallerFace) (removed granted : ℕ)
+pub purge_served : (c : Setup) (requestor : ℕ) (Is : Purged → Type 0) (t v u : CallerFace) (removed granted : ℕ)
     → IsAnswered (Purge requestor) (latch_reply.Purged removed granted) t v → PostsWakes c v.wakes v u
     → total (reach c) (blocks_of v.wakes) + 1 ≤ release_cost c → IsAtRest t.log → IsAtRest u.log
     → Is (record { removed = removed; granted = granted }) → IsServed (release_cost c) (purge c requestor) Is t u
 purge_served c requestor Is t v u removed granted h posts fits began rest is =
-    let counts : Counts = record { removed = removed; granted = granted } in
+    let counts : Purged = record { removed = removed; granted = granted } in
     serves (release_cost c) (purge c requestor) Is t u counts began is
     (told_runs c (purge c requestor (kept_of t.number t.log)) (Done counts) t v u (release_cost c)
     (latch_runs (λ ws r. purged c ws (kept_of t.number t.log) r) (wakes_posted c v.wakes (kept_of t.number t.log) (Done counts)) t v

@@ -1,17 +1,14 @@
 -- How the values that the calls return correspond to the answers of their programs.
 use Rattle.std.specs.Prelude.{ℕ, Result, Ok, Err}
-use Rattle.mv_calls.specs.LatchCalls.{Requested, GrantedAs, PendingAs, RequestState, Holds, Waits, IsOut, Counts}
+use Rattle.mv_calls.specs.LatchCalls.{Requested, GrantedAs, PendingAs}
 use Rattle.mv_calls.specs.Refusal.{Refusal}
 use Rattle.mv_calls.specs.Refusal as refusal
 use Rattle.mv_latchset.specs.declared.obtaining.ObtainRefusal.{ObtainRefusal}
 use Rattle.mv_latchset.specs.declared.obtaining.ObtainRefusal.TheVariants as obtain_refusal
 use Rattle.mv_latchset.specs.declared.obtaining.Obtained.{Obtained}
 use Rattle.mv_latchset.specs.declared.obtaining.Obtained.TheVariants as obtained
-use Rattle.mv_latchset.specs.declared.purging.Purged.{Purged}
 use Rattle.mv_latchset.specs.declared.releasing.ReleaseLatchRefusal.{ReleaseLatchRefusal}
 use Rattle.mv_latchset.specs.declared.releasing.ReleaseLatchRefusal.TheVariants as release_refusal
-use Rattle.mv_latchset.specs.declared.token.Standing.{Standing}
-use Rattle.mv_latchset.specs.declared.token.Standing.TheVariants as standing
 
 -- the answer of a program that obtained a request: of the token it has only the request's number
 abbrev pub obtained_as : Obtained → Requested
@@ -31,12 +28,6 @@ abbrev pub obtain_answer : Result Obtained ObtainRefusal → Result Requested Re
 obtain_answer (Ok got) = Ok (obtained_as got)
 obtain_answer (Err why) = Err (obtain_refused why)
 
--- the state of a request, as a check answers it
-abbrev pub standing_as : Standing → RequestState
-standing_as standing.Granted = Holds
-standing_as standing.Waiting = Waits
-standing_as standing.Gone = IsOut
-
 -- the reason for which a release takes nothing out
 abbrev pub release_refused : ReleaseLatchRefusal → Refusal
 release_refused release_refusal.Gone = refusal.Gone
@@ -46,7 +37,3 @@ release_refused release_refusal.StillWaiting = refusal.StillWaiting
 abbrev pub freed_answer : Result ℕ ReleaseLatchRefusal → Result ℕ Refusal
 freed_answer (Ok granted) = Ok granted
 freed_answer (Err why) = Err (release_refused why)
-
--- the two counts of a purge
-abbrev pub counts_of : Purged → Counts
-counts_of p = record { removed = p.removed; granted = p.granted }

@@ -6,13 +6,13 @@ use Rattle.mv_latch.specs.declared.request.LatchForm.{LatchForm}
 use Rattle.mv_latch.specs.declared.request.LatchForm.TheVariants as form_of
 use Rattle.mv_machine.specs.declared.entry.Reply.{Reply}
 use Rattle.mv_machine.specs.declared.entry.Reply.TheVariants as reply_of
-use Rattle.mv_latchset.specs.declared.purging.Purged.{Purged}
+use Rattle.mv_calls.specs.declared.outcomes.Purged.{Purged}
+use Rattle.mv_calls.specs.declared.outcomes.Standing.{Standing}
+use Rattle.mv_calls.specs.declared.outcomes.Standing.TheVariants as standing
 use Rattle.mv_latchset.specs.declared.releasing.ReleaseLatchRefusal.{ReleaseLatchRefusal}
 use Rattle.mv_latchset.specs.declared.releasing.ReleaseLatchRefusal.TheVariants as release_refusal
 use Rattle.mv_latchset.specs.declared.replies.Asked.{Asked}
 use Rattle.mv_latchset.specs.declared.replies.Asked.TheVariants as asked
-use Rattle.mv_latchset.specs.declared.token.Standing.{Standing}
-use Rattle.mv_latchset.specs.declared.token.Standing.TheVariants as standing
 
 -- the reply to the Obtain with this outcome; Queued is the reply in the Posted form and in the Waiting form
 abbrev pub asked_reply : Asked → LatchReply

@@ -1,11 +1,11 @@
 //! The state of a request. Clauses cite `LatchCalls.antt` of mv_calls, `Run.antt` of mv_wait, and `specs/Answers.antt`.
 
-ghost use Rattle.std.specs.Prelude.{◌≡◌, ◌<◌};
-ghost use Rattle.mv_wait.specs.Prelude.{check_latch, IsServed, MayCall};
-ghost use Rattle.mv_latchset.specs.Answers.{standing_as};
+ghost use Rattle.std.specs.Prelude.{◌<◌};
+ghost use Rattle.mv_wait.specs.Prelude.{check_latch, Serves, MayCall};
 
 use crate::replies::standing_in;
-use crate::token::{LatchToken, Standing};
+use crate::token::LatchToken;
+use mv_calls::Standing;
 use mv_latch::LatchOp;
 use mv_machine::{Object, Op};
 use mv_wait::{Station, Task};
@@ -34,7 +34,7 @@ pub fn check_latch<R: Wait>(
 ) -> Standing
     requires task { MayCall station.now 1 task.old }
     requires latch { token.latch < station.now.config.latches }
-    ensures served { IsServed 1 (check_latch token.latch token.id) (λ a. a ≡ standing_as result) task.old task.new }
+    ensures served { Serves 1 (check_latch token.latch token.id) result task.old task.new }
 {
     let reply = station.event(
         rt,

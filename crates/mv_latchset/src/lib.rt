@@ -87,8 +87,9 @@ mod token;
 mod waking;
 
 pub use checking::check_latch;
+pub use mv_calls::{Purged, Standing};
 pub use mv_latch::{LatchForm, LatchForm as Form, Mode};
 pub use obtaining::{Asking, ObtainRefusal, Obtained, begin_obtain, end_obtain, obtain};
-pub use purging::{Purged, purge};
+pub use purging::purge;
 pub use releasing::{ReleaseLatchRefusal, release_latch};
-pub use token::{LatchToken, Standing};
+pub use token::LatchToken;

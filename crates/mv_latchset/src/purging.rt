@@ -1,24 +1,14 @@
 //! Purges of a requestor. Clauses cite `LatchCalls.antt` of mv_calls, `Run.antt` of mv_wait, and `specs/Answers.antt`.
 
-ghost use Rattle.std.specs.Prelude.{◌≡◌};
-ghost use Rattle.mv_wait.specs.Prelude.{release_cost, purge, IsServed, MayCall};
-ghost use Rattle.mv_latchset.specs.Answers.{counts_of};
+ghost use Rattle.mv_wait.specs.Prelude.{release_cost, purge, Serves, MayCall};
 
 use crate::replies::purged_in;
 use crate::waking::post_wakes;
+use mv_calls::Purged;
 use mv_latch::LatchOp;
 use mv_machine::{Object, Op};
 use mv_wait::{Station, Task};
 use std::sync::Wait;
-
-/// What a purge did.
-#[derive(Clone, Copy, Debug, PartialEq, Eq)]
-pub struct Purged {
-    /// The number of requests that it took out.
-    pub removed: u32,
-    /// The number of other requests that this granted.
-    pub granted: u32,
-}
 
 /// Takes all requests of a requestor out of all latches, whichever tasks made them, as ISGLPRG does.
 ///
@@ -38,8 +28,7 @@ pub struct Purged {
 /// ```
 pub fn purge<R: Wait>(station: &Station, rt: &R, task: &mut Task, requestor: u64) -> Purged
     requires task { MayCall station.now (release_cost station.now.config) task.old }
-    ensures served { IsServed (release_cost station.now.config) (purge station.now.config requestor)
-        (λ a. a ≡ counts_of result) task.old task.new }
+    ensures served { Serves (release_cost station.now.config) (purge station.now.config requestor) result task.old task.new }
 {
     let reply = station.event(
         rt,

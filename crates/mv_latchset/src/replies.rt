@@ -7,9 +7,8 @@ ghost use Rattle.mv_board.specs.Faces.{is_settled_reply};
 ghost use Rattle.mv_latchset.specs.Says.{SaysAsked, SaysStanding, SaysReleased, SaysPurged};
 ghost use Rattle.mv_latchset.specs.Replies.{asked_reply, IsOfForm, HasStanding, HasGrant, release_reply, purge_reply};
 
-use crate::purging::Purged;
 use crate::releasing::ReleaseLatchRefusal;
-use crate::token::Standing;
+use mv_calls::{Purged, Standing};
 use mv_latch::{LatchForm, LatchReply};
 use mv_machine::Reply;
 

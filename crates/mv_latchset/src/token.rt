@@ -1,4 +1,4 @@
-//! The token of a latch request, and the states of a request. Clauses cite `specs/Token.antt`.
+//! The token of a latch request. Clauses cite `specs/Token.antt`.
 
 ghost use Rattle.std.specs.Prelude.{◌≡◌, true};
 ghost use Rattle.mv_latchset.specs.Token.{stands};
@@ -14,17 +14,6 @@ pub struct LatchToken {
     pub id: u32,
     /// The slab key under which the task keeps the request.
     pub key: usize,
-}
-
-/// The state of a request.
-#[derive(Clone, Copy, Debug, PartialEq, Eq)]
-pub enum Standing {
-    /// The request holds its latch.
-    Granted,
-    /// The request is queued.
-    Waiting,
-    /// The latch has no such request of this task: it was released or purged, or was never made.
-    Gone,
 }
 
 /// Returns the token of a standing request.

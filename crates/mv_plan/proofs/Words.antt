@@ -63,7 +63,8 @@ pub use Rattle.std.specs.Prelude.{codes}
 pub use Rattle.mv_calls.specs.Program.{asks, Program, Do, Done, Heard, heard, and_then, going_on, unrefused, accepted, followed, finished}
 pub use Rattle.mv_calls.specs.Program.{unless_refused, on_element, on_latch, Early, Wrong, Call, on_ecb}
 pub use Rattle.mv_latch.specs.declared.operation.Wake.{Wake}
-pub use Rattle.mv_calls.specs.LatchCalls.{obtained, Counts}
+pub use Rattle.mv_calls.specs.declared.outcomes.Purged.{Purged}
+pub use Rattle.mv_calls.specs.LatchCalls.{obtained}
 pub use Rattle.mv_calls.specs.Pauses.{token_of, pause, closed, deallocate, release}
 pub use Rattle.mv_calls.specs.declared.outcomes.PostAnswer.{PostAnswer}
 pub use Rattle.mv_calls.specs.declared.outcomes.PostAnswer.TheVariants.{Woke}

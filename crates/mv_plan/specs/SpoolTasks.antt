@@ -15,7 +15,8 @@ use Rattle.mv_deck.specs.declared.deck.Step.TheVariants.{Print, Use, Free, Count
 use Rattle.mv_plan.specs.Jobs.{job_at}
 use Rattle.mv_deck.specs.EndCode.{not_run}
 use Rattle.mv_calls.specs.Keeping.{nothing_kept}
-use Rattle.mv_calls.specs.LatchCalls.{Requested, GrantedAs, PendingAs, Counts, obtain, release_latch}
+use Rattle.mv_calls.specs.LatchCalls.{Requested, GrantedAs, PendingAs, obtain, release_latch}
+use Rattle.mv_calls.specs.declared.outcomes.Purged.{Purged}
 use Rattle.mv_calls.specs.Pauses.{token_of, allocate, pause, release, deallocate}
 use Rattle.mv_calls.specs.Posts.{post}
 use Rattle.mv_calls.specs.Program.{Program, Call, followed, accepted, for_each, finished, wrong}
@@ -145,7 +146,7 @@ job_done c requestor job true = finished not_run
 job_done c requestor job false = run_steps c requestor (λ latch. None) job.steps
 
 -- executes a job, and then ends it: purges its requestor, which is j + 1 for job j, and posts its end to its `done` block
-abbrev pub run_job : Setup → List JobData → Named → Call Counts
+abbrev pub run_job : Setup → List JobData → Named → Call Purged
 run_job c deck named =
     followed (job_done c (named.job + 1) (job_at deck named.job) named.skipped)
     (λ code. end_of_job c (named.job + 1) (done (length deck) named.job) code)

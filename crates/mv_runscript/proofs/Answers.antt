@@ -2,10 +2,12 @@
 use Rattle.std.proofs.Common.{◌≡◌, ℕ, List, [], ◌∷◌, map, Option, Some, None, Result, Ok, Err, false, refl, ap}
 use Rattle.mv_calls.specs.declared.table.Table.{Table}
 use Rattle.mv_calls.specs.Events.{Entering, EnteredAt, WasComplete}
-use Rattle.mv_calls.specs.LatchCalls.{Requested, GrantedAs, PendingAs, RequestState, Holds, Waits, IsOut}
+use Rattle.mv_calls.specs.LatchCalls.{Requested, GrantedAs, PendingAs}
 use Rattle.mv_calls.specs.Pauses.{Gift, Reached, CameEarly, WokeIt}
 use Rattle.mv_calls.specs.declared.outcomes.PostAnswer.{PostAnswer}
 use Rattle.mv_calls.specs.declared.outcomes.PostAnswer.TheVariants as post_answer
+use Rattle.mv_calls.specs.declared.outcomes.Standing.{Standing}
+use Rattle.mv_calls.specs.declared.outcomes.Standing.TheVariants as state
 use Rattle.mv_calls.specs.Refusal.{Refusal}
 use Rattle.mv_calls.specs.Refusal as refusal
 use Rattle.mv_calls.specs.Services.{Service}
@@ -76,10 +78,10 @@ obtained_none : (got : Requested) → word_in (obtained got) ≡ None
 obtained_none (GrantedAs id) = refl
 obtained_none (PendingAs id) = refl
 
-standing_none : (s : RequestState) → word_in (standing s) ≡ None
-standing_none Holds = refl
-standing_none Waits = refl
-standing_none IsOut = refl
+standing_none : (s : Standing) → word_in (standing s) ≡ None
+standing_none state.Granted = refl
+standing_none state.Waiting = refl
+standing_none state.Gone = refl
 
 entered_none : (e : Entering) → word_in (entered e) ≡ None
 entered_none (EnteredAt position) = refl

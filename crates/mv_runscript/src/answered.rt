@@ -1,7 +1,7 @@
 //! The answers of calls, made of those of the services (`Answered.antt` of mv_script).
 
 ghost use Rattle.std.specs.Prelude.{◌≡◌, map};
-ghost use Rattle.mv_latchset.specs.Answers.{obtain_answer, standing_as, freed_answer, counts_of};
+ghost use Rattle.mv_latchset.specs.Answers.{obtain_answer, freed_answer};
 ghost use Rattle.mv_pause.specs.Answers.{allocate_answer, pause_answer, release_answer, transfer_answer, deallocate_answer};
 ghost use Rattle.mv_wait.specs.Answers.{clear_answer, extend_answer, wait_answer};
 ghost use Rattle.mv_script.specs.declared.answer.Answer.TheVariants as answer;
@@ -152,7 +152,7 @@ pub fn obtained(outcome: Result<Obtained, ObtainRefusal>) -> Answer
 
 /// Returns the answer of a CHECK.
 pub(crate) fn standing(outcome: Standing) -> Answer
-    ensures { result ≡ standing_of (standing_as outcome) }
+    ensures { result ≡ standing_of outcome }
 {
     match outcome {
         Standing::Granted => Answer::Granted,
@@ -199,7 +199,7 @@ pub(crate) fn handed_out(outcome: Result<Event, NextRefusal>) -> Answer
 
 /// Returns the answer of a PURGE, or of the end of a task.
 pub(crate) fn purged(outcome: Purged) -> Answer
-    ensures { result ≡ purged_as (counts_of outcome) }
+    ensures { result ≡ purged_as outcome }
 {
     Answer::PurgedCounts {
         removed: outcome.removed,

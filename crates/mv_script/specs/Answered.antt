@@ -1,10 +1,13 @@
 -- The answer to a call of a script, by what the service returned.
 use Rattle.std.specs.Prelude.{ℕ, map, Option, Some, None, Result, Ok, Err}
 use Rattle.mv_calls.specs.Events.{Entering, EnteredAt, WasComplete, Finding}
-use Rattle.mv_calls.specs.LatchCalls.{Requested, GrantedAs, PendingAs, RequestState, Holds, Waits, IsOut, Counts}
+use Rattle.mv_calls.specs.LatchCalls.{Requested, GrantedAs, PendingAs}
 use Rattle.mv_calls.specs.Pauses.{Gift, Reached, CameEarly, WokeIt}
 use Rattle.mv_calls.specs.declared.outcomes.PostAnswer.{PostAnswer}
 use Rattle.mv_calls.specs.declared.outcomes.PostAnswer.TheVariants as post_answer
+use Rattle.mv_calls.specs.declared.outcomes.Purged.{Purged}
+use Rattle.mv_calls.specs.declared.outcomes.Standing.{Standing}
+use Rattle.mv_calls.specs.declared.outcomes.Standing.TheVariants as state
 use Rattle.mv_calls.specs.Refusal.{Refusal}
 use Rattle.mv_calls.specs.Refusal as refusal
 use Rattle.mv_calls.specs.Services.{Service}
@@ -77,13 +80,13 @@ obtained (GrantedAs id) = answer.Granted
 obtained (PendingAs id) = answer.Pending
 
 -- the answer to a CHECK, by the state of the request
-abbrev pub standing : RequestState → Answer
-standing Holds = answer.Granted
-standing Waits = answer.Waiting
-standing IsOut = answer.Gone
+abbrev pub standing : Standing → Answer
+standing state.Granted = answer.Granted
+standing state.Waiting = answer.Waiting
+standing state.Gone = answer.Gone
 
 -- the answer to a purge
-abbrev pub purged : Counts → Answer
+abbrev pub purged : Purged → Answer
 purged counts = answer.PurgedCounts counts.removed counts.granted
 
 -- the answer to a post of an event

@@ -17,7 +17,7 @@ use Rattle.mv_machine.specs.Setup.{Setup, element_owner}
 use Rattle.mv_board.specs.Faces.{CallerFace, Happened}
 use Rattle.mv_calls.specs.Endings.{behind_close, close_all, used_elements}
 use Rattle.mv_calls.specs.Keeping.{Kept, kept_of, kept_after, nothing_kept}
-use Rattle.mv_calls.specs.LatchCalls.{Counts}
+use Rattle.mv_calls.specs.declared.outcomes.Purged.{Purged}
 use Rattle.mv_calls.specs.Pauses.{is_others_token}
 use Rattle.mv_calls.specs.Program.{Program, Do, Wrong, on_element}
 use Rattle.mv_calls.proofs.Making.{kept_caller}
@@ -59,7 +59,7 @@ others_stay n g t u h = record {
 -- ---- one after the other
 
 -- the close of one, by what is kept by then, and those behind it, by what was kept at first
-one_more : (kept then : Kept) (n : ℕ) (ns : List ℕ) (p : Program Counts) (b d : Bool) → d ≡ b
+one_more : (kept then : Kept) (n : ℕ) (ns : List ℕ) (p : Program Purged) (b d : Bool) → d ≡ b
     → then.generation n ≡ kept.generation n
     → close_all then (cond d (n ∷ []) []) (close_all kept ns p) ≡ close_all kept (cond b (n ∷ ns) ns) p
 one_more kept then n ns p true d is same =
@@ -81,7 +81,7 @@ used_between t a b = filter (keeps t).in_use (range_with_len a (b - a))
 pub record Closing (first a b : ℕ) (t u : CallerFace) : Type 0 where
   pub made : ℕ
   pub few : made + length (used_between t a b) ≤ length (used_between t first b)
-  pub runs : (p : Program Counts)
+  pub runs : (p : Program Purged)
       → Runs made (close_all (keeps t) (used_between t first b) p) (close_all (keeps t) (used_between t a b) p) t u
   pub used : (m : ℕ) → a ≤ m → (keeps u).in_use m ≡ (keeps t).in_use m
   pub generation : (m : ℕ) → a ≤ m → (keeps u).generation m ≡ (keeps t).generation m

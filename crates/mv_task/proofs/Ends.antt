@@ -2,7 +2,7 @@
 use Rattle.std.proofs.Common.{◌≡◌, ℕ, ◌+◌, ◌≤◌, List, [], ◌∷◌, length, Option, Some, None, refl, ap, ◌∙◌, subst, arith}
 use Rattle.mv_latch.specs.declared.operation.LatchOp.TheVariants.{Purge}
 use Rattle.mv_latch.specs.declared.operation.LatchReply.{LatchReply}
-use Rattle.mv_latch.specs.declared.operation.LatchReply.TheVariants.{Purged}
+use Rattle.mv_latch.specs.declared.operation.LatchReply.TheVariants as latch_reply
 use Rattle.mv_latch.specs.declared.operation.Wake.{Wake}
 use Rattle.mv_machine.specs.declared.entry.Object.TheVariants.{Latches}
 use Rattle.mv_machine.specs.declared.entry.Op.TheVariants as op_on
@@ -11,8 +11,9 @@ use Rattle.mv_machine.specs.Setup.{Setup}
 use Rattle.mv_board.specs.Faces.{BoardFace, CallerFace, IsOf}
 use Rattle.mv_calls.specs.Endings.{close_all, end_of_job, end_of_task, used_elements}
 use Rattle.mv_calls.specs.Keeping.{Kept, kept_of}
-use Rattle.mv_calls.specs.LatchCalls.{Counts, purge, purged}
+use Rattle.mv_calls.specs.LatchCalls.{purge, purged}
 use Rattle.mv_calls.specs.declared.outcomes.PostAnswer.{PostAnswer}
+use Rattle.mv_calls.specs.declared.outcomes.Purged.{Purged}
 use Rattle.mv_calls.specs.Posts.{post, wake_posted, wakes_posted}
 use Rattle.mv_calls.specs.Program.{Program, Do, Done, Wrong, and_then, on_latch}
 use Rattle.mv_calls.specs.Rest.{IsAtRest}
@@ -34,7 +35,7 @@ wakes_same c (w ∷ ws) kept other last = go w.ecb (wakes_same c ws kept other l
   go (Some e) same = ap (λ q. and_then (post c e w.code kept) (λ p. q)) same
 
 purged_same : (c : Setup) (ws : List Wake) (kept other : Kept) (r : LatchReply) → purged c ws kept r ≡ purged c ws other r
-purged_same c ws kept other (Purged removed granted) =
+purged_same c ws kept other (latch_reply.Purged removed granted) =
     wakes_same c ws kept other (Done (record { removed = removed; granted = granted }))
 purged_same c ws kept other r = refl
 
@@ -49,7 +50,7 @@ job_same c requestor e code kept other =
 
 -- ---- the end of a job
 
-pub job_served : (c : Setup) (requestor e code : ℕ) (Is : Counts → Type 0) (IsPost : PostAnswer → Type 0) (t v u : CallerFace)
+pub job_served : (c : Setup) (requestor e code : ℕ) (Is : Purged → Type 0) (IsPost : PostAnswer → Type 0) (t v u : CallerFace)
     → IsServed (release_cost c) (purge c requestor) Is t v → IsServed (reach c e) (post c e code) IsPost v u
     → IsServed (release_cost c + reach c e) (end_of_job c requestor e code) Is t u
 job_served c requestor e code Is IsPost t v u x y =
@@ -65,8 +66,8 @@ job_served c requestor e code Is IsPost t v u x y =
 -- ---- the end of a task
 
 -- its own elements were closed, and then what follows was done
-module _ (c : Setup) (requestor code : ℕ) (Is : Counts → Type 0) (t v u : CallerFace) where
-  with_closes : (most : ℕ) (mother : Option ℕ) (a : Counts) → ClosesAll c t v → IsAtRest t.log
+module _ (c : Setup) (requestor code : ℕ) (Is : Purged → Type 0) (t v u : CallerFace) where
+  with_closes : (most : ℕ) (mother : Option ℕ) (a : Purged) → ClosesAll c t v → IsAtRest t.log
       → Runs most (and_then (purge c requestor (keeps t)) (λ counts. wake_posted c mother code (keeps t) (Done counts))) (Done a) v u
       → release_cost c + mother_events c mother ≡ most → IsAtRest u.log → Is a
       → IsServed (length (used_elements c (keeps t)) + release_cost c + mother_events c mother) (end_of_task c requestor mother code) Is t u

@@ -1,10 +1,9 @@
-//! The ends of jobs and of tasks. Clauses cite `Endings.antt` and `Services.antt` of mv_calls, `Run.antt` of mv_wait,
-//! `Answers.antt` of mv_latchset, and `specs/Ending.antt`.
+//! The ends of jobs and of tasks. Clauses cite `Endings.antt` and `Services.antt` of mv_calls, `Run.antt` of mv_wait, and
+//! `specs/Ending.antt`.
 
 ghost use Rattle.std.specs.Prelude.{◌≡◌, ◌+◌, ◌<◌, true, length, IfSome};
 ghost use Rattle.mv_wait.specs.Prelude.{code_limit, reach, release_cost, element_count, element_owner, IsOf, end_of_job, end_of_task};
-ghost use Rattle.mv_wait.specs.Prelude.{used_elements, kept_of, IsAtRest, mother_events, IsServed, MayCall};
-ghost use Rattle.mv_latchset.specs.Answers.{counts_of};
+ghost use Rattle.mv_wait.specs.Prelude.{used_elements, kept_of, IsAtRest, mother_events, MayCall, Serves};
 ghost use Rattle.mv_task.specs.Ending.{ClosesOne, ClosesAll, KeepsOthers};
 
 use mv_element::Token;
@@ -38,8 +37,8 @@ pub fn end_of_job<R: Wait>(
     requires task { MayCall station.now (release_cost station.now.config + reach station.now.config ecb) task.old }
     requires block { ecb < length station.now.config.owners }
     requires code { code < code_limit }
-    ensures served { IsServed (release_cost station.now.config + reach station.now.config ecb)
-        (end_of_job station.now.config requestor ecb code) (λ a. a ≡ counts_of result) task.old task.new }
+    ensures served { Serves (release_cost station.now.config + reach station.now.config ecb)
+        (end_of_job station.now.config requestor ecb code) result task.old task.new }
 {
     let purged = purge(station, rt, task, requestor);
     station.post(rt, task, ecb, code);
@@ -76,9 +75,9 @@ pub fn end_of_task<R: Wait>(
         + release_cost station.now.config + mother_events station.now.config mother) task.old }
     requires block { IfSome mother (λ ecb. ecb < length station.now.config.owners) }
     requires code { code < code_limit }
-    ensures served { IsServed (length (used_elements station.now.config (kept_of task.old.number task.old.log))
+    ensures served { Serves (length (used_elements station.now.config (kept_of task.old.number task.old.log))
         + release_cost station.now.config + mother_events station.now.config mother)
-        (end_of_task station.now.config requestor mother code) (λ a. a ≡ counts_of result) task.old task.new }
+        (end_of_task station.now.config requestor mother code) result task.old task.new }
 {
     give_back_all(station, rt, task);
     match mother {

@@ -2,7 +2,7 @@
 -- and nothing is posted twice. Uses places only before the event.
 use Rattle.mv_plan.proofs.Words.{◌≡◌, ℕ, ◌+◌, ◌<◌, ◌≤◌, Bool, List, length, Some, ◌⊎◌, inl, inr, refl, sym, ap, ◌∙◌, subst, arith, ecb_step}
 use Rattle.mv_plan.proofs.Words.{EcbState, Zero, Extended, Complete, Entry, Object, Ecb, Element, Op, Reply, IsNext, Setup, System, moved}
-use Rattle.mv_plan.proofs.Words.{opening, with_at, JobData, Counts, entered, end_for_scheduler, end_for_writer, idle, initiator, code_of}
+use Rattle.mv_plan.proofs.Words.{opening, with_at, JobData, Purged, entered, end_for_scheduler, end_for_writer, idle, initiator, code_of}
 use Rattle.mv_plan.proofs.Words.{not_to_run, done, EcbOp, EcbReply, ElementOp, common_steps, rules}
 use Rattle.mv_plan.proofs.points.{Point, At, Finished, TooSoon, Astray, ReaderAt, Entering, reader_asks, reader_goes, rounds_after}
 use Rattle.mv_plan.proofs.points.{SchedulerAt, Waits, Extends, Clears, Releases, scheduler_asks, scheduler_goes, WriterAt, writer_asks}
@@ -209,7 +209,7 @@ module _ (deck : List JobData) (initiators : ℕ) where
     after_job run = rounds_land (EndStage n i_after) tt run.more _ run.generation (λ left e. tt)
 
     -- behind a post of its job's end, that post is made, and the next one is not
-    later_next : (run : Running) (post later : EndPost) (code : ℕ) (counts : Counts) → x ≡ InJob run (Ending post code counts)
+    later_next : (run : Running) (post later : EndPost) (code : ℕ) (counts : Purged) → x ≡ InJob run (Ending post code counts)
         → (post ≡ later → ⊥) → (IsComplete s (end_block n run.job later) → IsComplete s (end_block n run.job post))
         → NotComplete i_after (end_block n run.job later) × IsComplete i_after (end_block n run.job post)
     later_next run post later code counts is apart before =

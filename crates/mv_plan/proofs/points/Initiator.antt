@@ -8,7 +8,7 @@ use Rattle.mv_plan.proofs.Words.{ElementReply, LatchReply, LatchForm, common_ste
 use Rattle.mv_plan.proofs.Words.{lt-ltb, Wake, Latches, Setup, obtained, token_of, deallocate, Woke, each_posted, posted_next, post_within}
 use Rattle.mv_plan.proofs.Words.{wake_posted, Program, Do, Done, Heard, asks, heard, and_then, going_on, unrefused, accepted, followed, Op}
 use Rattle.mv_plan.proofs.Words.{finished, unless_refused, on_latch, end_for_scheduler, end_for_writer, named_by, run_job, granted_as, done}
-use Rattle.mv_plan.proofs.Words.{rounds, refused_if, EcbReply, LatchOp, Counts, sym}
+use Rattle.mv_plan.proofs.Words.{rounds, refused_if, EcbReply, LatchOp, Purged, sym}
 use Rattle.mv_machine.specs.Kept.{StandingRequest, is_named, is_for, less}
 use Rattle.mv_plan.proofs.deck.{Held, is_held, ArePlannedSteps, ArePlannedJobs, sound_job, Facts}
 use Rattle.mv_plan.proofs.points.Points.{Point, At, Grant, Running, Hand, hand_with, without_latch, hand_without, hand_at, InitiatorAt}
@@ -508,7 +508,7 @@ module _ (c : Setup) (deck : List JobData) (initiators i : ℕ) (facts : Facts c
           now : Kept
           now = kept_by kept (InJob run (Purging hand code)) (Reply.Latch (LatchReply.Purged removed granted))
 
-          counts : Counts
+          counts : Purged
           counts = record { removed = removed; granted = granted }
     goes (InJob run (Ending OfJob code counts)) (Reply.Ecb (EcbReply.Woke (suc x))) s f =
         ap (λ m. after (length c.owners - 1) (posted_next c (EcbReply.Woke m))) f

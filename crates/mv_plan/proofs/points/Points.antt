@@ -5,7 +5,7 @@
 -- that may follow, holds of the one that does.
 use Rattle.mv_plan.proofs.Words.{ℕ, zero, suc, ◌+◌, ◌==◌, nat_le, nat_lt, Bool, true, false, not, List, [], ◌∷◌, ◌++◌, length, map, filter}
 use Rattle.mv_plan.proofs.Words.{Option, Some, None, if◌then◌else◌, ◌^◌, list_any, range_with_len, Mode, Object, Ecb, Element, Volume, Op}
-use Rattle.mv_plan.proofs.Words.{Latches, Reply, with_at, JobData, Step, Print, Use, Count, Scan, Abend, Return, job_at, not_run, Counts}
+use Rattle.mv_plan.proofs.Words.{Latches, Reply, with_at, JobData, Step, Print, Use, Count, Scan, Abend, Return, job_at, not_run, Purged}
 use Rattle.mv_plan.proofs.Words.{entered, end_for_scheduler, end_for_writer, idle, initiator, Named, job_named, code_of, some_end_above}
 use Rattle.mv_plan.proofs.Words.{ends_of, complete_count, Free, done, EcbOp, EcbReply, ElementOp, ElementReply, LatchOp, LatchReply, ◌-◌}
 use Rattle.mv_plan.proofs.Words.{LatchForm, VolumeOp, VolumeReply, ElementState, ◌≡◌, refl, eqb-true, rules, arith, common_steps}
@@ -262,7 +262,7 @@ pub data JobAt : Type 0 where
   Writing : (hand : Hand) (volume amount number : ℕ) (steps : List Step) → JobAt
   -- its end with its code: the purge, and the posts
   Purging : (hand : Hand) (code : ℕ) → JobAt
-  Ending : (post : EndPost) (code : ℕ) (counts : Counts) → JobAt
+  Ending : (post : EndPost) (code : ℕ) (counts : Purged) → JobAt
 
 -- what it has in hand there
 abbrev pub hand_at : JobAt → Hand
@@ -386,7 +386,7 @@ on_purged run code (Reply.Latch (LatchReply.Purged removed granted)) =
 on_purged run code r = Astray
 
 -- the post of a done block that starts its exit is followed by those of the exit
-abbrev pub on_ended : Running → ℕ → Counts → Reply → Point InitiatorAt
+abbrev pub on_ended : Running → ℕ → Purged → Reply → Point InitiatorAt
 on_ended run code counts (Reply.Ecb (EcbReply.Woke (suc x))) = At (InJob run (Ending ForScheduler code counts))
 on_ended run code counts r = on_posted (rounds_after run) r
 
@@ -518,7 +518,7 @@ module _ (P : Point InitiatorAt → Type 0) (lost : P Astray) where
   counting_lands run hand volume amount steps number next = grind (arith, common_steps)
 
   -- behind the post of a done block, which starts its exit or not
-  pub ended_lands : (run : Running) (code : ℕ) (counts : Counts) (r : Reply) → P (At (InJob run (Ending ForScheduler code counts)))
+  pub ended_lands : (run : Running) (code : ℕ) (counts : Purged) (r : Reply) → P (At (InJob run (Ending ForScheduler code counts)))
       → P (rounds_after run) → P (on_ended run code counts r)
   ended_lands run code counts r starts ends = search rules
 

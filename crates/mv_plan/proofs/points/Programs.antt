@@ -2,7 +2,7 @@
 -- holds of each point that may follow holds of the one that does. The reader's and the writer's programs go from point to point; where
 -- these two may stand, and what the writer keeps. Used by Following.
 use Rattle.mv_plan.proofs.Words.{ℕ, suc, ◌+◌, ◌-◌, List, [], ◌∷◌, ◌++◌, length, map, false, Option, Some, Result, Ok, ◌==◌, if◌then◌else◌}
-use Rattle.mv_plan.proofs.Words.{range_with_len, Ecb, Element, Volume, Latches, Setup, with_at, JobData, Step, Kept, Counts, obtained}
+use Rattle.mv_plan.proofs.Words.{range_with_len, Ecb, Element, Volume, Latches, Setup, with_at, JobData, Step, Kept, Purged, obtained}
 use Rattle.mv_plan.proofs.Words.{token_of, closed, release, deallocate, pause, PostAnswer, Woke, post, post_within, each_posted, wake_posted}
 use Rattle.mv_plan.proofs.Words.{Program, Do, Done, Early, Wrong, Call, and_then, going_on, unrefused, finished, on_ecb, on_element}
 use Rattle.mv_plan.proofs.Words.{on_latch, followed, accepted, Refusal, entered, end_for_scheduler, end_for_writer, idle, initiator, lowest}
@@ -123,7 +123,7 @@ given_later c deck i more before gift = if gift.code == 0 then accepted (dealloc
     followed (run_job c deck named) (λ counts. rounds c deck i more (before ++ named.job ∷ []) gift.next))
 
 -- what is left of a job's end, and then the rounds that are left
-abbrev pub ending : Setup → List JobData → ℕ → Running → Kept → Program Counts → Program (List ℕ)
+abbrev pub ending : Setup → List JobData → ℕ → Running → Kept → Program Purged → Program (List ℕ)
 ending c deck i run kept p = going_on kept p (λ counts. rounds_later c deck i run.more (run.before ++ run.job ∷ []) run.generation)
 
 -- what is left of a job's steps, and then its end

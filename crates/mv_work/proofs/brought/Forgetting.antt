@@ -8,7 +8,8 @@ use Rattle.mv_machine.specs.Setup.{Setup}
 use Rattle.mv_machine.specs.System.{with_at}
 use Rattle.mv_calls.specs.Endings.{end_of_job}
 use Rattle.mv_calls.specs.Keeping.{Kept, kept_after}
-use Rattle.mv_calls.specs.LatchCalls.{Requested, GrantedAs, PendingAs, Counts, obtain, release_latch}
+use Rattle.mv_calls.specs.LatchCalls.{Requested, GrantedAs, PendingAs, obtain, release_latch}
+use Rattle.mv_calls.specs.declared.outcomes.Purged.{Purged}
 use Rattle.mv_calls.specs.Pauses.{Gift, allocate, pause, deallocate}
 use Rattle.mv_calls.specs.Posts.{post}
 use Rattle.mv_calls.specs.Program.{Program, Do, Done, Early, Wrong, Heard, Says, left, Call, going_on, followed, accepted, finished, wrong}
@@ -114,7 +115,7 @@ module _ (c : Setup) (deck : List JobData) where
       → ((end : ℕ) (notes : List Noted) → f (record_of named.job end notes) ≡ later)
       → followed (job_noted c deck named) f ≡ followed (run_job c deck named) (λ counts. later)
   job_forgets named f later each =
-      let ends : ℕ → Call Counts = λ code. end_of_job c (named.job + 1) (done (length deck) named.job) code in
+      let ends : ℕ → Call Purged = λ code. end_of_job c (named.job + 1) (done (length deck) named.job) code in
       let noted : JobRecord → Call JobRecord = λ r. followed (ends r.end) (λ counts. finished r) in
       followed-assoc (all_steps_noted c (job_at deck named.job) named.job named.skipped) noted f
       ∙ all_steps_forget c named.job (λ r. followed (noted r) f) (λ code. followed (ends code) (λ counts. later))

@@ -3,7 +3,6 @@ use Rattle.mv_latch.specs.declared.operation.LatchOp.TheVariants.{Purge}
 use Rattle.mv_machine.specs.declared.entry.Object.TheVariants.{Latches}
 use Rattle.mv_machine.specs.declared.entry.Op.TheVariants as op_on
 use Rattle.mv_board.specs.Faces.{Happened}
-use Rattle.mv_latchset.specs.Answers.{counts_of}
 use Rattle.mv_latchset.specs.Replies.{purge_reply}
 use Rattle.mv_latchset.proofs.Admits.{may_purge}
 use Rattle.mv_latchset.proofs.Answering.{fair_wakes, says_purged}
@@ -52,7 +51,7 @@ returns g c =
     c.event-reply.ensures.possible in
     let few = c.event-reply.ensures.few in
     let left = c.requires.task.left in record {
-      served = purge_served s c.args.requestor (λ a. a ≡ counts_of p) t v c.post_wakes.new.task p.removed p.granted
+      served = purge_served s c.args.requestor (λ a. a ≡ p) t v c.post_wakes.new.task p.removed p.granted
           (subst (λ r. Happened t Latches (op_on.Latch (Purge c.args.requestor)) r v) c.purged_in-purged.ensures
           c.event-reply.ensures.event)
           c.post_wakes.ensures.posted (fair.cost (omega arith)) c.requires.task.rest c.post_wakes.ensures.rest refl;

@@ -3,7 +3,6 @@ use Rattle.mv_machine.specs.Reach.{reach, release_cost}
 use Rattle.mv_calls.specs.Endings.{end_of_task, used_elements}
 use Rattle.mv_calls.specs.Services.{mother_events}
 use Rattle.mv_wait.specs.Run.{IsServed, keeps}
-use Rattle.mv_latchset.specs.Answers.{counts_of}
 use Rattle.mv_task.proofs.Ends.{mother_served, orphan_served, left_behind, still_of}
 use Rattle.mv_task.proofs.ending.end_of_task.Goals as goal
 
@@ -39,8 +38,8 @@ returns-in-Some g c =
     let t = a.task.now in
     let u = c.end_of_job.new.task in record {
       served = subst (λ (m : Option ℕ). IsServed (length (used_elements s (keeps t)) + release_cost s + mother_events s m)
-          (end_of_task s a.requestor m a.code) (λ x. x ≡ counts_of c.end_of_job.result) t u) (sym c.in-Some.is)
-          (mother_served s a.requestor a.code (λ x. x ≡ counts_of c.end_of_job.result) t c.give_back_all.new.task u c.in-Some.ecb
+          (end_of_task s a.requestor m a.code) (λ x. x ≡ c.end_of_job.result) t u) (sym c.in-Some.is)
+          (mother_served s a.requestor a.code (λ x. x ≡ c.end_of_job.result) t c.give_back_all.new.task u c.in-Some.ecb
           c.give_back_all.ensures.closed c.requires.task.rest c.end_of_job.ensures.served);
     }
 
@@ -51,7 +50,7 @@ returns-in-None g c =
     let t = a.task.now in
     let u = c.purge.new.task in record {
       served = subst (λ (m : Option ℕ). IsServed (length (used_elements s (keeps t)) + release_cost s + mother_events s m)
-          (end_of_task s a.requestor m a.code) (λ x. x ≡ counts_of c.purge.result) t u) (sym c.in-None.is)
-          (orphan_served s a.requestor a.code (λ x. x ≡ counts_of c.purge.result) t c.give_back_all.new.task u
+          (end_of_task s a.requestor m a.code) (λ x. x ≡ c.purge.result) t u) (sym c.in-None.is)
+          (orphan_served s a.requestor a.code (λ x. x ≡ c.purge.result) t c.give_back_all.new.task u
           c.give_back_all.ensures.closed c.requires.task.rest c.purge.ensures.served);
     }
