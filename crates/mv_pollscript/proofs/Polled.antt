@@ -21,7 +21,7 @@ use Rattle.mv_script.specs.declared.answer.Answer.{Answer}
 use Rattle.mv_script.specs.declared.call.Call.{Call}
 use Rattle.mv_script.specs.declared.call.Call.TheVariants as call
 use Rattle.mv_runscript.specs.Making.{AreOfLatches, IsForScripts, MakesCall, token_in}
-use Rattle.mv_runscript.specs.Served.{Serves}
+use Rattle.mv_runscript.specs.Served.{MakesService}
 use Rattle.mv_runscript.proofs.Makes.{known_makes, plain_makes}
 use Rattle.mv_runscript.proofs.Obtains.{latch_low, requests_more, tokens_more}
 use Rattle.mv_pollscript.specs.Task.{IsTaskAt, Stands}
@@ -58,7 +58,7 @@ module _ (b : BoardFace) (table : Option Table) (calls : List Call) (k : ℕ) (p
   -- ---- a WAIT
 
   pub wait_ends : (w : WaitFace) (a : Answer) → p.stage ≡ stage.Waits w
-      → Serves b.config (service.Wait w.count w.ecbs) a at.between q.task → q.requests.items ≡ p.requests.items
+      → MakesService b.config (service.Wait w.count w.ecbs) a at.between q.task → q.requests.items ≡ p.requests.items
       → q.answers.items ≡ p.answers.items ++ a ∷ [] → q.stage ≡ stage.Between → IsTaskAt b table calls k q
   wait_ends w a is serves requests answers between =
       let d = call.Wait w.count w.ecbs in
@@ -77,7 +77,7 @@ module _ (b : BoardFace) (table : Option Table) (calls : List Call) (k : ℕ) (p
   -- ---- a PAUSE
 
   pub pause_ends : (w : PauseFace) (a : Answer) → p.stage ≡ stage.Pauses w
-      → Serves b.config (service.Pause w.token) a at.between q.task → q.requests.items ≡ p.requests.items
+      → MakesService b.config (service.Pause w.token) a at.between q.task → q.requests.items ≡ p.requests.items
       → q.answers.items ≡ p.answers.items ++ a ∷ [] → q.stage ≡ stage.Between → IsTaskAt b table calls k q
   pause_ends w a is serves requests answers between =
       let d = call.Pause w.token in

@@ -6,7 +6,7 @@ ghost use Rattle.mv_calls.specs.Services as service;
 ghost use Rattle.mv_polled.specs.Pausing.{IsPauseAt};
 ghost use Rattle.mv_polled.specs.Waiting.{IsWaitAt};
 ghost use Rattle.mv_pollscript.specs.Polls.{IfAnswered, IfSettled};
-ghost use Rattle.mv_runscript.specs.Served.{Serves};
+ghost use Rattle.mv_runscript.specs.Served.{MakesService};
 
 use mv_io::NoMemory;
 use mv_polled::{PauseCall, Turn, WaitCall};
@@ -32,7 +32,7 @@ pub(crate) fn poll_wait<R: Wait>(
     requires stage { (t : CallerFace) × IsWaitAt station.now.config call.old t task.old }
     ensures call { (call.new.count ≡ call.old.count) × (call.new.ecbs ≡ call.old.ecbs) }
     ensures turn { (t : CallerFace) → IsWaitAt station.now.config call.old t task.old → IfAnswered result
-        (λ a. Serves station.now.config (service.Wait call.old.count call.old.ecbs) a t task.new)
+        (λ a. MakesService station.now.config (service.Wait call.old.count call.old.ecbs) a t task.new)
         (IsWaitAt station.now.config call.new t task.new) }
 {
     match call.poll(station, rt, task) {
@@ -56,7 +56,7 @@ pub(crate) fn poll_pause<R: Wait>(
     requires stage { (t : CallerFace) × IsPauseAt station.now.config call.old t task.old }
     ensures call { call.new.token ≡ call.old.token }
     ensures turn { (t : CallerFace) → IsPauseAt station.now.config call.old t task.old → IfSettled result
-        (λ a. Serves station.now.config (service.Pause call.old.token) a t task.new)
+        (λ a. MakesService station.now.config (service.Pause call.old.token) a t task.new)
         (IsPauseAt station.now.config call.new t task.new) }
 {
     match call.poll(station, rt, task) {

@@ -27,7 +27,7 @@ use Rattle.mv_script.specs.Script.{is_obtain}
 use Rattle.mv_script.specs.Tasks.{Past, request_of, lacks_request, requests_with, served, named_table, made}
 use Rattle.mv_script.proofs.Suffices.{suffices}
 use Rattle.mv_runscript.specs.Making.{asked_by, requests_of, past_with, HasMet, MakesCall}
-use Rattle.mv_runscript.specs.Served.{Serves}
+use Rattle.mv_runscript.specs.Served.{MakesService}
 use Rattle.mv_runscript.proofs.Answers.{no_word, keeps_requests}
 use Rattle.mv_runscript.proofs.Served.{served_so, served_none, served_then}
 
@@ -87,14 +87,14 @@ known_makes {c} {table} {d} {reply} {old} {new} {t} {u} {a} has is x more =
 
 -- a call that is no OBTAIN and lacks none
 keeps : {c : Setup} {table : Option Table} {d : Call} {reply : Answer} {tokens : List (Option LatchToken)} {t u : CallerFace}
-    → lacks_request (requests_of tokens) (obtain_meant d) ≡ false → is_obtain d ≡ false → Serves c (asks table d tokens) reply t u
+    → lacks_request (requests_of tokens) (obtain_meant d) ≡ false → is_obtain d ≡ false → MakesService c (asks table d tokens) reply t u
     → MakesCall c table d reply tokens tokens t u
 keeps {c} {table} {d} {reply} {tokens} {t} {u} has other x =
     makes has x x.is (keeps_requests (named_table table) (requests_of tokens) (request_of (requests_of tokens)) d x.answer other)
 
 -- a call that is no OBTAIN and means none
 pub plain_makes : {c : Setup} {table : Option Table} {e : Call} (d : Call) {reply : Answer} {tokens : List (Option LatchToken)}
-    {t u : CallerFace} → e ≡ d → is_obtain d ≡ false → obtain_meant d ≡ None → Serves c (asks table d tokens) reply t u → MakesCall c
+    {t u : CallerFace} → e ≡ d → is_obtain d ≡ false → obtain_meant d ≡ None → MakesService c (asks table d tokens) reply t u → MakesCall c
     table e reply tokens tokens t u
 plain_makes {c} {table} {e} d {reply} {tokens} {t} {u} same other none x =
     subst (λ d. MakesCall c table d reply tokens tokens t u) (sym same) (keeps (ap (lacks_request (requests_of tokens)) none) other x)
@@ -119,9 +119,9 @@ module _ (c : Setup) (table : Option Table) (d : Call) (k : ℕ) (tokens : List 
   -- which got this request, of which a service is asked
   pub held_makes : (of : Asked → Service) (token : LatchToken) (reply : Answer) (u : CallerFace)
       → asks table d tokens ≡ of (request_of (requests_of tokens) k) → get_or tokens (k - 1) None ≡ Some token → is_obtain d ≡ false
-      → Serves c (of (asked_by token)) reply t u → MakesCall c table d reply tokens tokens t u
+      → MakesService c (of (asked_by token)) reply t u → MakesCall c table d reply tokens tokens t u
   held_makes of token reply u asked is other x =
-      keeps (lacks_as (Some token) is) other (subst (λ s. Serves c s reply t u) (ap of (sym held) ∙ sym asked) x) where
+      keeps (lacks_as (Some token) is) other (subst (λ s. MakesService c s reply t u) (ap of (sym held) ∙ sym asked) x) where
         held : request_of (requests_of tokens) k ≡ asked_by token
         held = ap (λ o. unwrap_or o (record { latch = 0; id = 0 }))
             (request_is tokens (k - 1) ∙ ap (λ o. option_map asked_by o) is)

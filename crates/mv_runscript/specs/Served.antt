@@ -10,5 +10,5 @@ use Rattle.mv_script.specs.declared.answer.Answer.{Answer}
 use Rattle.mv_script.specs.Answered.{answer_to}
 
 -- the task has made this service, and a call that uses it has this answer
-abbrev pub Serves : Setup → Service → Answer → CallerFace → CallerFace → Type 0
-Serves c s answer t u = IsServed (most_events c (kept_of t.number t.log) s) (service.program c s) (λ a. answer_to s a ≡ answer) t u
+abbrev pub MakesService : Setup → Service → Answer → CallerFace → CallerFace → Type 0
+MakesService c s answer t u = IsServed (most_events c (kept_of t.number t.log) s) (service.program c s) (λ a. answer_to s a ≡ answer) t u

@@ -8,7 +8,7 @@ ghost use Rattle.mv_calls.specs.Services as service;
 ghost use Rattle.mv_script.specs.declared.call.Call.TheVariants as call;
 ghost use Rattle.mv_script.specs.Prelude.{cost, obtain_meant, event_count, position_count, is_obtain, IfThere, named_table};
 ghost use Rattle.mv_runscript.specs.Making.{MakesCall, AreOfLatches, IsForScripts, is_wait, AreGoodIn};
-ghost use Rattle.mv_runscript.specs.Served.{Serves};
+ghost use Rattle.mv_runscript.specs.Served.{MakesService};
 
 use crate::answered::{
     allocated, cleared, deallocated, entered, extended, freed, handed_out, paused, posted, purged,
@@ -37,7 +37,7 @@ pub(crate) fn wait_in<R: Wait + Clock>(
     requires task { MayCall station.now (2 * length ecbs.now) task.old }
     requires blocks { AllByRecursion (λ e. e < length station.now.config.owners) ecbs.now }
     requires room { length ecbs.now ≤ length room }
-    ensures { Serves station.now.config (service.Wait count ecbs.now) result task.old task.new }
+    ensures { MakesService station.now.config (service.Wait count ecbs.now) result task.old task.new }
 {
     let Slots { mut slots } = room;
     slots.truncate(ecbs.len());
@@ -117,7 +117,7 @@ fn event_posted<R: Wait + Clock>(
     requires task { MayCall station.now (6 + release_cost station.now.config) task.old }
     requires index { index < event_count table.now }
     requires code { code < code_limit }
-    ensures { Serves station.now.config (service.PostEvent (named_table table.now) index code) result task.old task.new }
+    ensures { MakesService station.now.config (service.PostEvent (named_table table.now) index code) result task.old task.new }
 {
     match table {
         Some(table) => entered(post_event(station, rt, task, table, index, code)),
@@ -136,7 +136,7 @@ fn event_taken<R: Wait + Clock>(
     requires table { IfThere (IsSoundTable station.now.config) table.now }
     requires task { MayCall station.now 3 task.old }
     requires position { position < position_count table.now }
-    ensures { Serves station.now.config (service.NextEvent (named_table table.now) position) result task.old task.new }
+    ensures { MakesService station.now.config (service.NextEvent (named_table table.now) position) result task.old task.new }
 {
     match table {
         Some(table) => handed_out(next_event(station, rt, task, table, position)),

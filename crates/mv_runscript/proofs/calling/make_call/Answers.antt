@@ -10,7 +10,7 @@ use Rattle.mv_script.specs.declared.call.Call.TheVariants as call
 use Rattle.mv_script.specs.Limits.{most_waited}
 use Rattle.mv_script.specs.Script.{is_obtain}
 use Rattle.mv_runscript.specs.Making.{AreGoodIn, HaveSlots, MakesCall, is_wait}
-use Rattle.mv_runscript.specs.Served.{Serves}
+use Rattle.mv_runscript.specs.Served.{MakesService}
 use Rattle.mv_runscript.proofs.Makes.{may_paid, known_makes, plain_makes}
 use Rattle.mv_runscript.proofs.Obtains.{latch_low, posts_there, requests_more, tokens_more}
 use Rattle.mv_runscript.proofs.calling.make_call.Goals as goal
@@ -41,7 +41,7 @@ pub returns-in-Some-clause-makes : goal.returns-in-Some-clause-makes
 returns-in-Some-clause-makes g c =
     let count = c.in-Wait.count in
     plain_makes (call.Wait count c.in-Wait.ecbs) c.in-Wait.is refl refl
-    (subst (λ (es : List ℕ). Serves c.args.station.now.config (service.Wait count es) c.wait_in.result c.args.task.now c.wait_in.new.task)
+    (subst (λ (es : List ℕ). MakesService c.args.station.now.config (service.Wait count es) c.wait_in.result c.args.task.now c.wait_in.new.task)
     (c.deref.ensures.value ∙ c.ecbs.view_is) c.wait_in.ensures)
 
 pub returns-in-Some-clause-count : goal.returns-in-Some-clause-count

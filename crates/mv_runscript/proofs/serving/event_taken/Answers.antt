@@ -2,12 +2,12 @@ use Rattle.std.proofs.Common.{Option, sym, subst}
 use Rattle.mv_calls.specs.declared.table.Table.{Table}
 use Rattle.mv_calls.specs.Services as service
 use Rattle.mv_script.specs.Tasks.{named_table}
-use Rattle.mv_runscript.specs.Served.{Serves}
+use Rattle.mv_runscript.specs.Served.{MakesService}
 use Rattle.mv_runscript.proofs.Served.{served_with}
 use Rattle.mv_runscript.proofs.serving.event_taken.Goals as goal
 
 pub returns : goal.returns
 returns g c =
-    subst (λ (o : Option Table). Serves c.args.station.now.config (service.NextEvent (named_table o) c.args.position)
+    subst (λ (o : Option Table). MakesService c.args.station.now.config (service.NextEvent (named_table o) c.args.position)
     c.handed_out.result c.args.task.now c.next_event.new.task) (sym c.in-Some.is)
     (served_with c.handed_out.ensures c.next_event.ensures.served)

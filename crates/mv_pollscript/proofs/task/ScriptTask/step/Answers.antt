@@ -2,7 +2,7 @@ use Rattle.std.proofs.Common.{refl, sym, ◌∙◌, subst}
 use Rattle.mv_board.specs.Faces.{CallerFace}
 use Rattle.mv_calls.specs.Services as service
 use Rattle.mv_polled.specs.Obtaining.{IsObtained}
-use Rattle.mv_runscript.specs.Served.{Serves}
+use Rattle.mv_runscript.specs.Served.{MakesService}
 use Rattle.mv_pollscript.specs.declared.task.Stage.TheVariants as stage
 use Rattle.mv_pollscript.proofs.Polled.{obtain_again, obtain_ends, obtain_left, on_ok_all, pause_ends, pause_left, stands_in, wait_ends, wait_left}
 use Rattle.mv_pollscript.proofs.Tasks.{own_task}
@@ -30,7 +30,7 @@ returns-in-Some g c = record {
       let turn = rw c.in-Some.is at
       (c.in_ok-answer-in-Waits.ensures.turn at.between (stands_in b table calls k p p at (stage.Waits w) c.in-Waits.is).1) in
       wait_ends b table calls k p q at w a c.in-Waits.is
-      (subst (λ (u : CallerFace). Serves b.config (service.Wait w.count w.ecbs) a at.between u) (sym task) turn) requests answers between);
+      (subst (λ (u : CallerFace). MakesService b.config (service.Wait w.count w.ecbs) a at.between u) (sym task) turn) requests answers between);
 }
 
 -- ---- a PAUSE
@@ -50,7 +50,7 @@ returns-in-Some-poll_pause g c = record {
       (λ task requests answers between k at.
       let turn = c.in-Some-poll_pause.ensures.turn at.between (stands_in b table calls k p p at (stage.Pauses w) c.in-Pauses.is).1 in
       pause_ends b table calls k p q at w a c.in-Pauses.is
-      (subst (λ (u : CallerFace). Serves b.config (service.Pause w.token) a at.between u) (sym task) turn) requests answers between);
+      (subst (λ (u : CallerFace). MakesService b.config (service.Pause w.token) a at.between u) (sym task) turn) requests answers between);
 }
 
 -- ---- an OBTAIN
