@@ -6,7 +6,8 @@ use Rattle.mv_element.specs.declared.operation.ElementReply.TheVariants as eleme
 use Rattle.mv_machine.specs.declared.entry.Entry.{Entry}
 use Rattle.mv_machine.specs.Legal.{Legal}
 use Rattle.mv_calls.specs.Keeping.{kept_of}
-use Rattle.mv_calls.specs.Pauses.{CameEarly, WokeIt, token_of}
+use Rattle.mv_calls.specs.declared.outcomes.ReleaseAnswer.TheVariants as release_answer
+use Rattle.mv_calls.specs.Pauses.{token_of}
 use Rattle.mv_calls.specs.Program.{Early, left, noted}
 use Rattle.mv_calls.specs.Refusal as refusal
 use Rattle.mv_calls.specs.Services.{program, Allocate, Pause, Release, TryRelease, Transfer, Deallocate, TestElement}
@@ -27,11 +28,11 @@ lost_code : IsRow (one_task [] []) 0
     )
     (
     does Allocate 1 (Ok (token_of 0 0))
-    ∷ does (Release (token_of 0 0) 16777215) 1 (Ok CameEarly)
+    ∷ does (Release (token_of 0 0) 16777215) 1 (Ok release_answer.Early)
     ∷ does (Pause (token_of 0 0)) 1 (Ok (record { code = 16777215; next = token_of 0 1 }))
     ∷ does (Pause (token_of 0 0)) 1 (Err (refusal.Spent 1))
     ∷ does Allocate 1 (Ok (token_of 1 0))
-    ∷ does (Release (token_of 1 0) 4) 1 (Ok CameEarly)
+    ∷ does (Release (token_of 1 0) 4) 1 (Ok release_answer.Early)
     ∷ does (Deallocate (token_of 1 0)) 1 (Ok tt)
     ∷ does (Release (token_of 1 0) 4) 1 (Err (refusal.Spent 1))
     ∷ []
@@ -51,7 +52,7 @@ released_twice =
 releases : IsRow (one_task [] []) 0 released_twice
     (
     does Allocate 1 (Ok (token_of 0 0))
-    ∷ does (Release (token_of 0 0) 5) 1 (Ok CameEarly)
+    ∷ does (Release (token_of 0 0) 5) 1 (Ok release_answer.Early)
     ∷ does (Release (token_of 0 0) 6) 1 (Err refusal.Already)
     ∷ does (Pause (token_of 0 0)) 1 (Ok (record { code = 5; next = token_of 0 1 }))
     ∷ []
@@ -62,7 +63,7 @@ releases = row refl refl
 tried_releases : IsRow (one_task [] []) 0 released_twice
     (
     does Allocate 1 (Ok (token_of 0 0))
-    ∷ does (TryRelease (token_of 0 0) 35184388866048 5) 1 (Ok CameEarly)
+    ∷ does (TryRelease (token_of 0 0) 35184388866048 5) 1 (Ok release_answer.Early)
     ∷ does (TryRelease (token_of 0 0) 70368777732101 6) 1 (Err refusal.Already)
     ∷ does (Pause (token_of 0 0)) 1 (Ok (record { code = 5; next = token_of 0 1 }))
     ∷ []
@@ -156,7 +157,7 @@ paused_of_0 = row refl refl
 
 paused_of_1 : IsRow (two_tasks [] []) 1 paused_log
     (
-    does (Release (token_of 0 0) 9) 1 (Ok WokeIt)
+    does (Release (token_of 0 0) 9) 1 (Ok release_answer.Woke)
     ∷ does (Pause (token_of 0 0)) 0 (Err refusal.NotOwner)
     ∷ does (Transfer (Some (token_of 0 0)) (token_of 0 0) 1) 0 (Err refusal.NotOwner)
     ∷ does (Deallocate (token_of 0 0)) 0 (Err refusal.NotOwner)
@@ -181,7 +182,7 @@ transferred_of_0 : IsRow (two_tasks [] []) 0 transferred_log
     (
     does Allocate 1 (Ok (token_of 0 0))
     ∷ does (Pause (token_of 0 0)) 2 (Ok (record { code = 7; next = token_of 0 1 }))
-    ∷ does (Release (token_of 4 0) 8) 1 (Ok WokeIt)
+    ∷ does (Release (token_of 4 0) 8) 1 (Ok release_answer.Woke)
     ∷ []
     )
 transferred_of_0 = row refl refl

@@ -21,7 +21,7 @@ use Rattle.mv_calls.specs.Endings as endings
 use Rattle.mv_calls.specs.Keeping.{Kept}
 use Rattle.mv_calls.specs.LatchCalls as latches
 use Rattle.mv_calls.specs.Pauses as pauses
-use Rattle.mv_calls.specs.Pauses.{Gift}
+use Rattle.mv_calls.specs.declared.outcomes.Given.{Given}
 use Rattle.mv_calls.specs.Posts as posts
 use Rattle.mv_calls.specs.Program.{Program, Do, Done, Early, Wrong, Heard, heard, on_ecb, on_element, on_volume, on_latch}
 use Rattle.mv_calls.specs.Program.{unless_refused}
@@ -78,7 +78,7 @@ resumed_ends n (reply_of.Element element_reply.NotYet) = tt
 resumed_ends n r = tt
 
 -- behind a pause: the resume, which is the last event, where it parked
-pub by_pause : (P : Program (Result Gift Refusal) → Type 0) → HoldsAtEnds P → (n g : ℕ)
+pub by_pause : (P : Program (Result Given Refusal) → Type 0) → HoldsAtEnds P → (n g : ℕ)
     → (HasOneEvent (Do (Element n) (op_on.Element (element_op.Resume g)) (λ h. on_element h.entry.reply (pauses.resumed n)))
     → P (Do (Element n) (op_on.Element (element_op.Resume g)) (λ h. on_element h.entry.reply (pauses.resumed n))))
     → (r : Reply) → P (on_element r (pauses.paused n g))
@@ -88,7 +88,7 @@ by_pause P ends n g rest (reply_of.Element (element_reply.Spent now)) = ends _ t
 by_pause P ends n g rest r = ends Wrong tt
 
 -- the end of a transfer with a current token
-pub gave_ends : (answer : Result Gift Refusal) → HasNoEvent (pauses.gave answer)
+pub gave_ends : (answer : Result Given Refusal) → HasNoEvent (pauses.gave answer)
 gave_ends (Ok gift) = tt
 gave_ends answer = tt
 

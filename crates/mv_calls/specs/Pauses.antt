@@ -11,22 +11,15 @@ use Rattle.mv_machine.specs.declared.entry.Reply.{Reply}
 use Rattle.mv_machine.specs.declared.entry.Reply.TheVariants as reply_of
 use Rattle.mv_machine.specs.Check.{or_else}
 use Rattle.mv_machine.specs.Setup.{Setup, element_owner, own_elements}
+use Rattle.mv_calls.specs.declared.outcomes.Given.{Given}
+use Rattle.mv_calls.specs.declared.outcomes.ReleaseAnswer.{ReleaseAnswer}
+use Rattle.mv_calls.specs.declared.outcomes.ReleaseAnswer.TheVariants as release_answer
 use Rattle.mv_calls.specs.Keeping.{Kept}
 use Rattle.mv_calls.specs.Posts.{tried}
 use Rattle.mv_calls.specs.Program.{Program, Do, Done, Early, Wrong, Call, and_then, on_element, unless_refused}
 use Rattle.mv_calls.specs.Refusal.{Refusal}
 use Rattle.mv_calls.specs.Refusal as refusal
 use Rattle.mv_calls.specs.Waits.{refused_if}
-
--- what a pause gives: the release code, and the token of the next pause
-pub record Gift : Type 0 where
-  pub code : ℕ
-  pub next : Token
-
--- the outcome of a release: it came before its pause, or woke it
-pub data Reached : Type 0 where
-  CameEarly : Reached
-  WokeIt : Reached
 
 -- the token of this generation of an element
 abbrev pub token_of : ℕ → ℕ → Token
@@ -59,24 +52,24 @@ abbrev pub is_others_token : Setup → Kept → Token → Bool
 is_others_token c kept t = not (element_owner c t.element == kept.caller)
 
 -- the code that a pause of element n was given, and the token of its next pause
-abbrev pub gift_of : ℕ → ℕ → ℕ → Gift
+abbrev pub gift_of : ℕ → ℕ → ℕ → Given
 gift_of n code next = record { code = code; next = token_of n next }
 
 -- the rest of a pause after its resume: a resume without a code has ended the wait too soon
-abbrev pub resumed : ℕ → ElementReply → Program (Result Gift Refusal)
+abbrev pub resumed : ℕ → ElementReply → Program (Result Given Refusal)
 resumed n (element_reply.Given code next) = Done (Ok (gift_of n code next))
 resumed n element_reply.NotYet = Early
 resumed n reply = Wrong
 
 -- the rest of a pause of generation g after its reply
-abbrev pub paused : ℕ → ℕ → ElementReply → Program (Result Gift Refusal)
+abbrev pub paused : ℕ → ℕ → ElementReply → Program (Result Given Refusal)
 paused n g (element_reply.Given code next) = Done (Ok (gift_of n code next))
 paused n g element_reply.Parked = Do (Element n) (op_on.Element (element_op.Resume g)) (λ h. on_element h.entry.reply (resumed n))
 paused n g (element_reply.Spent now) = Done (Err (refusal.Spent now))
 paused n g reply = Wrong
 
 -- pause: a code that was kept is given at once; otherwise the task parks, and is given a code when it resumes
-abbrev pub pause : Setup → Token → Call (Result Gift Refusal)
+abbrev pub pause : Setup → Token → Call (Result Given Refusal)
 pause c t kept =
     unless_refused (refused_if (is_others_token c kept t) refusal.NotOwner)
     (Do (Element t.element) (op_on.Element (element_op.Pause t.generation))
@@ -85,15 +78,15 @@ pause c t kept =
 -- ---- release
 
 -- the rest of a release after its reply
-abbrev pub released : ElementReply → Program (Result Reached Refusal)
-released element_reply.Early = Done (Ok CameEarly)
-released element_reply.Woke = Done (Ok WokeIt)
+abbrev pub released : ElementReply → Program (Result ReleaseAnswer Refusal)
+released element_reply.Early = Done (Ok release_answer.Early)
+released element_reply.Woke = Done (Ok release_answer.Woke)
 released (element_reply.Spent g) = Done (Err (refusal.Spent g))
 released element_reply.Already = Done (Err refusal.Already)
 released reply = Wrong
 
 -- release: gives the pause of this token a code
-abbrev pub release : Token → ℕ → Call (Result Reached Refusal)
+abbrev pub release : Token → ℕ → Call (Result ReleaseAnswer Refusal)
 release t code kept = Do (Element t.element) (op_on.Element (element_op.Release t.generation code))
     (λ h. on_element h.entry.reply released)
 
@@ -111,7 +104,7 @@ same_release_reply (reply_of.Element x) (reply_of.Element y) = same_release x y
 same_release_reply x y = false
 
 -- try release: makes one release, which has to find the element as expected
-abbrev pub try_release : Token → ℕ → ℕ → Call (Result Reached Refusal)
+abbrev pub try_release : Token → ℕ → ℕ → Call (Result ReleaseAnswer Refusal)
 try_release t expected code kept = tried same_release_reply (Element t.element) (op_on.Element (element_op.Release t.generation code))
     expected (λ r. on_element r released)
 
@@ -127,17 +120,17 @@ transfer_refusal c (Some t) kept =
     (refusal.Spent (kept.generation t.element)))
 
 -- the rest of a transfer after its pause: a pause after the target's release is not refused
-abbrev pub gave : Result Gift Refusal → Program (Result (Option Gift) Refusal)
+abbrev pub gave : Result Given Refusal → Program (Result (Option Given) Refusal)
 gave (Ok gift) = Done (Ok (Some gift))
 gave (Err why) = Wrong
 
 -- the pause of a transfer, if there is a current token
-abbrev pub pause_current : Setup → Option Token → Kept → Program (Result (Option Gift) Refusal)
+abbrev pub pause_current : Setup → Option Token → Kept → Program (Result (Option Given) Refusal)
 pause_current c None kept = Done (Ok None)
 pause_current c (Some t) kept = and_then (pause c t kept) gave
 
 -- the rest of a transfer after the reply to the target's release
-abbrev pub transferred : Setup → Option Token → Kept → ElementReply → Program (Result (Option Gift) Refusal)
+abbrev pub transferred : Setup → Option Token → Kept → ElementReply → Program (Result (Option Given) Refusal)
 transferred c current kept element_reply.Early = pause_current c current kept
 transferred c current kept element_reply.Woke = pause_current c current kept
 transferred c current kept (element_reply.Spent g) = Done (Err (refusal.TargetSpent g))
@@ -145,7 +138,7 @@ transferred c current kept element_reply.Already = Done (Err refusal.TargetAlrea
 transferred c current kept reply = Wrong
 
 -- transfer: releases the target, and then pauses with the current token, if there is one
-abbrev pub transfer : Setup → Option Token → Token → ℕ → Call (Result (Option Gift) Refusal)
+abbrev pub transfer : Setup → Option Token → Token → ℕ → Call (Result (Option Given) Refusal)
 transfer c current target code kept =
     unless_refused (transfer_refusal c current kept)
     (Do (Element target.element) (op_on.Element (element_op.Release target.generation code))

@@ -14,11 +14,12 @@ use Rattle.mv_calls.specs.Events as events
 use Rattle.mv_calls.specs.Events.{Entering, Finding}
 use Rattle.mv_calls.specs.Keeping.{Kept}
 use Rattle.mv_calls.specs.LatchCalls as latches
+use Rattle.mv_calls.specs.declared.outcomes.Given.{Given}
 use Rattle.mv_calls.specs.declared.outcomes.Purged.{Purged}
+use Rattle.mv_calls.specs.declared.outcomes.ReleaseAnswer.{ReleaseAnswer}
 use Rattle.mv_calls.specs.declared.outcomes.Standing.{Standing}
 use Rattle.mv_calls.specs.LatchCalls.{Requested}
 use Rattle.mv_calls.specs.Pauses as pauses
-use Rattle.mv_calls.specs.Pauses.{Gift, Reached}
 use Rattle.mv_calls.specs.Posts as posts
 use Rattle.mv_calls.specs.Program.{Call}
 use Rattle.mv_calls.specs.Refusal.{Refusal}
@@ -62,10 +63,10 @@ Answer (TestEcb block) = ℕ
 Answer (ReadVolume volume) = ℕ
 Answer (WriteVolume volume number) = Unit {0}
 Answer Allocate = Result Token Refusal
-Answer (Pause token) = Result Gift Refusal
-Answer (Release token code) = Result Reached Refusal
-Answer (TryRelease token expected code) = Result Reached Refusal
-Answer (Transfer current target code) = Result (Option Gift) Refusal
+Answer (Pause token) = Result Given Refusal
+Answer (Release token code) = Result ReleaseAnswer Refusal
+Answer (TryRelease token expected code) = Result ReleaseAnswer Refusal
+Answer (Transfer current target code) = Result (Option Given) Refusal
 Answer (Deallocate token) = Result (Unit {0}) Refusal
 Answer (TestElement element) = ElementState
 Answer (Obtain latch requestor mode form) = Result Requested Refusal

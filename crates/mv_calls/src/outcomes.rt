@@ -1,5 +1,7 @@
 //! Outcomes of calls. The programs of `specs/` return these values, and so do the functions of the crates that make the calls.
 
+use mv_element::Token;
+
 /// The outcome of a post.
 #[derive(Clone, Copy, Debug, PartialEq, Eq)]
 pub enum PostAnswer {
@@ -9,6 +11,23 @@ pub enum PostAnswer {
     Woke,
     /// The block was complete before with this code, which it keeps; the new code is dropped.
     Already(u32),
+}
+
+/// What a pause returns: the code with which it was released, and the token of the next pause.
+#[derive(Clone, Copy, Debug, PartialEq, Eq)]
+pub struct Given {
+    /// The release code, of three bytes.
+    pub code: u32,
+    pub next: Token,
+}
+
+/// The outcome of a release.
+#[derive(Clone, Copy, Debug, PartialEq, Eq)]
+pub enum ReleaseAnswer {
+    /// The release came before its pause, which will be given the code at once.
+    Early,
+    /// A task paused with the token, and was woken.
+    Woke,
 }
 
 /// The state of a request for a latch.

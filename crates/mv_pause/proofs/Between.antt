@@ -15,16 +15,15 @@ use Rattle.mv_machine.specs.Replies.{NamesUpTo}
 use Rattle.mv_machine.specs.Setup.{Setup, element_owner}
 use Rattle.mv_board.specs.Faces.{CallerFace, Happened, IsSame, is_given}
 use Rattle.mv_calls.specs.Keeping.{kept_of}
-use Rattle.mv_calls.specs.Pauses.{Gift, gift_of, paused, resumed, is_others_token}
+use Rattle.mv_calls.specs.Pauses.{gift_of, paused, resumed, is_others_token}
 use Rattle.mv_calls.specs.Program.{Done}
 use Rattle.mv_calls.specs.Rest.{no_waits, waits_from, waits_after}
 use Rattle.mv_wait.specs.Run.{Went, Runs}
 use Rattle.mv_wait.proofs.Runs.{same_then, went_log, went_none, went_then, runs_then}
 use Rattle.mv_wait.proofs.Steps.{element_runs, looked_runs, waits_one}
-use Rattle.mv_pause.specs.Answers.{gift_as}
 use Rattle.mv_pause.specs.Pausing.{pause_own, resume_own, IsPausedOwn, IsPauseMade, IsPausing, MayPause}
 use Rattle.mv_pause.specs.Replies.{HappenedOn, SaysGiven}
-use Rattle.mv_pause.specs.declared.pausing.Given.{Given}
+use Rattle.mv_calls.specs.declared.outcomes.Given.{Given}
 use Rattle.mv_pause.specs.declared.pausing.PauseRefusal.{PauseRefusal}
 use Rattle.mv_pause.proofs.Answering.{resume_gives, gives_next}
 use Rattle.mv_pause.proofs.Gifts.{was_given, given_is_so, made_own}
@@ -67,7 +66,7 @@ says_given r e = absurd (false≢true e)
 pub pausing_ends : (c : Setup) (token : Token) (t0 t u : CallerFace) (code next : ℕ) (result : Given) → IsPausing c token t0 t
     → Happened t (Element token.element) (op_on.Element (Resume token.generation)) (reply_of.Element (element_reply.Given code next)) u
     → IsPossible c u.number u.log u.told → NamesUpTo 262143 (reply_of.Element (element_reply.Given code next))
-    → gift_as result ≡ gift_of token.element code next
+    → result ≡ gift_of token.element code next
     → IsPausedOwn token t0 (Ok result) u
 pausing_ends c token t0 t u code next result p h possible low e =
     let n = token.element in
@@ -93,7 +92,7 @@ pausing_ends c token t0 t u code next result p h possible low e =
           (none_resumed (waits_from no_waits t0.log) n code next op resume p.may.rest);
       current = λ current. (result, refl);
       answer = given_is_so u token result code next e (was_given t u token resume code next h is) is;
-      low = (tt, subst (λ (z : Gift). z.next.generation ≤ 262143) (sym e) low);
+      low = (tt, subst (λ (z : Given). z.next.generation ≤ 262143) (sym e) low);
     }
 
 -- how a pause that is not refused begins: it is made, or goes on

@@ -10,16 +10,15 @@ use Rattle.mv_machine.specs.declared.entry.Reply.TheVariants as reply_of
 use Rattle.mv_machine.specs.Setup.{Setup}
 use Rattle.mv_board.specs.Faces.{CallerFace, Happened}
 use Rattle.mv_calls.specs.Keeping.{kept_of}
-use Rattle.mv_calls.specs.Pauses.{Gift, gift_of, pause, is_others_token}
+use Rattle.mv_calls.specs.Pauses.{gift_of, pause, is_others_token}
 use Rattle.mv_calls.specs.Refusal as refusal
 use Rattle.mv_calls.specs.Rest.{IsAtRest}
 use Rattle.mv_wait.proofs.Runs.{entry_of}
 use Rattle.mv_wait.proofs.Steps.{served_by, done_served}
 use Rattle.mv_pause.specs.Answers.{pause_answer}
-use Rattle.mv_pause.specs.Answers.{gift_as}
 use Rattle.mv_pause.specs.Pausing.{WasGiven, IsGiven, IsSpent, IsPauseCause, IsPausedOwn, IsPauseMade, pause_own}
 use Rattle.mv_pause.proofs.Served.{mine, others}
-use Rattle.mv_pause.specs.declared.pausing.Given.{Given}
+use Rattle.mv_calls.specs.declared.outcomes.Given.{Given}
 use Rattle.mv_pause.specs.declared.pausing.PauseRefusal.{PauseRefusal}
 use Rattle.mv_pause.specs.declared.pausing.PauseRefusal.TheVariants as refused
 
@@ -36,12 +35,12 @@ was_given t u token op code next h is = record {
 }
 
 -- what the call answers of it
-pub given_is_so : (u : CallerFace) (token : Token) (given : Given) (code next : ℕ) → gift_as given ≡ gift_of token.element code next
+pub given_is_so : (u : CallerFace) (token : Token) (given : Given) (code next : ℕ) → given ≡ gift_of token.element code next
     → WasGiven token code u.log → next ≡ token.generation + 1 → IsGiven token given u.log
 given_is_so u token given code next e was is = record {
-  was = subst (λ d. WasGiven token d u.log) (sym (ap (λ (z : Gift). z.code) e)) was;
-  element = ap (λ (z : Gift). z.next.element) e;
-  generation = ap (λ (z : Gift). z.next.generation) e ∙ is;
+  was = subst (λ d. WasGiven token d u.log) (sym (ap (λ (z : Given). z.code) e)) was;
+  element = ap (λ (z : Given). z.next.element) e;
+  generation = ap (λ (z : Given). z.next.generation) e ∙ is;
 }
 
 -- ---- why a pause is answered so

@@ -26,8 +26,8 @@ use Rattle.mv_wait.proofs.Runs.{entry_of}
 use Rattle.mv_wait.proofs.Steps.{still_at_rest}
 use Rattle.mv_pause.specs.Answers.{release_answer, IsLow}
 use Rattle.mv_pause.specs.Replies.{reply_to_release}
-use Rattle.mv_pause.specs.declared.releasing.ReleaseAnswer.{ReleaseAnswer}
-use Rattle.mv_pause.specs.declared.releasing.ReleaseAnswer.TheVariants as answer
+use Rattle.mv_calls.specs.declared.outcomes.ReleaseAnswer.{ReleaseAnswer}
+use Rattle.mv_calls.specs.declared.outcomes.ReleaseAnswer.TheVariants as answer
 use Rattle.mv_pause.specs.declared.releasing.ReleaseRefusal.{ReleaseRefusal}
 use Rattle.mv_pause.specs.declared.releasing.ReleaseRefusal.TheVariants as release_refusal
 

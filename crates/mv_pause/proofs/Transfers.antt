@@ -25,13 +25,13 @@ use Rattle.mv_wait.specs.Run.{Runs}
 use Rattle.mv_wait.proofs.Compose.{runs_and_then}
 use Rattle.mv_wait.proofs.Runs.{entry_of, runs_none}
 use Rattle.mv_wait.proofs.Waits.{kept_one}
-use Rattle.mv_pause.specs.Answers.{gift_as, release_answer, transfer_answer, transfer_refused, IsLow, IsLowRefusal}
+use Rattle.mv_pause.specs.Answers.{release_answer, transfer_answer, transfer_refused, IsLow, IsLowRefusal}
 use Rattle.mv_pause.specs.Pausing.{pause_own}
 use Rattle.mv_pause.specs.Replies.{HappenedOn, reply_to_release}
 use Rattle.mv_pause.specs.Transferring.{pause_cost, target_refused, IsTransferCause}
-use Rattle.mv_pause.specs.declared.pausing.Given.{Given}
-use Rattle.mv_pause.specs.declared.releasing.ReleaseAnswer.{ReleaseAnswer}
-use Rattle.mv_pause.specs.declared.releasing.ReleaseAnswer.TheVariants as answer
+use Rattle.mv_calls.specs.declared.outcomes.Given.{Given}
+use Rattle.mv_calls.specs.declared.outcomes.ReleaseAnswer.{ReleaseAnswer}
+use Rattle.mv_calls.specs.declared.outcomes.ReleaseAnswer.TheVariants as answer
 use Rattle.mv_pause.specs.declared.releasing.ReleaseRefusal.{ReleaseRefusal}
 use Rattle.mv_pause.specs.declared.releasing.ReleaseRefusal.TheVariants as release_refusal
 use Rattle.mv_pause.specs.declared.transferring.TransferRefusal.{TransferRefusal}
@@ -132,12 +132,12 @@ still_accepted s (Some token) t u m g d r h e =
 
 pub paused_with : (s : Setup) (token : Token) (t u : CallerFace) (given : Given)
     → is_others_token s (kept_of t.number t.log) token ≡ false
-    → Runs 2 (pause_own token) (Done (Ok (gift_as given))) t u
-    → Runs 2 (pause_current s (Some token) (kept_of t.number t.log)) (Done (Ok (Some (gift_as given)))) t u
+    → Runs 2 (pause_own token) (Done (Ok given)) t u
+    → Runs 2 (pause_current s (Some token) (kept_of t.number t.log)) (Done (Ok (Some given))) t u
 paused_with s token t u given own runs =
-    runs_and_then 2 0 (pause s token (kept_of t.number t.log)) gave (Ok (gift_as given)) (Done (Ok (Some (gift_as given)))) t u u
-    (subst (λ p. Runs 2 p (Done (Ok (gift_as given))) t u) (sym (mine s (kept_of t.number t.log) token (pause_own token) own)) runs)
-    (runs_none (Done (Ok (Some (gift_as given)))) u)
+    runs_and_then 2 0 (pause s token (kept_of t.number t.log)) gave (Ok given) (Done (Ok (Some given))) t u u
+    (subst (λ p. Runs 2 p (Done (Ok given)) t u) (sym (mine s (kept_of t.number t.log) token (pause_own token) own)) runs)
+    (runs_none (Done (Ok (Some given))) u)
 
 -- it looks at the caller alone
 pub same_pause : (s : Setup) (current : Option Token) (k j : ℕ) (log since : List Entry) → j ≡ k

@@ -25,8 +25,8 @@ use Rattle.mv_wait.proofs.Runs.{heard_of, went_word}
 use Rattle.mv_pause.specs.Answers.{release_answer, try_release_answer}
 use Rattle.mv_pause.specs.Releasing.{HasNoPause, ExchangedOn, IsTried}
 use Rattle.mv_pause.specs.Replies.{reply_to_release}
-use Rattle.mv_pause.specs.declared.releasing.ReleaseAnswer.{ReleaseAnswer}
-use Rattle.mv_pause.specs.declared.releasing.ReleaseAnswer.TheVariants as answer
+use Rattle.mv_calls.specs.declared.outcomes.ReleaseAnswer.{ReleaseAnswer}
+use Rattle.mv_calls.specs.declared.outcomes.ReleaseAnswer.TheVariants as answer
 use Rattle.mv_pause.specs.declared.releasing.ReleaseRefusal.{ReleaseRefusal}
 use Rattle.mv_pause.specs.declared.releasing.ReleaseRefusal.TheVariants as refused
 use Rattle.mv_pause.specs.declared.releasing.TryReleaseRefusal.{TryReleaseRefusal}

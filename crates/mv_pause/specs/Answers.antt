@@ -2,17 +2,15 @@
 use Rattle.std.specs.Prelude.{◌≤◌, Option, Some, None, Result, Ok, Err}
 use Rattle.mv_element.specs.declared.element.Token.{Token}
 use Rattle.mv_machine.specs.Limits.{highest_generation}
-use Rattle.mv_calls.specs.Pauses.{Gift, Reached, CameEarly, WokeIt}
+use Rattle.mv_calls.specs.declared.outcomes.Given.{Given}
+use Rattle.mv_calls.specs.declared.outcomes.ReleaseAnswer.{ReleaseAnswer}
 use Rattle.mv_calls.specs.Refusal.{Refusal}
 use Rattle.mv_calls.specs.Refusal as refusal
 use Rattle.mv_pause.specs.declared.allocating.NoElement.{NoElement}
 use Rattle.mv_pause.specs.declared.deallocating.DeallocateRefusal.{DeallocateRefusal}
 use Rattle.mv_pause.specs.declared.deallocating.DeallocateRefusal.TheVariants as deallocate_refusal
-use Rattle.mv_pause.specs.declared.pausing.Given.{Given}
 use Rattle.mv_pause.specs.declared.pausing.PauseRefusal.{PauseRefusal}
 use Rattle.mv_pause.specs.declared.pausing.PauseRefusal.TheVariants as pause_refusal
-use Rattle.mv_pause.specs.declared.releasing.ReleaseAnswer.{ReleaseAnswer}
-use Rattle.mv_pause.specs.declared.releasing.ReleaseAnswer.TheVariants as answer
 use Rattle.mv_pause.specs.declared.releasing.ReleaseRefusal.{ReleaseRefusal}
 use Rattle.mv_pause.specs.declared.releasing.ReleaseRefusal.TheVariants as release_refusal
 use Rattle.mv_pause.specs.declared.releasing.TryReleaseRefusal.{TryReleaseRefusal}
@@ -25,24 +23,15 @@ abbrev pub allocate_answer : Result Token NoElement → Result Token Refusal
 allocate_answer (Ok t) = Ok t
 allocate_answer (Err why) = Err refusal.NoElement
 
--- what a pause is given: the release code, and the token of the next pause
-abbrev pub gift_as : Given → Gift
-gift_as g = record { code = g.code; next = g.next }
-
 -- the reason for which a pause is refused
 abbrev pub pause_refused : PauseRefusal → Refusal
 pause_refused pause_refusal.NotOwner = refusal.NotOwner
 pause_refused (pause_refusal.Spent now) = refusal.Spent now
 
 -- the answer of a pause: what it was given, or the reason for which it did not pause
-abbrev pub pause_answer : Result Given PauseRefusal → Result Gift Refusal
-pause_answer (Ok g) = Ok (gift_as g)
+abbrev pub pause_answer : Result Given PauseRefusal → Result Given Refusal
+pause_answer (Ok given) = Ok given
 pause_answer (Err why) = Err (pause_refused why)
-
--- whether a release came before its pause or woke the pausing task
-abbrev pub reached : ReleaseAnswer → Reached
-reached answer.Early = CameEarly
-reached answer.Woke = WokeIt
 
 -- the reason for which a release is refused
 abbrev pub release_refused : ReleaseRefusal → Refusal
@@ -50,13 +39,13 @@ release_refused (release_refusal.Spent now) = refusal.Spent now
 release_refused release_refusal.Already = refusal.Already
 
 -- the answer of a release
-abbrev pub release_answer : Result ReleaseAnswer ReleaseRefusal → Result Reached Refusal
-release_answer (Ok a) = Ok (reached a)
+abbrev pub release_answer : Result ReleaseAnswer ReleaseRefusal → Result ReleaseAnswer Refusal
+release_answer (Ok answer) = Ok answer
 release_answer (Err why) = Err (release_refused why)
 
 -- the answer of a release by an exchange; none if the exchange found another word, since then nothing was done
-abbrev pub try_release_answer : Result ReleaseAnswer TryReleaseRefusal → Option (Result Reached Refusal)
-try_release_answer (Ok a) = Some (Ok (reached a))
+abbrev pub try_release_answer : Result ReleaseAnswer TryReleaseRefusal → Option (Result ReleaseAnswer Refusal)
+try_release_answer (Ok answer) = Some (Ok answer)
 try_release_answer (Err (try_refusal.Moved word)) = None
 try_release_answer (Err (try_refusal.Spent now)) = Some (Err (refusal.Spent now))
 try_release_answer (Err try_refusal.Already) = Some (Err refusal.Already)
@@ -69,9 +58,8 @@ transfer_refused (transfer_refusal.TargetSpent now) = refusal.TargetSpent now
 transfer_refused transfer_refusal.TargetAlready = refusal.TargetAlready
 
 -- the answer of a transfer: what its pause was given if it has a current token, otherwise nothing
-abbrev pub transfer_answer : Result (Option Given) TransferRefusal → Result (Option Gift) Refusal
-transfer_answer (Ok None) = Ok None
-transfer_answer (Ok (Some g)) = Ok (Some (gift_as g))
+abbrev pub transfer_answer : Result (Option Given) TransferRefusal → Result (Option Given) Refusal
+transfer_answer (Ok given) = Ok given
 transfer_answer (Err why) = Err (transfer_refused why)
 
 -- the reason for which a deallocate is refused

@@ -11,24 +11,24 @@ use Rattle.mv_machine.specs.Limits.{highest_generation}
 use Rattle.mv_machine.specs.Setup.{Setup, element_count}
 use Rattle.mv_board.specs.Faces.{CallerFace}
 use Rattle.mv_calls.specs.Keeping.{Kept, kept_of}
-use Rattle.mv_calls.specs.Pauses.{Gift, pause, paused, resumed, is_others_token}
+use Rattle.mv_calls.specs.Pauses.{pause, paused, resumed, is_others_token}
 use Rattle.mv_calls.specs.Program.{Program, Do, Done, on_element}
 use Rattle.mv_calls.specs.Refusal.{Refusal}
 use Rattle.mv_calls.specs.Rest.{IsAtRest}
 use Rattle.mv_wait.specs.Run.{Went, Runs, IsServed}
 use Rattle.mv_pause.specs.Answers.{pause_answer, IsLow}
 use Rattle.mv_pause.specs.Replies.{HappenedOn}
-use Rattle.mv_pause.specs.declared.pausing.Given.{Given}
+use Rattle.mv_calls.specs.declared.outcomes.Given.{Given}
 use Rattle.mv_pause.specs.declared.pausing.PauseRefusal.{PauseRefusal}
 use Rattle.mv_pause.specs.declared.pausing.PauseRefusal.TheVariants as refused
 
 -- the program of a pause with a token of an own element
-abbrev pub pause_own : Token → Program (Result Gift Refusal)
+abbrev pub pause_own : Token → Program (Result Given Refusal)
 pause_own t = Do (Element t.element) (op_on.Element (element_op.Pause t.generation))
     (λ h. on_element h.entry.reply (paused t.element t.generation))
 
 -- the rest of that program after the pause has parked
-abbrev pub resume_own : Token → Program (Result Gift Refusal)
+abbrev pub resume_own : Token → Program (Result Given Refusal)
 resume_own t = Do (Element t.element) (op_on.Element (element_op.Resume t.generation)) (λ h. on_element h.entry.reply (resumed t.element))
 
 -- the token is current: its element is in use, and has the token's generation

@@ -12,7 +12,7 @@ use Rattle.mv_machine.specs.declared.packing.WordState.TheVariants as word_state
 use Rattle.mv_machine.specs.Packing.{unpack}
 use Rattle.mv_board.specs.Faces.{CallerFace, Exchanged, Missed}
 use Rattle.mv_pause.specs.Replies.{reply_to_release}
-use Rattle.mv_pause.specs.declared.releasing.ReleaseAnswer.{ReleaseAnswer}
+use Rattle.mv_calls.specs.declared.outcomes.ReleaseAnswer.{ReleaseAnswer}
 use Rattle.mv_pause.specs.declared.releasing.ReleaseRefusal.TheVariants as refused
 use Rattle.mv_pause.specs.declared.releasing.TryReleaseRefusal.{TryReleaseRefusal}
 use Rattle.mv_pause.specs.declared.releasing.TryReleaseRefusal.TheVariants as try_refused

@@ -9,8 +9,8 @@ use Rattle.mv_machine.specs.declared.entry.Op.TheVariants as op_on
 use Rattle.mv_machine.specs.declared.entry.Reply.{Reply}
 use Rattle.mv_machine.specs.declared.entry.Reply.TheVariants as reply_of
 use Rattle.mv_board.specs.Faces.{CallerFace, Happened}
-use Rattle.mv_pause.specs.declared.releasing.ReleaseAnswer.{ReleaseAnswer}
-use Rattle.mv_pause.specs.declared.releasing.ReleaseAnswer.TheVariants as answer
+use Rattle.mv_calls.specs.declared.outcomes.ReleaseAnswer.{ReleaseAnswer}
+use Rattle.mv_calls.specs.declared.outcomes.ReleaseAnswer.TheVariants as answer
 use Rattle.mv_pause.specs.declared.releasing.ReleaseRefusal.{ReleaseRefusal}
 use Rattle.mv_pause.specs.declared.releasing.ReleaseRefusal.TheVariants as release_refusal
 use Rattle.mv_pause.specs.declared.replies.Begun.{Begun}

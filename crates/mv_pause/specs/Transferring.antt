@@ -15,8 +15,8 @@ use Rattle.mv_wait.specs.Run.{Runs}
 use Rattle.mv_pause.specs.Answers.{transfer_answer, transfer_refused}
 use Rattle.mv_pause.specs.Pausing.{IsGiven}
 use Rattle.mv_pause.specs.Replies.{HappenedOn}
-use Rattle.mv_pause.specs.declared.pausing.Given.{Given}
-use Rattle.mv_pause.specs.declared.releasing.ReleaseAnswer.{ReleaseAnswer}
+use Rattle.mv_calls.specs.declared.outcomes.Given.{Given}
+use Rattle.mv_calls.specs.declared.outcomes.ReleaseAnswer.{ReleaseAnswer}
 use Rattle.mv_pause.specs.declared.releasing.ReleaseRefusal.{ReleaseRefusal}
 use Rattle.mv_pause.specs.declared.releasing.ReleaseRefusal.TheVariants as release_refusal
 use Rattle.mv_pause.specs.declared.transferring.TransferRefusal.{TransferRefusal}

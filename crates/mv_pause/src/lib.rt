@@ -109,8 +109,9 @@ mod transferring;
 
 pub use allocating::{NoElement, allocate};
 pub use deallocating::{DeallocateRefusal, deallocate};
+pub use mv_calls::{Given, ReleaseAnswer};
 pub use mv_element::{ElementState, Phase, Token};
-pub use pausing::{Given, PauseRefusal, begin_pause, end_pause, pause};
-pub use releasing::{ReleaseAnswer, ReleaseRefusal, TryReleaseRefusal, release, try_release};
+pub use pausing::{PauseRefusal, begin_pause, end_pause, pause};
+pub use releasing::{ReleaseRefusal, TryReleaseRefusal, release, try_release};
 pub use testing::test_element;
 pub use transferring::{TransferRefusal, transfer};

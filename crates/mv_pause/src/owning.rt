@@ -3,7 +3,8 @@
 ghost use Rattle.std.specs.Prelude.{◌≡◌, ◌<◌};
 ghost use Rattle.mv_wait.specs.Prelude.{element_count, kept_of, is_others_token};
 
-use crate::releasing::{ReleaseAnswer, ReleaseRefusal};
+use crate::releasing::ReleaseRefusal;
+use mv_calls::ReleaseAnswer;
 use mv_element::Token;
 use mv_wait::{Station, Task};
 

@@ -7,27 +7,20 @@ ghost use Rattle.mv_element.specs.declared.operation.ElementReply.TheVariants.{P
 ghost use Rattle.mv_wait.specs.Prelude.{element_count, element_owner, highest_generation, CallerFace, IsOf, kept_of, gift_of, pause};
 ghost use Rattle.mv_wait.specs.Prelude.{is_others_token, IsServed, MayCall};
 ghost use Rattle.mv_board.specs.declared.watch.Watch.TheVariants as watch;
-ghost use Rattle.mv_pause.specs.Answers.{gift_as, pause_answer, IsLow};
+ghost use Rattle.mv_pause.specs.Answers.{pause_answer, IsLow};
 ghost use Rattle.mv_pause.specs.Pausing.{IsCurrent, IsGiven, IsPauseCause, IsPausedOwn, IsPauseMade, IsPausing, MayPause};
 ghost use Rattle.mv_pause.specs.Replies.{HappenedOn};
 
 use crate::owning::is_others;
 use crate::replies::{Begun, Gift, beginning, gift_in};
 use mv_board::Watch;
+use mv_calls::Given;
 use mv_element::{ElementOp, Token};
 use mv_machine::{Object, Op};
 use mv_wait::{Station, Task};
 use std::sync::Wait;
 use std::time::Clock;
 use thiserror::Error;
-
-/// What a pause returns: the code with which it was released, and the token of the next pause.
-#[derive(Clone, Copy, Debug, PartialEq, Eq)]
-pub struct Given {
-    /// The release code, of three bytes.
-    pub code: u32,
-    pub next: Token,
-}
 
 /// The reason for which a pause was refused.
 #[derive(Clone, Copy, Debug, PartialEq, Eq, Error)]
@@ -207,7 +200,7 @@ fn begin_own<R: Wait>(
 // What a pause with this element returns.
 #[inline(always)]
 fn with_token(element: u32, gift: Gift) -> Given
-    ensures { gift_as result ≡ gift_of element gift.code gift.next }
+    ensures { result ≡ gift_of element gift.code gift.next }
 {
     Given {
         code: gift.code,

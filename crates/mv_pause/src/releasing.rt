@@ -6,24 +6,16 @@ ghost use Rattle.mv_wait.specs.Prelude.{release_limit, element_count, release, t
 ghost use Rattle.mv_pause.specs.Answers.{release_answer, try_release_answer, IsLow};
 ghost use Rattle.mv_pause.specs.Releasing.{HasNoPause, IsTried};
 ghost use Rattle.mv_pause.specs.Replies.{HappenedOn, reply_to_release};
-ghost use Rattle.mv_pause.specs.declared.releasing.ReleaseAnswer.TheVariants.{Early};
+ghost use Rattle.mv_calls.specs.declared.outcomes.ReleaseAnswer.TheVariants.{Early};
 
 use crate::owning::wake_owner;
 use crate::replies::released;
+use mv_calls::ReleaseAnswer;
 use mv_element::{ElementOp, Token};
 use mv_machine::{Object, Op};
 use mv_wait::{Station, Task};
 use std::sync::Wait;
 use thiserror::Error;
-
-/// The outcome of a release.
-#[derive(Clone, Copy, Debug, PartialEq, Eq)]
-pub enum ReleaseAnswer {
-    /// The release came before its pause, which will be given the code at once.
-    Early,
-    /// A task paused with the token, and was woken.
-    Woke,
-}
 
 /// The reason for which a release was refused.
 #[derive(Clone, Copy, Debug, PartialEq, Eq, Error)]

@@ -6,7 +6,8 @@ ghost use Rattle.mv_machine.specs.declared.entry.Reply.TheVariants as reply_of;
 ghost use Rattle.mv_pause.specs.Replies.{SaysOpened, SaysGiven, SaysBegun, SaysReleased, SaysClosed, SaysState};
 ghost use Rattle.mv_pause.specs.Replies.{reply_to_pause, reply_to_release, reply_to_close};
 
-use crate::releasing::{ReleaseAnswer, ReleaseRefusal};
+use crate::releasing::ReleaseRefusal;
+use mv_calls::ReleaseAnswer;
 use mv_element::{ElementReply, ElementState};
 use mv_machine::Reply;
 

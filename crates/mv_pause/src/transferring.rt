@@ -8,8 +8,9 @@ ghost use Rattle.mv_pause.specs.Answers.{transfer_answer, transfer_refused, IsLo
 ghost use Rattle.mv_pause.specs.Transferring.{target_refused, IsPausedBy, IsGivenTo, IsTransferCause};
 
 use crate::owning::is_others;
-use crate::pausing::{Given, pause_own};
-use crate::releasing::{ReleaseAnswer, ReleaseRefusal, release};
+use crate::pausing::pause_own;
+use crate::releasing::{ReleaseRefusal, release};
+use mv_calls::{Given, ReleaseAnswer};
 use mv_element::Token;
 use mv_wait::{Station, Task};
 use std::sync::Wait;

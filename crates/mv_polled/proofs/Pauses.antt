@@ -14,7 +14,7 @@ use Rattle.mv_board.specs.declared.watch.Watch.TheVariants as watch
 use Rattle.mv_board.specs.Faces.{CallerFace, IsSame, PeekedAt}
 use Rattle.mv_wait.proofs.Runs.{went_look, went_word, went_then}
 use Rattle.mv_pause.specs.Pausing.{IsPauseMade, IsPausing, MayPause}
-use Rattle.mv_pause.specs.declared.pausing.Given.{Given}
+use Rattle.mv_calls.specs.declared.outcomes.Given.{Given}
 use Rattle.mv_pause.specs.declared.pausing.PauseRefusal.{PauseRefusal}
 use Rattle.mv_pause.proofs.Between.{pausing_look}
 use Rattle.mv_polled.specs.declared.turn.Stage.TheVariants.{Begun, Over}

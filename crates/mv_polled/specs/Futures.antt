@@ -6,7 +6,7 @@ use Rattle.futures.specs.declared.task.Poll.TheVariants.{Ready, Pending}
 use Rattle.mv_machine.specs.Setup.{Setup}
 use Rattle.mv_board.specs.declared.watch.Watch.{Watch}
 use Rattle.mv_board.specs.Faces.{BoardFace, CallerFace, IsOf}
-use Rattle.mv_pause.specs.declared.pausing.Given.{Given}
+use Rattle.mv_calls.specs.declared.outcomes.Given.{Given}
 use Rattle.mv_pause.specs.declared.pausing.PauseRefusal.{PauseRefusal}
 use Rattle.mv_wait.specs.Listed.{is_listed}
 use Rattle.mv_wait.specs.declared.waiting.WaitRefusal.{WaitRefusal}

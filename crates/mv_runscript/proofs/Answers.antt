@@ -3,7 +3,9 @@ use Rattle.std.proofs.Common.{◌≡◌, ℕ, List, [], ◌∷◌, map, Option, 
 use Rattle.mv_calls.specs.declared.table.Table.{Table}
 use Rattle.mv_calls.specs.Events.{Entering, EnteredAt, WasComplete}
 use Rattle.mv_calls.specs.LatchCalls.{Requested, GrantedAs, PendingAs}
-use Rattle.mv_calls.specs.Pauses.{Gift, Reached, CameEarly, WokeIt}
+use Rattle.mv_calls.specs.declared.outcomes.Given.{Given}
+use Rattle.mv_calls.specs.declared.outcomes.ReleaseAnswer.{ReleaseAnswer}
+use Rattle.mv_calls.specs.declared.outcomes.ReleaseAnswer.TheVariants as release_answer
 use Rattle.mv_calls.specs.declared.outcomes.PostAnswer.{PostAnswer}
 use Rattle.mv_calls.specs.declared.outcomes.PostAnswer.TheVariants as post_answer
 use Rattle.mv_calls.specs.declared.outcomes.Standing.{Standing}
@@ -66,13 +68,13 @@ posted_none post_answer.Posted = refl
 posted_none post_answer.Woke = refl
 posted_none (post_answer.Already code) = refl
 
-paused_none : (gift : Option Gift) → word_in (given_if_paused gift) ≡ None
+paused_none : (gift : Option Given) → word_in (given_if_paused gift) ≡ None
 paused_none None = refl
 paused_none (Some gift) = refl
 
-reached_none : (r : Reached) → word_in (reached r) ≡ None
-reached_none CameEarly = refl
-reached_none WokeIt = refl
+reached_none : (r : ReleaseAnswer) → word_in (reached r) ≡ None
+reached_none release_answer.Early = refl
+reached_none release_answer.Woke = refl
 
 obtained_none : (got : Requested) → word_in (obtained got) ≡ None
 obtained_none (GrantedAs id) = refl

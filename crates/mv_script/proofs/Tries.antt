@@ -26,7 +26,9 @@ use Rattle.mv_machine.specs.Setup.{Setup}
 use Rattle.mv_machine.proofs.Words.{packed_unpacks}
 use Rattle.mv_calls.specs.declared.table.Table.{Table}
 use Rattle.mv_calls.specs.Keeping.{Kept, kept_after, nothing_kept}
-use Rattle.mv_calls.specs.Pauses.{Reached, CameEarly, released, same_release_reply, try_release}
+use Rattle.mv_calls.specs.declared.outcomes.ReleaseAnswer.{ReleaseAnswer}
+use Rattle.mv_calls.specs.declared.outcomes.ReleaseAnswer.TheVariants as release_answer
+use Rattle.mv_calls.specs.Pauses.{released, same_release_reply, try_release}
 use Rattle.mv_calls.specs.declared.outcomes.PostAnswer.{PostAnswer}
 use Rattle.mv_calls.specs.declared.outcomes.PostAnswer.TheVariants as post_answer
 use Rattle.mv_calls.specs.Posts.{posting, expected_of, is_expected, same_post_reply, try_post}
@@ -120,11 +122,11 @@ post_answers e place code kept (h ∷ hs) a is =
     (zero_expected e place code) is)
 
 -- and a release that was expected of an element that is neither paused nor released
-release_as_expected : (is : Bool) (reply : Reply) (hs : List Heard) (a : Result Reached Refusal)
+release_as_expected : (is : Bool) (reply : Reply) (hs : List Heard) (a : Result ReleaseAnswer Refusal)
     → left (if is && same_release_reply (reply_of.Element element_reply.Early) reply then on_element reply released else Wrong) hs ≡ Done a
-    → a ≡ Ok CameEarly
+    → a ≡ Ok release_answer.Early
 release_as_expected false reply hs a e = absurd (never_done hs a e)
-release_as_expected true (reply_of.Element element_reply.Early) hs a e = sym (done_is (Ok CameEarly) a hs e)
+release_as_expected true (reply_of.Element element_reply.Early) hs a e = sym (done_is (Ok release_answer.Early) a hs e)
 release_as_expected true (reply_of.Element _) hs a e = absurd (never_done hs a e)
 release_as_expected true _ hs a e = absurd (never_done hs a e)
 
@@ -137,8 +139,9 @@ reset_expected t place code lt =
     (packed_unpacks (Element t.element) place (state.Element (reset t.generation)) (lt, omega arith))
     ∙ rw (eq-eqb t.generation t.generation refl) refl
 
-release_answers : (t : Token) (place code : ℕ) (kept : Kept) (hs : List Heard) (a : Result Reached Refusal)
-    → t.generation < generation_limit → left (try_release t (reset_at t.generation place) code kept) hs ≡ Done a → a ≡ Ok CameEarly
+release_answers : (t : Token) (place code : ℕ) (kept : Kept) (hs : List Heard) (a : Result ReleaseAnswer Refusal)
+    → t.generation < generation_limit → left (try_release t (reset_at t.generation place) code kept) hs ≡ Done a
+    → a ≡ Ok release_answer.Early
 release_answers t place code kept [] a lt is = absurd (cc is)
 release_answers t place code kept (h ∷ hs) a lt is =
     let r = h.entry.reply in
@@ -191,7 +194,7 @@ one_release c table None past t place code kept hs next lt e =
     let r = parts kept (service.program c s kept) (λ a. finished (served past s a)) hs next e in
     let is = release_answers t place code kept r.events r.answer lt r.done in
     ap (λ (p : Past). p.answers) (sym (done_is (served past s r.answer) next r.later r.more))
-    ∙ ap (λ (a : Result Reached Refusal). past.answers ++ answer_to s a ∷ []) is
+    ∙ ap (λ (a : Result ReleaseAnswer Refusal). past.answers ++ answer_to s a ∷ []) is
 
 -- ---- a call among all of a task
 

@@ -2,7 +2,9 @@
 use Rattle.std.specs.Prelude.{ℕ, map, Option, Some, None, Result, Ok, Err}
 use Rattle.mv_calls.specs.Events.{Entering, EnteredAt, WasComplete, Finding}
 use Rattle.mv_calls.specs.LatchCalls.{Requested, GrantedAs, PendingAs}
-use Rattle.mv_calls.specs.Pauses.{Gift, Reached, CameEarly, WokeIt}
+use Rattle.mv_calls.specs.declared.outcomes.Given.{Given}
+use Rattle.mv_calls.specs.declared.outcomes.ReleaseAnswer.{ReleaseAnswer}
+use Rattle.mv_calls.specs.declared.outcomes.ReleaseAnswer.TheVariants as release_answer
 use Rattle.mv_calls.specs.declared.outcomes.PostAnswer.{PostAnswer}
 use Rattle.mv_calls.specs.declared.outcomes.PostAnswer.TheVariants as post_answer
 use Rattle.mv_calls.specs.declared.outcomes.Purged.{Purged}
@@ -61,18 +63,18 @@ posted post_answer.Woke = answer.Woke
 posted (post_answer.Already code) = answer.AlreadyPosted code
 
 -- the answer to a pause that was given a code
-abbrev pub given : Gift → Answer
+abbrev pub given : Given → Answer
 given gift = answer.Given gift.code gift.next
 
 -- the answer to a transfer; it is Done if the transfer does not pause
-abbrev pub given_if_paused : Option Gift → Answer
+abbrev pub given_if_paused : Option Given → Answer
 given_if_paused None = answer.Done
 given_if_paused (Some gift) = given gift
 
 -- the answer to a release
-abbrev pub reached : Reached → Answer
-reached CameEarly = answer.Early
-reached WokeIt = answer.Woke
+abbrev pub reached : ReleaseAnswer → Answer
+reached release_answer.Early = answer.Early
+reached release_answer.Woke = answer.Woke
 
 -- the answer to an obtain, which does not show the number of the request
 abbrev pub obtained : Requested → Answer

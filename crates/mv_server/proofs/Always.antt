@@ -1,9 +1,8 @@
 -- The calls of the pool's tasks make right entries, and leave their task ready.
 use Rattle.std.proofs.Common.{◌≡◌, ℕ, ◌+◌, ◌≤◌, ◌<◌, List, length, Result, sym, ap, ◌∙◌, subst, arith}
-use Rattle.mv_wait.specs.Prelude.{Token, Entry, reach, Setup, BoardFace, CallerFace, kept_of, pause, release, PostAnswer, post, Call}
-use Rattle.mv_wait.specs.Prelude.{Refusal, clear, IsServed}
+use Rattle.mv_wait.specs.Prelude.{Given, ReleaseAnswer, Token, Entry, reach, Setup, BoardFace, CallerFace, kept_of, pause, release}
+use Rattle.mv_wait.specs.Prelude.{PostAnswer, post, Call, Refusal, clear, IsServed}
 use Rattle.mv_wait.proofs.Lists.{all_append}
-use Rattle.mv_wait.specs.Pauses.{Gift, Reached}
 use Rattle.mv_wait.proofs.Compose.{served_left}
 use Rattle.mv_attach.proofs.Always.{Always, served_grown}
 use Rattle.mv_attach.proofs.Says.{always_clear, always_post, always_pause, always_release}
@@ -63,7 +62,7 @@ told b requests e code Is t u s r right =
 
 -- a round of a worker begins: it tells that it is idle, and pauses
 pub begun_round : (b : BoardFace) (requests : List ℕ) (most idle code : ℕ) (token : Token) (IsPosted : PostAnswer → Type 0)
-    (IsPaused : Result Gift Refusal → Type 0) (t old mid new : CallerFace) → idle < workers
+    (IsPaused : Result Given Refusal → Type 0) (t old mid new : CallerFace) → idle < workers
     → IsServed (reach b.config idle) (post b.config idle code) IsPosted old mid → IsServed 2 (pause b.config token) IsPaused mid new
     → StaysReady b requests most t old → StaysReady b requests (most + 3) t new
 begun_round b requests most idle code token IsPosted IsPaused t old mid new low posted paused since =
@@ -75,7 +74,7 @@ begun_round b requests most idle code token IsPosted IsPaused t old mid new low 
 
 -- the server hands out: it clears a block, and releases
 pub handed_out : (b : BoardFace) (requests : List ℕ) (most ecb code : ℕ) (token : Token) (IsCleared : Result ℕ Refusal → Type 0)
-    (IsReleased : Result Reached Refusal → Type 0) (t old mid new : CallerFace) → IsServed 1 (clear b.config ecb) IsCleared old mid
+    (IsReleased : Result ReleaseAnswer Refusal → Type 0) (t old mid new : CallerFace) → IsServed 1 (clear b.config ecb) IsCleared old mid
     → IsServed 1 (release token code) IsReleased mid new → StaysReady b requests most t old → StaysReady b requests (most + 2) t new
 handed_out b requests most ecb code token IsCleared IsReleased t old mid new cleared released since =
     let first = stays_after b requests 1 (clear b.config ecb) IsCleared old mid cleared since.ready

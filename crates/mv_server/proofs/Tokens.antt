@@ -3,15 +3,15 @@ use Rattle.std.proofs.Common.{◌≡◌, ℕ, zero, suc, ◌*◌, ◌≤◌, tru
 use Rattle.std.proofs.Common.{sym, ap, ◌∙◌, subst, arith}
 use Rattle.std.proofs.lemmas.Bool.{eq-eqb}
 use Rattle.mv_wait.specs.Prelude.ecb_op.{Post}
-use Rattle.mv_wait.specs.Prelude.{Token, ElementOp, Entry, Object, Ecb, Element, Op, Reply, reach, Setup, element_owner, CallerFace, Kept}
-use Rattle.mv_wait.specs.Prelude.{kept_of, gift_of, allocate, lowest_free, pause, is_others_token, PostAnswer, post, Call, Done, Heard}
-use Rattle.mv_wait.specs.Prelude.{Says, left, entries, Refusal, IsServed}
+use Rattle.mv_wait.specs.Prelude.{Given, Token, ElementOp, Entry, Object, Ecb, Element, Op, Reply, reach, Setup, element_owner}
+use Rattle.mv_wait.specs.Prelude.{CallerFace, Kept, kept_of, gift_of, allocate, lowest_free, pause, is_others_token, PostAnswer, post}
+use Rattle.mv_wait.specs.Prelude.{Call, Done, Heard, Says, left, entries, Refusal, IsServed}
 use Rattle.mv_wait.specs.Prelude.element_op
 use Rattle.mv_wait.specs.Prelude.element_reply
 use Rattle.mv_wait.specs.Prelude.op_on
 use Rattle.mv_wait.specs.Prelude.reply_of
 use Rattle.mv_wait.specs.Keeping.{kept_after, kept_from, nothing_kept, generation_after}
-use Rattle.mv_wait.specs.Pauses.{Gift, token_of, open_lowest, opened, paused, resumed}
+use Rattle.mv_wait.specs.Pauses.{token_of, open_lowest, opened, paused, resumed}
 use Rattle.mv_wait.specs.Posts.{post_within}
 use Rattle.mv_wait.specs.Program.{Program, Do, asks, heard, on_element, unless_refused}
 use Rattle.mv_wait.specs.Refusal as refusal
@@ -94,22 +94,22 @@ may_pause_still c n ecb code Is token t u is s may = record {
 -- ---- a pause gives the next one
 
 -- what its end gives
-gave : (n : ℕ) (r : Reply) (a : Gift) → on_element r (resumed n) ≡ Done (Ok a)
+gave : (n : ℕ) (r : Reply) (a : Given) → on_element r (resumed n) ≡ Done (Ok a)
     → (next : ℕ) × (r ≡ reply_of.Element (element_reply.Given a.code next)) × (a.next ≡ token_of n next)
 gave n (reply_of.Element (element_reply.Given code next)) a e =
     let same : gift_of n code next ≡ a = cc e in
-    (next, ap (λ (x : Gift). reply_of.Element (element_reply.Given x.code next)) same, sym (ap (λ (x : Gift). x.next) same))
+    (next, ap (λ (x : Given). reply_of.Element (element_reply.Given x.code next)) same, sym (ap (λ (x : Given). x.next) same))
 gave n r a e = absurd (cc e)
 
 -- its begin gives it, or parks
-begun : (n g : ℕ) (r : Reply) (a : Gift) → on_element r (paused n g) ≡ Done (Ok a)
+begun : (n g : ℕ) (r : Reply) (a : Given) → on_element r (paused n g) ≡ Done (Ok a)
     → (next : ℕ) × (r ≡ reply_of.Element (element_reply.Given a.code next)) × (a.next ≡ token_of n next)
 begun n g (reply_of.Element (element_reply.Given code next)) a e =
     let same : gift_of n code next ≡ a = cc e in
-    (next, ap (λ (x : Gift). reply_of.Element (element_reply.Given x.code next)) same, sym (ap (λ (x : Gift). x.next) same))
+    (next, ap (λ (x : Given). reply_of.Element (element_reply.Given x.code next)) same, sym (ap (λ (x : Given). x.next) same))
 begun n g r a e = absurd (cc e)
 
-abbrev resuming : ℕ → ℕ → Program (Result Gift Refusal)
+abbrev resuming : ℕ → ℕ → Program (Result Given Refusal)
 resuming n g = Do (Element n) (op_on.Element (element_op.Resume g)) (λ h. on_element h.entry.reply (resumed n))
 
 parks : (n g : ℕ) (r : Reply) (x : Object × Op) → asks (on_element r (paused n g)) ≡ Some x
@@ -118,7 +118,7 @@ parks n g (reply_of.Element element_reply.Parked) x e = (refl, refl)
 parks n g (reply_of.Element (element_reply.Given code next)) x e = absurd (cc e)
 parks n g r x e = absurd (cc e)
 
-given_current : (t : Token) (a : Gift) (kept : Kept) (e : Entry) (op : ElementOp)
+given_current : (t : Token) (a : Given) (kept : Kept) (e : Entry) (op : ElementOp)
     → (e.object ≡ Element t.element) × (e.op ≡ op_on.Element op)
     → ((next : ℕ) × (e.reply ≡ reply_of.Element (element_reply.Given a.code next)) × (a.next ≡ token_of t.element next))
     → ((old next : ℕ) → generation_after old op (element_reply.Given a.code next) ≡ next)
@@ -129,7 +129,7 @@ given_current t a kept e op on given counts used =
       generation = rw (on.0, on.1, given.1, eq-eqb t.element t.element refl) (counts (kept.generation t.element) given.0);
     })
 
-paused_current : (t : Token) (a : Gift) (kept : Kept) (hs : List Heard) → Says (pause_own t) hs → left (pause_own t) hs ≡ Done (Ok a)
+paused_current : (t : Token) (a : Given) (kept : Kept) (hs : List Heard) → Says (pause_own t) hs → left (pause_own t) hs ≡ Done (Ok a)
     → length hs ≤ 2 → kept.in_use t.element ≡ true → IsCurrent (kept_from kept (entries hs)) a.next
 paused_current t a kept [] says done few used = absurd (cc done)
 paused_current t a kept (h ∷ []) says done few used =
@@ -145,7 +145,7 @@ paused_current t a kept (h ∷ g ∷ []) says done few used =
     (gave t.element g.entry.reply a (ap (λ p. heard p g) (sym went.1) ∙ done)) (λ old next. refl) (rw (on.0, went.0) used)
 paused_current t a kept (h ∷ g ∷ f ∷ hs) says done few used = absurd (omega arith)
 
-pub may_pause_next : (c : Setup) (token : Token) (a : Gift) (t u : CallerFace) → IsServed 2 (pause c token) (λ x. x ≡ Ok a) t u
+pub may_pause_next : (c : Setup) (token : Token) (a : Given) (t u : CallerFace) → IsServed 2 (pause c token) (λ x. x ≡ Ok a) t u
     → a.next.element ≡ token.element → MayPause c t token → MayPause c u a.next
 may_pause_next c token a t u s same may =
     let program = ap (λ x. unless_refused (refused_if x refusal.NotOwner) (pause_own token)) (own_token c t token may) in record {

@@ -44,7 +44,9 @@ pub use Rattle.mv_calls.specs.Keeping.{Kept, kept_of}
 pub use Rattle.mv_calls.specs.Program.{Call, Done, Heard, Says, Wrong, entries, finished, left, wrong}
 pub use Rattle.mv_calls.specs.Refusal.{Refusal}
 pub use Rattle.mv_calls.specs.Rest.{IsAtRest}
+pub use Rattle.mv_calls.specs.declared.outcomes.Given.{Given}
 pub use Rattle.mv_calls.specs.declared.outcomes.PostAnswer.{PostAnswer}
+pub use Rattle.mv_calls.specs.declared.outcomes.ReleaseAnswer.{ReleaseAnswer}
 -- ---- the calls
 pub use Rattle.mv_calls.specs.declared.table.Table.{Table}
 pub use Rattle.mv_calls.specs.Endings.{end_of_job, end_of_task, used_elements}

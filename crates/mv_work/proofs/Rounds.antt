@@ -8,7 +8,8 @@ use Rattle.std.proofs.lemmas.List.Folds.{list_any-append}
 use Rattle.std.proofs.lemmas.List.Sums.{sum_by-cons}
 use Rattle.mv_board.specs.Faces.{CallerFace}
 use Rattle.mv_calls.specs.Endings.{end_of_job}
-use Rattle.mv_calls.specs.Pauses.{Gift, deallocate}
+use Rattle.mv_calls.specs.declared.outcomes.Given.{Given}
+use Rattle.mv_calls.specs.Pauses.{deallocate}
 use Rattle.mv_calls.specs.Keeping.{kept_of}
 use Rattle.mv_calls.specs.Program.{Call, Program, accepted, finished, wrong, followed, unrefused}
 use Rattle.mv_calls.specs.Refusal.{Refusal}
@@ -86,7 +87,7 @@ jobs_more records r = map-append (λ (r : JobRecord). r.job) records (r ∷ [])
 -- ---- an initiator, in a round
 
 -- what follows a gift
-module _ (s : SpoolFace) (me : Initiator) (round : ℕ) (gift : Gift) where
+module _ (s : SpoolFace) (me : Initiator) (round : ℕ) (gift : Given) where
   abbrev whole : Call (List JobRecord)
   whole = given_then s me (length s.jobs - round) gift
 

@@ -8,7 +8,8 @@ use Rattle.mv_machine.specs.Limits.{highest_generation}
 use Rattle.mv_machine.specs.Setup.{Setup}
 use Rattle.mv_machine.specs.System.{with_at}
 use Rattle.mv_calls.specs.Endings.{end_of_job}
-use Rattle.mv_calls.specs.Pauses.{Gift, deallocate}
+use Rattle.mv_calls.specs.declared.outcomes.Given.{Given}
+use Rattle.mv_calls.specs.Pauses.{deallocate}
 use Rattle.mv_calls.specs.Program.{Call, accepted, finished, followed}
 use Rattle.mv_deck.specs.declared.deck.Step.{Step}
 use Rattle.mv_deck.specs.declared.deck.Step.TheVariants.{Print, Scan}
@@ -51,7 +52,7 @@ abbrev pub named_then : SpoolFace → Initiator → ℕ → Token → Named → 
 named_then s me more next = job_then s.board.config s.jobs me.index more me.noted.jobs next
 
 -- what follows a code
-abbrev pub given_then : SpoolFace → Initiator → ℕ → Gift → Call (List JobRecord)
+abbrev pub given_then : SpoolFace → Initiator → ℕ → Given → Call (List JobRecord)
 given_then s me more gift =
     if gift.code == 0 then accepted (deallocate s.board.config gift.next) (λ closed. finished me.noted.jobs)
     else named_by (job_named (length s.jobs) gift.code) (jobs_of_records me.noted.jobs) more (named_then s me more gift.next)

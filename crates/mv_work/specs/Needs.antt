@@ -3,10 +3,10 @@ use Rattle.std.specs.Prelude.{◌≡◌, ℕ, ◌*◌, List, [], ◌∷◌, Opti
 use Rattle.mv_latch.specs.declared.request.LatchForm.TheVariants.{Waiting}
 use Rattle.mv_machine.specs.Setup.{Setup}
 use Rattle.mv_calls.specs.LatchCalls.{obtain}
-use Rattle.mv_calls.specs.Pauses.{Gift, pause}
+use Rattle.mv_calls.specs.declared.outcomes.Given.{Given}
+use Rattle.mv_calls.specs.Pauses.{pause}
 use Rattle.mv_calls.specs.Program.{Call, accepted, finished, wrong}
 use Rattle.mv_calls.specs.Waits.{wait}
-use Rattle.mv_pause.specs.Answers.{gift_as}
 use Rattle.mv_plan.specs.SpoolTasks.{granted_as}
 use Rattle.mv_wait.specs.Answers.{slots_of}
 use Rattle.mv_work.specs.declared.need.Blocks.{Blocks}
@@ -22,7 +22,7 @@ most_blocks = 8
 -- what a wait tells: how its blocks were found, what a pause was given, or the number of a request that was granted
 pub data Answer : Type 0 where
   Slots : (slots : List (Option ℕ)) → Answer
-  Gave : (gift : Gift) → Answer
+  Gave : (gift : Given) → Answer
   Holds : (id : ℕ) → Answer
 
 -- a wait until n of these blocks are complete
@@ -49,7 +49,7 @@ need_events (need.Latch latch requestor mode) = 2
 abbrev pub answer_of : Got → Answer
 answer_of (got.Slots found) = Slots (slots_of found.items)
 answer_of (got.Code code) = Slots (Some code ∷ [])
-answer_of (got.Given given) = Gave (gift_as given)
+answer_of (got.Given given) = Gave given
 answer_of (got.Granted token) = Holds token.id
 
 -- what follows how blocks were found; any other answer is foreseen nowhere
@@ -58,7 +58,7 @@ on_slots f (Slots slots) = f slots
 on_slots f answer = wrong
 
 -- what follows a gift
-abbrev pub on_gift : {A : Type 0} → (Gift → Call A) → Answer → Call A
+abbrev pub on_gift : {A : Type 0} → (Given → Call A) → Answer → Call A
 on_gift f (Gave gift) = f gift
 on_gift f answer = wrong
 

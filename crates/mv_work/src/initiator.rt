@@ -14,7 +14,6 @@ ghost use Rattle.std.specs.Prelude.{◌≡◌, ◌<◌, ◌≤◌, ◌+◌, ◌-
 ghost use Rattle.std.specs.List.{AllByRecursion};
 ghost use Rattle.mv_wait.specs.Prelude.{CallerFace, IsFresh, MayCall};
 ghost use Rattle.mv_deck.specs.Prelude.{deck_data, job_data, not_run};
-ghost use Rattle.mv_pause.specs.Answers.{gift_as};
 ghost use Rattle.mv_plan.specs.Prelude.{job_at, jobs_limit, initiator as plan_initiator, job_named as named_by};
 ghost use Rattle.mv_work.specs.Prelude.{InitiatorComes, IsAtJob, IsInitiatorAnswer, IsBetween, IsOwn, initiator_due, initiator_left};
 ghost use Rattle.mv_work.specs.Prelude.{job_marks, named_then, marks_left, rounds_after, rounds_due, steps_events, step_marks};
@@ -235,7 +234,7 @@ impl<G: Gate> Spool<'_, G> {
         requires between { IsBetween self.now me.old round }
         requires token { IsOwn me.old given.next }
         requires task { MayCall self.now.board (initiator_due self.now me.old (stage.Pause round)) task.old }
-        ensures comes { InitiatorComes self.now me.new (initiator_left self.now me.old (stage.Pause round) (Gave (gift_as given)))
+        ensures comes { InitiatorComes self.now me.new (initiator_left self.now me.old (stage.Pause round) (Gave given))
             task.old result task.new }
         ensures same { me.new.index ≡ me.old.index }
     {

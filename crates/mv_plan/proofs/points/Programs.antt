@@ -11,7 +11,8 @@ use Rattle.mv_plan.proofs.Words.{first_of, arm_all, settle_all, enough, the_word
 use Rattle.mv_plan.proofs.Words.{LatchForm, Op, VolumeOp, Bool, ◌≡◌, ◌<◌, ◌≤◌, None, arith, Reply, posted_next, EcbReply, common_steps}
 use Rattle.mv_plan.proofs.Words.{zero, refl, ap, Object, kept_after, Heard, asks, heard, writer}
 use Rattle.mv_calls.specs.LatchCalls.{confirmed, let_go, purged}
-use Rattle.mv_calls.specs.Pauses.{Gift, opened, paused, resumed}
+use Rattle.mv_calls.specs.declared.outcomes.Given.{Given}
+use Rattle.mv_calls.specs.Pauses.{opened, paused, resumed}
 use Rattle.mv_calls.specs.Program.{for_each, on_volume}
 use Rattle.mv_calls.specs.Waits.{the_value, stored, read_volume, armed, settled}
 use Rattle.mv_calls.specs.Endings.{end_of_job}
@@ -117,7 +118,7 @@ abbrev pub rounds_later : Setup → List JobData → ℕ → ℕ → List ℕ �
 rounds_later c deck i more before g = rounds c deck i more before (token_of (initiator i) g)
 
 -- what follows a pause that was given a code
-abbrev pub given_later : Setup → List JobData → ℕ → ℕ → List ℕ → Gift → Call (List ℕ)
+abbrev pub given_later : Setup → List JobData → ℕ → ℕ → List ℕ → Given → Call (List ℕ)
 given_later c deck i more before gift = if gift.code == 0 then accepted (deallocate c gift.next) (λ closed. finished [])
     else named_by (job_named (length deck) gift.code) before more (λ named.
     followed (run_job c deck named) (λ counts. rounds c deck i more (before ++ named.job ∷ []) gift.next))

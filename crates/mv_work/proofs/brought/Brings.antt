@@ -15,7 +15,8 @@ use Rattle.mv_machine.specs.declared.entry.VolumeReply.TheVariants as volume_rep
 use Rattle.mv_machine.specs.Setup.{Setup}
 use Rattle.mv_calls.specs.Keeping.{Kept, kept_after}
 use Rattle.mv_calls.specs.LatchCalls.{Requested, GrantedAs, PendingAs, release_latch}
-use Rattle.mv_calls.specs.Pauses.{Gift, gift_of, pause, paused, resumed, is_others_token}
+use Rattle.mv_calls.specs.declared.outcomes.Given.{Given}
+use Rattle.mv_calls.specs.Pauses.{gift_of, pause, paused, resumed, is_others_token}
 use Rattle.mv_calls.specs.Program.{Program, Do, Done, Early, Wrong, Heard, Call, Says, left, entries, going_on, unrefused, followed, wrong}
 use Rattle.mv_calls.specs.Program.{accepted, on_element, on_volume, unless_refused}
 use Rattle.mv_calls.specs.Refusal.{Refusal}
@@ -163,8 +164,8 @@ module _ {B : Type 0} (S : Past → B → Type 0) where
 
   -- ---- a pause: the caller is given one code
 
-  module _ (p : Past) (t : Token) (f : Gift → Call B)
-      (each : (gift : Gift) (k : Kept) (u : Past) → u.codes ≡ p.codes ++ gift.code ∷ [] → Brings S u (f gift k)) where
+  module _ (p : Past) (t : Token) (f : Given → Call B)
+      (each : (gift : Given) (k : Kept) (u : Past) → u.codes ≡ p.codes ++ gift.code ∷ [] → Brings S u (f gift k)) where
     resumes : (u : Past) → u.codes ≡ p.codes → (k : Kept) (e : Entry) (r : Reply) → e.reply ≡ r
         → Brings S (then_told u e) (going_on k (on_element r (resumed t.element)) (unrefused f))
     resumes u same k e (reply_of.Element (element_reply.Given code next)) q = each (gift_of t.element code next) k (then_told u e)
@@ -179,7 +180,7 @@ module _ {B : Type 0} (S : Past → B → Type 0) where
         resumes (then_told p e) (ap (λ r. and_code p.codes (gift_code r)) q) _ h.entry h.entry.reply refl
     pauses k e r q = tt
 
-    abbrev asking : Program (Result Gift Refusal)
+    abbrev asking : Program (Result Given Refusal)
     asking = Do (Element t.element) (op_on.Element (element_op.Pause t.generation))
         (λ h. on_element h.entry.reply (paused t.element t.generation))
 

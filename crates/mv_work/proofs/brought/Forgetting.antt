@@ -10,7 +10,8 @@ use Rattle.mv_calls.specs.Endings.{end_of_job}
 use Rattle.mv_calls.specs.Keeping.{Kept, kept_after}
 use Rattle.mv_calls.specs.LatchCalls.{Requested, GrantedAs, PendingAs, obtain, release_latch}
 use Rattle.mv_calls.specs.declared.outcomes.Purged.{Purged}
-use Rattle.mv_calls.specs.Pauses.{Gift, allocate, pause, deallocate}
+use Rattle.mv_calls.specs.declared.outcomes.Given.{Given}
+use Rattle.mv_calls.specs.Pauses.{allocate, pause, deallocate}
 use Rattle.mv_calls.specs.Posts.{post}
 use Rattle.mv_calls.specs.Program.{Program, Do, Done, Early, Wrong, Heard, Says, left, Call, going_on, followed, accepted, finished, wrong}
 use Rattle.mv_calls.specs.Refusal.{Refusal}
@@ -132,7 +133,7 @@ module _ (c : Setup) (deck : List JobData) where
     rounds_forget (suc more) records token =
         followed_by forgotten (post c (idle (length deck) i) token.generation) _ _ (λ posted.
         accepted_by forgotten (pause c token) _ _ (λ gift. given gift (λ rs. rounds_forget more rs gift.next) (gift.code == 0))) where
-          given : (gift : Gift) → ((rs : List JobRecord) → followed (rounds_noted c deck i more rs gift.next) forgotten
+          given : (gift : Given) → ((rs : List JobRecord) → followed (rounds_noted c deck i more rs gift.next) forgotten
               ≡ rounds c deck i more (jobs_of_records rs) gift.next) → (b : Bool)
               → followed (if b then accepted (deallocate c gift.next) (λ closed. finished records)
               else named_by (job_named (length deck) gift.code) (jobs_of_records records) more (job_then c deck i more records gift.next))

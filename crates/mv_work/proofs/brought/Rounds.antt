@@ -8,7 +8,8 @@ use Rattle.mv_element.specs.declared.element.Token.{Token}
 use Rattle.mv_machine.specs.Setup.{Setup}
 use Rattle.mv_calls.specs.Endings.{end_of_job}
 use Rattle.mv_calls.specs.Keeping.{Kept}
-use Rattle.mv_calls.specs.Pauses.{Gift, allocate, pause, deallocate}
+use Rattle.mv_calls.specs.declared.outcomes.Given.{Given}
+use Rattle.mv_calls.specs.Pauses.{allocate, pause, deallocate}
 use Rattle.mv_calls.specs.Posts.{post}
 use Rattle.mv_calls.specs.Program.{Done, Heard, Call, Says, left, entries, accepted, finished, wrong}
 use Rattle.mv_deck.specs.Deck.{JobData}
@@ -98,7 +99,7 @@ module _ (c : Setup) (deck : List JobData) (planned : ArePlannedJobs 0 deck) (i 
       → t.codes ≡ codes ++ (map code_named new ++ 0 ∷ []) → R t (records ++ new)
 
   -- what follows a gift, by whether its code is 0
-  abbrev given_call : Bool → ℕ → List JobRecord → Gift → Call (List JobRecord)
+  abbrev given_call : Bool → ℕ → List JobRecord → Given → Call (List JobRecord)
   given_call b more records gift = if b then accepted (deallocate c gift.next) (λ closed. finished records)
       else named_by (job_named (length deck) gift.code) (map (λ r. r.job) records) more (job_then c deck i more records gift.next)
 
@@ -107,7 +108,7 @@ module _ (c : Setup) (deck : List JobData) (planned : ArePlannedJobs 0 deck) (i 
   AreSo more = (records : List JobRecord) (token : Token) (p : Past) (kept : Kept) → Takes p.codes records
       → Brings R p (rounds_noted c deck i more records token kept)
 
-  module _ (records : List JobRecord) (gift : Gift) (codes : List ℕ) (take : Takes codes records) (u : Past)
+  module _ (records : List JobRecord) (gift : Given) (codes : List ℕ) (take : Takes codes records) (u : Past)
       (told : u.codes ≡ codes ++ gift.code ∷ []) (k : Kept) where
     last_round : gift.code ≡ 0 → Brings R u (accepted (deallocate c gift.next) (λ closed. finished records) k)
     last_round z =
@@ -144,7 +145,7 @@ module _ (c : Setup) (deck : List JobData) (planned : ArePlannedJobs 0 deck) (i 
   rounds_bring : (more : ℕ) → AreSo more
   rounds_bring zero records token p kept take = tt
   rounds_bring (suc more) records token p kept take =
-      let given : Gift → Call (List JobRecord) = λ gift. given_call (gift.code == 0) more records gift in
+      let given : Given → Call (List JobRecord) = λ gift. given_call (gift.code == 0) more records gift in
       quiet_then R p kept (post c (idle (length deck) i) token.generation kept) (λ posted. accepted (pause c token) given)
       (post_quiet c (idle (length deck) i) token.generation kept) (λ posted k t e.
       pause_then R t token given (λ gift j u told. given_to records gift p.codes take u (told ∙ ap (λ cs. cs ++ gift.code ∷ []) e) j more

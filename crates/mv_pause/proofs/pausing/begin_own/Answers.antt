@@ -1,18 +1,18 @@
 use Rattle.std.proofs.Common.{◌≤◌, Ok, Err, refl, sym, ap, subst, arith}
 use Rattle.mv_element.specs.declared.operation.ElementOp.TheVariants.{Pause}
-use Rattle.mv_element.specs.declared.operation.ElementReply.TheVariants.{Given, Spent}
+use Rattle.mv_element.specs.declared.operation.ElementReply.TheVariants.{Given as GivenWith, Spent}
 use Rattle.mv_machine.specs.declared.entry.Object.TheVariants.{Element}
 use Rattle.mv_machine.specs.declared.entry.Op.TheVariants as op_on
 use Rattle.mv_machine.specs.declared.entry.Reply.TheVariants as reply_of
 use Rattle.mv_machine.specs.Replies.{NamesUpTo}
 use Rattle.mv_board.specs.Faces.{Happened}
-use Rattle.mv_calls.specs.Pauses.{Gift, paused}
+use Rattle.mv_calls.specs.declared.outcomes.Given.{Given}
+use Rattle.mv_calls.specs.Pauses.{paused}
 use Rattle.mv_calls.specs.Program.{Done}
 use Rattle.mv_calls.specs.Refusal as refusal
 use Rattle.mv_calls.specs.Rest.{no_waits, waits_from, waits_after}
 use Rattle.mv_wait.proofs.Runs.{runs_within}
 use Rattle.mv_wait.proofs.Steps.{element_runs, waits_one, still_at_rest}
-use Rattle.mv_pause.specs.Answers.{gift_as}
 use Rattle.mv_pause.specs.Pausing.{pause_own}
 use Rattle.mv_pause.specs.Replies.{SaysBegun}
 use Rattle.mv_pause.proofs.Answering.{pause_says, says_idle, pause_is_current, current_is_not_spent, pause_gives, gives_next}
@@ -34,14 +34,14 @@ returns-in-Given g c =
     let u = c.event-reply.new.task in
     let gift = c.in-Given.gift in
     let op = op_on.Element (Pause token.generation) in
-    let reply = reply_of.Element (Given gift.code gift.next) in
-    let whole = Done (Ok (gift_as c.with_token.result)) in
+    let reply = reply_of.Element (GivenWith gift.code gift.next) in
+    let whole = Done (Ok c.with_token.result) in
     let h = subst (λ r. Happened t (Element n) op r u) c.in-Given.ensures c.event-reply.ensures.event in
     let next = gives_next c.args.station.now.config t u n token.generation (Pause token.generation) gift.code gift.next
     (pause_gives token.generation gift.code gift.next) h c.event-reply.ensures.possible in
     record {
       runs = runs_within 1 2 (pause_own token) whole t u (omega arith)
-          (element_runs (paused n token.generation) whole t u n (Pause token.generation) (Given gift.code gift.next) h
+          (element_runs (paused n token.generation) whole t u n (Pause token.generation) (GivenWith gift.code gift.next) h
           (ap (λ z. Done (Ok z)) (sym c.with_token.ensures)));
       rest = rests_by u.log (waits_after (waits_from no_waits t.log) (Element n) op reply) (waits_one t u (Element n) op reply h)
           (none_given (waits_from no_waits t.log) n gift.code gift.next op c.requires.task.rest);
@@ -50,7 +50,7 @@ returns-in-Given g c =
           (was_given t u token op gift.code gift.next h next) next;
       low = (
         tt,
-        subst (λ (z : Gift). z.next.generation ≤ 262143) (sym c.with_token.ensures)
+        subst (λ (z : Given). z.next.generation ≤ 262143) (sym c.with_token.ensures)
             (subst (NamesUpTo 262143) c.in-Given.ensures c.event-reply.ensures.low),
       );
     }

@@ -3,7 +3,6 @@ use Rattle.mv_calls.specs.Keeping.{kept_of}
 use Rattle.mv_calls.specs.Pauses.{pause_current, transfer_refusal}
 use Rattle.mv_calls.specs.Program.{Done}
 use Rattle.mv_wait.specs.Run.{Runs}
-use Rattle.mv_pause.specs.Answers.{gift_as}
 use Rattle.mv_pause.specs.Transferring.{pause_cost, IsGivenTo}
 use Rattle.mv_pause.proofs.Served.{own_is}
 use Rattle.mv_pause.proofs.Transfers.{accepted, paused_with}
@@ -23,7 +22,7 @@ returns-clause-paused g c =
     let u = c.pause_own.new.task in
     let kept = kept_of t.number t.log in
     let own = (accepted s c.in-Some.token kept (subst (λ z. transfer_refusal s z kept ≡ None) c.in-Some.is c.requires.accepted)).own in
-    subst (λ z. Runs (pause_cost z) (pause_current s z kept) (Done (Ok (Some (gift_as c.in-Ok.given)))) t u) (sym c.in-Some.is)
+    subst (λ z. Runs (pause_cost z) (pause_current s z kept) (Done (Ok (Some c.in-Ok.given))) t u) (sym c.in-Some.is)
     (paused_with s c.in-Some.token t u c.in-Ok.given own c.in-Ok.ensures.runs)
 
 pub returns-clause-given : goal.returns-clause-given

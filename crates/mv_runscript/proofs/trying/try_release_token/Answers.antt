@@ -5,12 +5,11 @@ use Rattle.mv_element.specs.Element.{reset}
 use Rattle.mv_machine.specs.declared.entry.Object.TheVariants.{Element}
 use Rattle.mv_machine.specs.declared.packing.WordState.TheVariants as state
 use Rattle.mv_machine.proofs.Words.{packed_unpacks}
-use Rattle.mv_pause.specs.Answers.{reached}
 use Rattle.mv_pause.specs.Releasing.{HasNoPause, IsTried}
 use Rattle.mv_wait.specs.Run.{IsServed}
 use Rattle.mv_script.specs.declared.answer.Answer.TheVariants as answer
 use Rattle.mv_script.specs.declared.call.Call.TheVariants as call
-use Rattle.mv_runscript.specs.Served.{Serves}
+use Rattle.mv_runscript.specs.Served.{MakesService}
 use Rattle.mv_runscript.proofs.Makes.{plain_makes, missed_makes}
 use Rattle.mv_runscript.proofs.Served.{served_with}
 use Rattle.mv_runscript.proofs.trying.try_release_token.Goals as goal
@@ -35,9 +34,9 @@ returns-in-Ok-Early c table tokens =
     let t = c.args.task.now in
     let u = c.try_release.new.task in
     plain_makes (call.TryRelease token c.args.place code) refl refl refl
-    (subst (λ w. Serves config (service.TryRelease token w code) answer.Early t u) c.reset_at-reset.ensures
+    (subst (λ w. MakesService config (service.TryRelease token w code) answer.Early t u) c.reset_at-reset.ensures
     (served_with refl
-    (subst (λ r. IsServed 1 (try_release token c.reset_at-reset.result code) (λ a. a ≡ Ok (reached r)) t u) c.in-Ok-Early.field-0-is
+    (subst (λ r. IsServed 1 (try_release token c.reset_at-reset.result code) (λ a. a ≡ Ok r) t u) c.in-Ok-Early.field-0-is
     c.in-Ok-Early.ensures.served)))
 
 pub returns-in-Err-Moved : goal.returns-in-Err-Moved

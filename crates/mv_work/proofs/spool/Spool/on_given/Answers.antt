@@ -4,7 +4,6 @@ use Rattle.std.proofs.lemmas.Result.{err_from_is_err_and}
 use Rattle.mv_deck.specs.Deck.{JobData}
 use Rattle.mv_plan.specs.Jobs.{job_at}
 use Rattle.mv_plan.specs.SpoolTasks.{Named, job_named}
-use Rattle.mv_pause.specs.Answers.{gift_as}
 use Rattle.mv_calls.specs.Program.{wrong}
 use Rattle.mv_work.specs.Initiating.{given_then, named_then, jobs_of_records, rounds_after, job_marks, left_of, steps_events}
 use Rattle.mv_work.specs.Parts.{named_of}
@@ -24,13 +23,13 @@ pub returns-in_err-deallocate-clause-comes : goal.returns-in_err-deallocate-clau
 returns-in_err-deallocate-clause-comes g c =
     let on = ap (λ (s : SpoolFace). s.board) c.self.view_is in
     let p = err_from_is_err_and c.from_residual.result c.from_residual.ensures.1 in
-    rw p.1 (comes_astray (ended c.args.self.now c.args.me.now c.args.round (gift_as c.args.given) c.if-given-eq-NO_JOB.true
+    rw p.1 (comes_astray (ended c.args.self.now c.args.me.now c.args.round c.args.given c.if-given-eq-NO_JOB.true
     (rw on at c.in_err-deallocate.ensures.served) refl))
 
 pub returns-then-given-eq-NO_JOB-clause-comes : goal.returns-then-given-eq-NO_JOB-clause-comes
 returns-then-given-eq-NO_JOB-clause-comes g c =
     let on = ap (λ (s : SpoolFace). s.board) c.self.view_is in record {
-      come = ended c.args.self.now c.args.me.now c.args.round (gift_as c.args.given) c.if-given-eq-NO_JOB.true
+      come = ended c.args.self.now c.args.me.now c.args.round c.args.given c.if-given-eq-NO_JOB.true
           (rw on at c.in_ok-deallocate.ensures.served) refl;
     }
 
@@ -38,13 +37,13 @@ pub returns-in_err-named-clause-comes : goal.returns-in_err-named-clause-comes
 returns-in_err-named-clause-comes g c =
     let p = err_from_is_err_and c.from_residual-in_err-named.result c.from_residual-in_err-named.ensures.1 in
     rw p.1 (comes_nowhere c.args.task.now
-    (unnamed c.args.self.now c.args.me.now c.args.round (gift_as c.args.given) c.if-given-eq-NO_JOB.false
+    (unnamed c.args.self.now c.args.me.now c.args.round c.args.given c.if-given-eq-NO_JOB.false
     (named_so c.args.given.code _ c.jobs-jobs.ensures.jobs c.in_err-named.ensures)) c.requires.task.rest)
 
 pub returns-then-round-jobs-clause-comes : goal.returns-then-round-jobs-clause-comes
 returns-then-round-jobs-clause-comes g c =
     comes_nowhere c.args.task.now
-    (last_named c.args.self.now c.args.me.now c.args.round (gift_as c.args.given) c.if-given-eq-NO_JOB.false
+    (last_named c.args.self.now c.args.me.now c.args.round c.args.given c.if-given-eq-NO_JOB.false
     (named_so c.args.given.code _ c.jobs-jobs.ensures.jobs c.in_ok-named.ensures) (omega arith)) c.requires.task.rest
 
 -- the job that a code names is one of the deck's
@@ -54,7 +53,7 @@ place_of g c = (named_is (length c.args.self.now.jobs) c.args.given.code (named_
 
 -- what is left to do, by whether the job was given before
 left_is : (g : bound.Over) (c : After-index g) (b : Bool) → c.index.result.now ≡ b
-    → given_then c.args.self.now c.args.me.now (length c.args.self.now.jobs - c.args.round) (gift_as c.args.given)
+    → given_then c.args.self.now c.args.me.now (length c.args.self.now.jobs - c.args.round) c.args.given
     ≡ (if b then wrong else named_then c.args.self.now c.args.me.now (rounds_after c.args.self.now c.args.round) c.args.given.next
     (named_of c.in_ok-named.named))
 left_is g c b is =
@@ -63,7 +62,7 @@ left_is g c b is =
     let size = between.size in
     let some = named_so c.args.given.code _ c.jobs-jobs.ensures.jobs c.in_ok-named.ensures in
     let place = place_of g c in
-    named_now c.args.self.now c.args.me.now c.args.round (gift_as c.args.given) c.if-given-eq-NO_JOB.false some (omega arith) between.given
+    named_now c.args.self.now c.args.me.now c.args.round c.args.given c.if-given-eq-NO_JOB.false some (omega arith) between.given
     (omega arith) b
     (get_or_default c.args.me.now.given.items c.in_ok-named.named.job false c.index.result.now (omega arith) ∙ sym c.index.ensures ∙ is)
 
