@@ -164,7 +164,7 @@ impl WaitCall {
     {
         match self.stage {
             Stage::New => {
-                if let Err(refusal) = station.arm_wait(rt, task, self.count, &self.ecbs) {
+                if let Err(refusal) = station.begin_wait(rt, task, self.count, &self.ecbs) {
                     self.refuse();
                     return Turn::Ready(Err(refusal));
                 }
@@ -208,7 +208,7 @@ impl WaitCall {
             return Turn::Pending;
         }
         self.keys.clear();
-        station.settle_wait(rt, task, self.count, &self.ecbs, &mut self.found);
+        station.end_wait(rt, task, self.count, &self.ecbs, &mut self.found);
         self.stage = Stage::Over;
         Turn::Ready(Ok(()))
     }

@@ -101,7 +101,7 @@ impl Station {
         ensures enough { IfOk result (λ _. count ≤ complete_count (slots_of out.new)) }
         ensures codes { IfOk result (λ _. AllByRecursion HasLowCode out.new) }
     {
-        if let Err(refusal) = self.arm_wait(rt, task, count, ecbs) {
+        if let Err(refusal) = self.begin_wait(rt, task, count, ecbs) {
             return Err(refusal);
         }
         self.await_complete(
@@ -112,13 +112,13 @@ impl Station {
             count,
             ecbs,
         );
-        self.settle_wait(rt, task, count, ecbs, out);
+        self.end_wait(rt, task, count, ecbs, out);
         Ok(())
     }
 
     /// Begins a wait, for a call that does not park: arms each block, unless the wait is refused.
     ///
-    /// The call makes one event a block, and as many more must be left for `settle_wait`, which is the only call that ends such a
+    /// The call makes one event a block, and as many more must be left for `end_wait`, which is the only call that ends such a
     /// wait.
     ///
     /// # Errors
@@ -130,7 +130,7 @@ impl Station {
     /// From `crates/mv_polled/src/waiting.rt`, the first poll of a wait:
     ///
     /// ```
-    /// if let Err(refusal) = station.arm_wait(rt, task, self.count, &self.ecbs) {
+    /// if let Err(refusal) = station.begin_wait(rt, task, self.count, &self.ecbs) {
     ///     self.refuse();
     ///     return Turn::Ready(Err(refusal));
     /// }
@@ -138,7 +138,7 @@ impl Station {
     /// self.go_on(station, rt, task)
     /// ```
     #[inline(always)]
-    pub fn arm_wait<R: Wait>(
+    pub fn begin_wait<R: Wait>(
         &self,
         rt: &R,
         task: &mut Task,
@@ -160,7 +160,7 @@ impl Station {
         Ok(())
     }
 
-    /// Ends a wait that `arm_wait` began, once at least `count` of its blocks were seen complete: settles each block.
+    /// Ends a wait that `begin_wait` began, once at least `count` of its blocks were seen complete: settles each block.
     ///
     /// `out` has a slot for each block. It makes one event a block, which must be left.
     ///
@@ -173,10 +173,10 @@ impl Station {
     ///     return Turn::Pending;
     /// }
     /// self.keys.clear();
-    /// station.settle_wait(rt, task, self.count, &self.ecbs, &mut self.found);
+    /// station.end_wait(rt, task, self.count, &self.ecbs, &mut self.found);
     /// ```
     #[inline(always)]
-    pub fn settle_wait<R: Wait>(
+    pub fn end_wait<R: Wait>(
         &self,
         rt: &R,
         task: &mut Task,

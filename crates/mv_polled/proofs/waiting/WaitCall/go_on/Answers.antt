@@ -56,42 +56,42 @@ returns-then-len-self-clause-turn g c = λ t0 w.
       slots = ap (λ st. shown st c.self.inside.found.items) stage;
     }
 
-pub settle_wait-requires-clause-plain : goal.settle_wait-requires-clause-plain
-settle_wait-requires-clause-plain g c =
+pub end_wait-requires-clause-plain : goal.end_wait-requires-clause-plain
+end_wait-requires-clause-plain g c =
     let t = c.args.task.now in
     let u = c.look_at.new.task in
     let looks = c.look_at.ensures.went in
     subst (ArePlain u) (sym (c.deref-2.ensures.value ∙ ap (λ (f : WaitFace). f.ecbs) c.self.view_is))
     (plain_still t u c.args.self.now.ecbs looks.same.number (went_log t u looks) c.requires.waiting.1.plain)
 
-pub settle_wait-requires-clause-listed : goal.settle_wait-requires-clause-listed
-settle_wait-requires-clause-listed g c =
-    let all = all_seen g (goal.at.settle_wait-requires-clause-listed g c).After-look_at in
+pub end_wait-requires-clause-listed : goal.end_wait-requires-clause-listed
+end_wait-requires-clause-listed g c =
+    let all = all_seen g (goal.at.end_wait-requires-clause-listed g c).After-look_at in
     let more = c.if-len-self.false in
     let enough : c.self.inside.count ≤ listed_count c.look_at.new.task.ready c.self.inside.ecbs.items = omega arith in
     subst (λ xs. c.self.inside.count ≤ listed_count c.look_at.new.task.ready xs) (sym c.deref-2.ensures.value) enough
 
 pub returns-clause-task : goal.returns-clause-task
 returns-clause-task g c =
-    same_then c.args.task.now c.look_at.new.task c.settle_wait.new.task c.look_at.ensures.went.same
-    (c.settle_wait.ensures.settled.settles [] (λ xs. Wrong)).went.same
+    same_then c.args.task.now c.look_at.new.task c.end_wait.new.task c.look_at.ensures.went.same
+    (c.end_wait.ensures.settled.settles [] (λ xs. Wrong)).went.same
 
 pub returns-clause-turn : goal.returns-clause-turn
 returns-clause-turn g c = λ t0 w.
     let s = c.args.station.now.config in
     let t = c.args.task.now in
     let u = c.look_at.new.task in
-    let v = c.settle_wait.new.task in
-    let out = c.settle_wait.new.out in
+    let v = c.end_wait.new.task in
+    let out = c.end_wait.new.out in
     let count = c.self.inside.count in
     let es = c.self.inside.ecbs.items in
     let stage : c.self.inside.stage ≡ Begun = ap (λ (f : WaitFace). f.stage) c.self.view_is ∙ c.requires.stage in
     let before = subst (λ (f : WaitFace). IsWaiting s f.count f.ecbs t0 t) (sym c.self.view_is) w in
     let waiting = waiting_look s count es t0 t u before c.look_at.ensures.went in
-    let settled = subst (λ xs. SettlesEnough count xs (slots_of out) u v) c.deref-2.ensures.value c.settle_wait.ensures.settled in
+    let settled = subst (λ xs. SettlesEnough count xs (slots_of out) u v) c.deref-2.ensures.value c.end_wait.ensures.settled in
     let found = c.self.inside.found in
     let slots = subst (λ st. HasSlots st found.items es) stage c.self.invariant.slots in
-    let size : length out ≡ length found.items = c.settle_wait.ensures.size ∙ ap length c.deref_mut.ensures.value in
+    let size : length out ≡ length found.items = c.end_wait.ensures.size ∙ ap length c.deref_mut.ensures.value in
     let whole = found.ok.0 in
     let back : take found.len (out ++ drop (length out) found.items) ≡ out = given_back found.len out found.items size (omega arith) in
     subst (λ xs. IsWaited s
@@ -106,7 +106,7 @@ returns-clause-turn g c = λ t0 w.
     }) (Ok tt) t0 v)
     (sym back)
     (record {
-      served = waiting_ends s count es (slots_of out) t0 u v waiting settled c.settle_wait.ensures.rest;
+      served = waiting_ends s count es (slots_of out) t0 u v waiting settled c.end_wait.ensures.rest;
       causes = (before.accepted, settled.enough, size ∙ slots);
       stage = refl;
       keys = c.clear.ensures.items;

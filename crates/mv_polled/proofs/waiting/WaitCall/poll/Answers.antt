@@ -15,7 +15,7 @@ pub returns-in-Err-clause-turn : goal.returns-in-Err-clause-turn
 returns-in-Err-clause-turn g c = λ t0 at.
     let s = c.args.station.now.config in
     let t = c.args.task.now in
-    let u = c.arm_wait.new.task in
+    let u = c.begin_wait.new.task in
     let new : c.args.self.now.stage ≡ New = sym (ap (λ (f : WaitFace). f.stage) c.self.view_is) ∙ c.in-New.is in
     let why = wait_refused c.in-Err.refusal in
     let refusal = subst (λ (f : WaitFace). wait_refusal s f.count f.ecbs (kept_of t.number t.log) ≡ Some why) c.self.view_is
@@ -25,14 +25,14 @@ returns-in-Err-clause-turn g c = λ t0 at.
 
 pub go_on-requires-clause-task : goal.go_on-requires-clause-task
 go_on-requires-clause-task g c =
-    still_of c.args.station.now c.args.station.now c.args.task.now c.arm_wait.new.task (c.in_default.ensures.armed.arms Wrong).went.same
+    still_of c.args.station.now c.args.station.now c.args.task.now c.begin_wait.new.task (c.in_default.ensures.armed.arms Wrong).went.same
     c.requires.task refl
 
 pub go_on-requires-clause-waiting : goal.go_on-requires-clause-waiting
 go_on-requires-clause-waiting g c =
     let s = c.args.station.now.config in
     let t = c.args.task.now in
-    let u = c.arm_wait.new.task in
+    let u = c.begin_wait.new.task in
     let new : c.args.self.now.stage ≡ New = sym (ap (λ (f : WaitFace). f.stage) c.self.view_is) ∙ c.in-New.is in
     let at = c.requires.stage in (
       at.0,
@@ -42,13 +42,13 @@ go_on-requires-clause-waiting g c =
 
 pub returns-in_default-clause-task : goal.returns-in_default-clause-task
 returns-in_default-clause-task g c =
-    same_then c.args.task.now c.arm_wait.new.task c.go_on.new.task (c.in_default.ensures.armed.arms Wrong).went.same c.go_on.ensures.task
+    same_then c.args.task.now c.begin_wait.new.task c.go_on.new.task (c.in_default.ensures.armed.arms Wrong).went.same c.go_on.ensures.task
 
 pub returns-in_default-clause-turn : goal.returns-in_default-clause-turn
 returns-in_default-clause-turn g c = λ t0 at.
     let s = c.args.station.now.config in
     let t = c.args.task.now in
-    let u = c.arm_wait.new.task in
+    let u = c.begin_wait.new.task in
     let new : c.args.self.now.stage ≡ New = sym (ap (λ (f : WaitFace). f.stage) c.self.view_is) ∙ c.in-New.is in
     let met = (c.in_default.ensures.armed.arms Wrong).went.met in
     turn_since s c.go_on.new.self met.0 t0 t u c.go_on.new.task c.go_on.result met.1

@@ -24,7 +24,7 @@ returns-in-Err-clause-served g c =
 pub await_complete-requires-clause-task : goal.await_complete-requires-clause-task
 await_complete-requires-clause-task g c =
     let t = c.args.task.now in
-    let u = c.arm_wait.new.task in
+    let u = c.begin_wait.new.task in
     let r = c.task.inside.caller in
     let same = (c.in_default.ensures.armed.arms Wrong).went.same in
     still_of c.args.self.now c.args.self.now t r (same_then t u r same (same_view u r c.task.view_is)) c.requires.task.board refl
@@ -57,42 +57,42 @@ invariant_of-task g c =
       places = c.task.invariant.places ∙ sym (ap blocks_in looks.same.about);
     }
 
-pub settle_wait-requires-clause-task : goal.settle_wait-requires-clause-task
-settle_wait-requires-clause-task g c =
+pub end_wait-requires-clause-task : goal.end_wait-requires-clause-task
+end_wait-requires-clause-task g c =
     let t = c.args.task.now in
-    let u = c.arm_wait.new.task in
+    let u = c.begin_wait.new.task in
     let r = c.task.inside.caller in
     let v = c.await_complete.new.caller in
     let same = (c.in_default.ensures.armed.arms Wrong).went.same in
     still_of c.args.self.now c.args.self.now t v
     (same_then t r v (same_then t u r same (same_view u r c.task.view_is)) c.await_complete.ensures.went.same) c.requires.task.board refl
 
-pub settle_wait-requires-clause-waits : goal.settle_wait-requires-clause-waits
-settle_wait-requires-clause-waits g c =
+pub end_wait-requires-clause-waits : goal.end_wait-requires-clause-waits
+end_wait-requires-clause-waits g c =
     subst (IsArmedFor c.args.ecbs.now) (sym (went_log c.task.inside.caller c.await_complete.new.caller c.await_complete.ensures.went))
     (subst (λ (d : CallerFace). IsArmedFor c.args.ecbs.now d.log) (sym c.task.view_is) c.in_default.ensures.armed.waits)
 
-pub settle_wait-requires-clause-own : goal.settle_wait-requires-clause-own
-settle_wait-requires-clause-own g c =
+pub end_wait-requires-clause-own : goal.end_wait-requires-clause-own
+end_wait-requires-clause-own g c =
     let number = c.await_complete.ensures.went.same.number ∙ ap (λ (d : CallerFace). d.number) c.task.view_is in
     subst (λ k. AreOwn c.args.self.now.config k c.args.ecbs.now) (sym number) c.in_default.ensures.armed.own
 
-pub settle_wait-requires-clause-distinct : goal.settle_wait-requires-clause-distinct
-settle_wait-requires-clause-distinct g c = c.in_default.ensures.armed.distinct
+pub end_wait-requires-clause-distinct : goal.end_wait-requires-clause-distinct
+end_wait-requires-clause-distinct g c = c.in_default.ensures.armed.distinct
 
-pub settle_wait-requires-clause-listed : goal.settle_wait-requires-clause-listed
-settle_wait-requires-clause-listed g c = c.await_complete.ensures.listed
+pub end_wait-requires-clause-listed : goal.end_wait-requires-clause-listed
+end_wait-requires-clause-listed g c = c.await_complete.ensures.listed
 
-pub settle_wait-requires-clause-plain : goal.settle_wait-requires-clause-plain
-settle_wait-requires-clause-plain g c =
+pub end_wait-requires-clause-plain : goal.end_wait-requires-clause-plain
+end_wait-requires-clause-plain g c =
     let r = c.task.inside.caller in
     let v = c.await_complete.new.caller in
     let looks = c.await_complete.ensures.went in
     plain_still r v c.args.ecbs.now looks.same.number (went_log r v looks)
     (subst (λ (d : CallerFace). ArePlain d c.args.ecbs.now) (sym c.task.view_is) c.in_default.ensures.armed.plain)
 
-pub settle_wait-requires-clause-left : goal.settle_wait-requires-clause-left
-settle_wait-requires-clause-left g c =
+pub end_wait-requires-clause-left : goal.end_wait-requires-clause-left
+end_wait-requires-clause-left g c =
     let run = c.in_default.ensures.armed.arms Wrong in
     let few = run.few in
     let first = run.went.left in
@@ -103,13 +103,13 @@ settle_wait-requires-clause-left g c =
 pub returns-clause-served : goal.returns-clause-served
 returns-clause-served g c =
     let t = c.args.task.now in
-    let u = c.arm_wait.new.task in
+    let u = c.begin_wait.new.task in
     let r = c.task.inside.caller in
     let v = c.await_complete.new.caller in
-    let w = c.settle_wait.new.task in
+    let w = c.end_wait.new.task in
     let es = c.args.ecbs.now in
     let s = c.args.self.now.config in
     let armed = c.in_default.ensures.armed in
-    wait_served s c.args.count es (slots_of c.settle_wait.new.out) t u v w armed.accepted c.requires.task.rest armed.arms
-    (subst (λ (d : CallerFace). Went [] d v) c.task.view_is c.await_complete.ensures.went) c.settle_wait.ensures.settled
-    c.settle_wait.ensures.rest
+    wait_served s c.args.count es (slots_of c.end_wait.new.out) t u v w armed.accepted c.requires.task.rest armed.arms
+    (subst (λ (d : CallerFace). Went [] d v) c.task.view_is c.await_complete.ensures.went) c.end_wait.ensures.settled
+    c.end_wait.ensures.rest

@@ -11,7 +11,7 @@ use Rattle.mv_wait.specs.Answers.{wait_refused}
 use Rattle.mv_wait.specs.Waiting.{ArePlain, AreOwn, ArmsAll}
 use Rattle.mv_wait.proofs.Parts.{still_of, same_view}
 use Rattle.mv_wait.proofs.Unrefusing.{accepted_wait, accepted_own, both_own}
-use Rattle.mv_wait.proofs.station.Station.arm_wait.Goals as goal
+use Rattle.mv_wait.proofs.station.Station.begin_wait.Goals as goal
 
 pub returns-in-Some-clause-armed : goal.returns-in-Some-clause-armed
 returns-in-Some-clause-armed g c =

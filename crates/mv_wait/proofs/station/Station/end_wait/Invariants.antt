@@ -6,7 +6,7 @@ use Rattle.mv_wait.specs.Answers.{slots_of}
 use Rattle.mv_wait.specs.Listed.{listed_count}
 use Rattle.mv_wait.specs.Run.{Runs}
 use Rattle.mv_wait.specs.Waiting.{IsArmedFor, ArePlain, Waited, HasLowCode}
-use Rattle.mv_wait.proofs.station.Station.settle_wait.Given as goal
+use Rattle.mv_wait.proofs.station.Station.end_wait.Given as goal
 
 abbrev pub invariant-loop-i : goal.invariant-loop-i
 invariant-loop-i g l = record {

@@ -16,7 +16,7 @@ use Rattle.mv_wait.specs.Waiting.{IsArmedFor, settle_reply, HasLowCode}
 use Rattle.mv_wait.proofs.Parts.{still_of, own_one, one_of}
 use Rattle.mv_wait.proofs.Runs.{runs_none, runs_then, runs_within}
 use Rattle.mv_wait.proofs.Waits.{settled_less, event_keeps, settle_step, slots_more, enough_still, distinct_later, none_is_rest}
-use Rattle.mv_wait.proofs.station.Station.settle_wait.Goals as goal
+use Rattle.mv_wait.proofs.station.Station.end_wait.Goals as goal
 
 pub loop-i-init : goal.loop-i-init
 loop-i-init g c = record {
