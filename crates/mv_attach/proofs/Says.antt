@@ -33,6 +33,8 @@ use Rattle.mv_calls.specs.Refusal.{Refusal}
 use Rattle.mv_calls.specs.Refusal as refusal
 use Rattle.mv_calls.specs.Waits.{wait, wait_refusal, refused_if, is_others_block, clear, the_word, arm_all, armed, settle_all, settled}
 use Rattle.mv_calls.specs.Waits.{enough, complete_count, read_volume, the_value, write_volume, stored}
+use Rattle.mv_calls.specs.declared.outcomes.WaitSlot.{WaitSlot}
+use Rattle.mv_calls.specs.declared.outcomes.WaitSlot.TheVariants as wait_slot
 use Rattle.mv_attach.proofs.Always.{Always, always_ecb, always_element, always_latch, always_volume, always_unless}
 
 module _ (P : Object → Op → Type 0) where
@@ -54,13 +56,13 @@ module _ (P : Object → Op → Type 0) where
   always_arm (e ∷ es) p may a =
       (may.0, λ h. always_ecb P h.entry.reply (armed (arm_all es p)) (always_armed (arm_all es p) (always_arm es p may.1 a)))
 
-  always_settled : {A : Type 0} (f : Option ℕ → Program A) → ((o : Option ℕ) → Always P (f o)) → (x : EcbReply) → Always P (settled f x)
-  always_settled f a ecb_reply.Open = a None
-  always_settled f a (ecb_reply.Complete c) = a (Some c)
+  always_settled : {A : Type 0} (f : WaitSlot → Program A) → ((o : WaitSlot) → Always P (f o)) → (x : EcbReply) → Always P (settled f x)
+  always_settled f a ecb_reply.Open = a wait_slot.Open
+  always_settled f a (ecb_reply.Complete c) = a (wait_slot.Complete c)
   always_settled f a x = tt
 
-  always_settle : {A : Type 0} (es : List ℕ) (found : List (Option ℕ)) (f : List (Option ℕ) → Program A) → AllByRecursion MaySettle es
-      → ((slots : List (Option ℕ)) → Always P (f slots)) → Always P (settle_all es found f)
+  always_settle : {A : Type 0} (es : List ℕ) (found : List WaitSlot) (f : List WaitSlot → Program A) → AllByRecursion MaySettle es
+      → ((slots : List WaitSlot) → Always P (f slots)) → Always P (settle_all es found f)
   always_settle [] found f may a = a found
   always_settle (e ∷ es) found f may a = (
     may.0,
@@ -68,7 +70,7 @@ module _ (P : Object → Op → Type 0) where
         (always_settled (λ slot. settle_all es (found ++ slot ∷ []) f) (λ slot. always_settle es (found ++ slot ∷ []) f may.1 a)),
   )
 
-  enough_if : (b : Bool) (slots : List (Option ℕ)) → Always {A = Result (List (Option ℕ)) Refusal} P (if b then Done (Ok slots) else Early)
+  enough_if : (b : Bool) (slots : List WaitSlot) → Always {A = Result (List WaitSlot) Refusal} P (if b then Done (Ok slots) else Early)
   enough_if true slots = tt
   enough_if false slots = tt
 

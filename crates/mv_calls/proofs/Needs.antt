@@ -64,6 +64,8 @@ use Rattle.mv_calls.proofs.Replies.{obtain_once}
 use Rattle.mv_calls.proofs.Posting.{Asks, HasOwnExit, both_ask, none_asks, post_asks, wakes_ask}
 use Rattle.mv_calls.proofs.Uses.{last_same, wakes_of_next, call_exits}
 use Rattle.mv_calls.proofs.Making.{entries-append, told_by-append}
+use Rattle.mv_calls.specs.declared.outcomes.WaitSlot.{WaitSlot}
+use Rattle.mv_calls.specs.declared.outcomes.WaitSlot.TheVariants as wait_slot
 
 -- a bound may be wider
 wider : {A : Type 0} (P : Heard → Type 0) (m n : ℕ) (p : Program A) → m ≤ n → Asks P m p → Asks P n p
@@ -91,9 +93,9 @@ unless_asks P n (Some why) p few = none_asks P n (Done (Err why)) tt
 -- ---- waits
 
 -- a settle for each block
-settles_ask : (P : Heard → Type 0) (es : List ℕ) (found : List (Option ℕ)) (f : List (Option ℕ)
-    → Program (Result (List (Option ℕ)) Refusal))
-    → ((slots : List (Option ℕ)) → Asks P 0 (f slots)) → Asks P (length es) (waits.settle_all es found f)
+settles_ask : (P : Heard → Type 0) (es : List ℕ) (found : List WaitSlot) (f : List WaitSlot
+    → Program (Result (List WaitSlot) Refusal))
+    → ((slots : List WaitSlot) → Asks P 0 (f slots)) → Asks P (length es) (waits.settle_all es found f)
 settles_ask P [] found f last = last found
 settles_ask P (e ∷ es) found f last = one_more P (length es) _ _ _
     (λ h is. by_settle (Asks P (length es)) (none_asks P (length es)) _ (λ slot. settles_ask P es (found ++ slot ∷ []) f last)
@@ -333,9 +335,9 @@ post_event_asks c t index code kept sound lt low =
     (λ got now. with_latch_asks c t index code got now sound lt (omega arith)))
 
 -- what follows the wait for a slot
-slot_found_asks : (P : Heard → Type 0) (t : Table) (a : Result (List (Option ℕ)) Refusal) (kept : Kept)
+slot_found_asks : (P : Heard → Type 0) (t : Table) (a : Result (List WaitSlot) Refusal) (kept : Kept)
     → Asks P 1 (events.slot_found t a kept)
-slot_found_asks P t (Ok (Some index ∷ [])) kept = go (nat_lt index t.size) where
+slot_found_asks P t (Ok (wait_slot.Complete index ∷ [])) kept = go (nat_lt index t.size) where
   go : (b : Bool) → Asks P 1 (cond b (events.handed_out t index) (finished (Err (Strange index))) kept)
   go true = wider P (1 + 0) 1 _ (omega arith)
       (follow_asks P 1 0 (waits.test_ecb (event_block t index)) (λ word. finished (Ok (record { index = index; word = word }))) kept

@@ -27,6 +27,8 @@ use Rattle.mv_calls.specs.Program.{Program, Do, Done, Early, Wrong, Heard, heard
 use Rattle.mv_calls.specs.Program.{unless_refused}
 use Rattle.mv_calls.specs.Refusal.{Refusal, NotOwner}
 use Rattle.mv_calls.specs.Waits as waits
+use Rattle.mv_calls.specs.declared.outcomes.WaitSlot.{WaitSlot}
+use Rattle.mv_calls.specs.declared.outcomes.WaitSlot.TheVariants as wait_slot
 
 -- a program without event: it has its answer, its wait has ended too soon, or nothing foresees it
 abbrev pub HasNoEvent : {A : Type 0} → Program A → Type 0
@@ -59,10 +61,10 @@ by_arm P ends p rest (reply_of.Ecb (ecb_reply.Complete code)) = rest
 by_arm P ends p rest r = ends Wrong tt
 
 -- behind a settle
-pub by_settle : {A : Type 0} (P : Program A → Type 0) → HoldsAtEnds P → (f : Option ℕ → Program A) → ((slot : Option ℕ) → P (f slot))
+pub by_settle : {A : Type 0} (P : Program A → Type 0) → HoldsAtEnds P → (f : WaitSlot → Program A) → ((slot : WaitSlot) → P (f slot))
     → (r : Reply) → P (on_ecb r (waits.settled f))
-by_settle P ends f each (reply_of.Ecb (ecb_reply.Complete code)) = each (Some code)
-by_settle P ends f each (reply_of.Ecb ecb_reply.Open) = each None
+by_settle P ends f each (reply_of.Ecb (ecb_reply.Complete code)) = each (wait_slot.Complete code)
+by_settle P ends f each (reply_of.Ecb ecb_reply.Open) = each wait_slot.Open
 by_settle P ends f each r = ends Wrong tt
 
 -- behind the close of an element of a task that ends
@@ -93,9 +95,9 @@ gave_ends (Ok gift) = tt
 gave_ends answer = tt
 
 -- the end of a wait
-pub enough_ends : (count : ℕ) (slots : List (Option ℕ)) → HasNoEvent (waits.enough count slots)
+pub enough_ends : (count : ℕ) (slots : List WaitSlot) → HasNoEvent (waits.enough count slots)
 enough_ends count slots = go (nat_le count (waits.complete_count slots)) where
-  go : (b : Bool) → HasNoEvent {A = Result (List (Option ℕ)) Refusal} (if b then Done (Ok slots) else Early)
+  go : (b : Bool) → HasNoEvent {A = Result (List WaitSlot) Refusal} (if b then Done (Ok slots) else Early)
   go true = tt
   go false = tt
 

@@ -1,5 +1,5 @@
 -- Waits, posts, exits and volumes: histories in which each call is done on its entries with its answer, by computing them.
-use Rattle.std.proofs.Common.{◌≡◌, List, [], ◌∷◌, take, drop, Some, None, Ok, Err, refl}
+use Rattle.std.proofs.Common.{◌≡◌, List, [], ◌∷◌, take, drop, Some, Ok, Err, refl}
 use Rattle.mv_ecb.specs.declared.operation.EcbOp.TheVariants as ecb_op
 use Rattle.mv_ecb.specs.declared.operation.EcbReply.TheVariants as ecb_reply
 use Rattle.mv_machine.specs.declared.entry.Entry.{Entry}
@@ -19,13 +19,14 @@ use Rattle.mv_calls.specs.Runs.{heard_in}
 use Rattle.mv_calls.specs.Services.{program, Wait, Post, TryPost, Clear, Extend, TestEcb, ReadVolume, WriteVolume}
 use Rattle.mv_calls.proofs.Examples as examples
 use Rattle.mv_calls.proofs.Computed.{does, IsRow, row, legal_by, one_task, two_tasks, at_block, at_volume}
+use Rattle.mv_calls.specs.declared.outcomes.WaitSlot.TheVariants as wait_slot
 
 -- Two blocks are posted before the wait that is for two of three, and the third is not waited for any more then.
 posted_before : IsRow (one_task (0 ∷ 0 ∷ 0 ∷ []) []) 0 examples.posted_before
     (
     does (Post 0 7) 1 answer.Posted
     ∷ does (Post 2 9) 1 answer.Posted
-    ∷ does (Wait 2 (0 ∷ 1 ∷ 2 ∷ [])) 6 (Ok (Some 7 ∷ None ∷ Some 9 ∷ []))
+    ∷ does (Wait 2 (0 ∷ 1 ∷ 2 ∷ [])) 6 (Ok (wait_slot.Complete 7 ∷ wait_slot.Open ∷ wait_slot.Complete 9 ∷ []))
     ∷ does (TestEcb 1) 1 0
     ∷ []
     )
@@ -114,7 +115,7 @@ volume_written = row refl refl
 -- One task waits for its block, and another posts it.
 woken_of_0 : IsRow (two_tasks (0 ∷ []) []) 0 examples.post_wakes
     (
-    does (Wait 1 (0 ∷ [])) 2 (Ok (Some 3 ∷ []))
+    does (Wait 1 (0 ∷ [])) 2 (Ok (wait_slot.Complete 3 ∷ []))
     ∷ []
     )
 woken_of_0 = row refl refl
@@ -139,7 +140,7 @@ posted_first_log =
 
 posted_first_of_0 : IsRow (two_tasks (0 ∷ []) []) 0 posted_first_log
     (
-    does (Wait 1 (0 ∷ [])) 2 (Ok (Some 3 ∷ []))
+    does (Wait 1 (0 ∷ [])) 2 (Ok (wait_slot.Complete 3 ∷ []))
     ∷ []
     )
 posted_first_of_0 = row refl refl

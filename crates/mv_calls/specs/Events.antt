@@ -1,5 +1,5 @@
 -- The calls on tables of events. Each is made of other calls, one after the other.
-use Rattle.std.specs.Prelude.{ℕ, ◌+◌, ◌^◌, ◌==◌, nat_lt, false, not, List, [], ◌∷◌, Option, Some, Result, Ok, Err, if◌then◌else◌}
+use Rattle.std.specs.Prelude.{ℕ, ◌+◌, ◌^◌, ◌==◌, nat_lt, false, not, List, [], ◌∷◌, Option, Result, Ok, Err, if◌then◌else◌}
 use Rattle.mv_latch.specs.declared.request.LatchForm.TheVariants.{Waiting}
 use Rattle.mv_latch.specs.declared.request.Mode.TheVariants.{Exclusive}
 use Rattle.mv_machine.specs.Check.{or_else}
@@ -15,6 +15,8 @@ use Rattle.mv_calls.specs.Refusal.{Refusal}
 use Rattle.mv_calls.specs.Refusal as refusal
 use Rattle.mv_calls.specs.Table.{event_block, slot_block}
 use Rattle.mv_calls.specs.Waits.{refused_if, wait, test_ecb, read_volume, write_volume}
+use Rattle.mv_calls.specs.declared.outcomes.WaitSlot.{WaitSlot}
+use Rattle.mv_calls.specs.declared.outcomes.WaitSlot.TheVariants as wait_slot
 
 -- the outcome of a post of an event: the event has this position, or it was complete with this code before
 pub data Entering : Type 0 where
@@ -86,8 +88,8 @@ abbrev pub indexed : Table → ℕ → Call (Result Finding Refusal)
 indexed t index = if nat_lt index t.size then handed_out t index else finished (Err (refusal.Strange index))
 
 -- a wait for one block that was not refused has found the block complete
-abbrev pub slot_found : Table → Result (List (Option ℕ)) Refusal → Call (Result Finding Refusal)
-slot_found t (Ok (Some index ∷ [])) = indexed t index
+abbrev pub slot_found : Table → Result (List WaitSlot) Refusal → Call (Result Finding Refusal)
+slot_found t (Ok (wait_slot.Complete index ∷ [])) = indexed t index
 slot_found t answer = wrong
 
 -- next event: waits for the slot of this position, and then reads the block of the slot's event

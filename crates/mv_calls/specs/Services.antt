@@ -25,6 +25,7 @@ use Rattle.mv_calls.specs.Program.{Call}
 use Rattle.mv_calls.specs.Refusal.{Refusal}
 use Rattle.mv_calls.specs.Table.{IsSoundTable}
 use Rattle.mv_calls.specs.Waits as waits
+use Rattle.mv_calls.specs.declared.outcomes.WaitSlot.{WaitSlot}
 
 -- a call with its arguments
 pub data Service : Type 0 where
@@ -54,7 +55,7 @@ pub data Service : Type 0 where
 
 -- the type of a call's answer
 abbrev pub Answer : Service → Type 0
-Answer (Wait count blocks) = Result (List (Option ℕ)) Refusal
+Answer (Wait count blocks) = Result (List WaitSlot) Refusal
 Answer (Post block code) = PostAnswer
 Answer (TryPost block expected code) = PostAnswer
 Answer (Clear block) = Result ℕ Refusal

@@ -16,6 +16,8 @@ use Rattle.mv_calls.specs.Keeping.{Kept}
 use Rattle.mv_calls.specs.Program.{Program, Do, Done, Early, Wrong, Call, on_ecb, on_volume, unless_refused}
 use Rattle.mv_calls.specs.Refusal.{Refusal}
 use Rattle.mv_calls.specs.Refusal as refusal
+use Rattle.mv_calls.specs.declared.outcomes.WaitSlot.{WaitSlot}
+use Rattle.mv_calls.specs.declared.outcomes.WaitSlot.TheVariants as wait_slot
 
 -- a refusal if a test holds
 abbrev pub refused_if : Bool → Refusal → Option Refusal
@@ -64,29 +66,29 @@ arm_all [] p = p
 arm_all (e ∷ es) p = Do (Ecb e) (op_on.Ecb ecb_op.Arm) (λ h. on_ecb h.entry.reply (armed (arm_all es p)))
 
 -- the rest of a wait after the reply to a settle: by the code that the block is complete with, or none if it is open
-abbrev pub settled : {A : Type 0} → (Option ℕ → Program A) → EcbReply → Program A
-settled f (ecb_reply.Complete c) = f (Some c)
-settled f ecb_reply.Open = f None
+abbrev pub settled : {A : Type 0} → (WaitSlot → Program A) → EcbReply → Program A
+settled f (ecb_reply.Complete c) = f (wait_slot.Complete c)
+settled f ecb_reply.Open = f wait_slot.Open
 settled f reply = Wrong
 
 -- each block is settled, and then the program goes on by the codes that were found, after those found before
-abbrev pub settle_all : {A : Type 0} → List ℕ → List (Option ℕ) → (List (Option ℕ) → Program A) → Program A
+abbrev pub settle_all : {A : Type 0} → List ℕ → List WaitSlot → (List WaitSlot → Program A) → Program A
 settle_all [] found f = f found
 settle_all (e ∷ es) found f = Do (Ecb e) (op_on.Ecb ecb_op.Settle)
     (λ h. on_ecb h.entry.reply (settled (λ slot. settle_all es (found ++ slot ∷ []) f)))
 
 -- how many blocks were found complete
-abbrev pub complete_count : List (Option ℕ) → ℕ
+abbrev pub complete_count : List WaitSlot → ℕ
 complete_count [] = 0
-complete_count (Some code ∷ slots) = 1 + complete_count slots
-complete_count (None ∷ slots) = complete_count slots
+complete_count (wait_slot.Complete code ∷ slots) = 1 + complete_count slots
+complete_count (wait_slot.Open ∷ slots) = complete_count slots
 
 -- the end of a wait: if fewer blocks are complete than its count, it has ended too soon
-abbrev pub enough : ℕ → List (Option ℕ) → Program (Result (List (Option ℕ)) Refusal)
+abbrev pub enough : ℕ → List WaitSlot → Program (Result (List WaitSlot) Refusal)
 enough count slots = if nat_le count (complete_count slots) then Done (Ok slots) else Early
 
 -- wait: arms each block, and then settles each, in the order of the list. The answer has for each block its code, or none
-abbrev pub wait : Setup → ℕ → List ℕ → Call (Result (List (Option ℕ)) Refusal)
+abbrev pub wait : Setup → ℕ → List ℕ → Call (Result (List WaitSlot) Refusal)
 wait c count es kept = unless_refused (wait_refusal c count es kept) (arm_all es (settle_all es [] (enough count)))
 
 -- ---- the other calls on blocks

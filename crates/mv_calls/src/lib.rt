@@ -27,6 +27,6 @@ pub use latch_laws::{
     wakes_are_in_range,
 };
 pub use numbering::number_calls;
-pub use outcomes::{Given, PostAnswer, Purged, ReleaseAnswer, Standing};
+pub use outcomes::{Given, PostAnswer, Purged, ReleaseAnswer, Standing, WaitSlot};
 pub use section_laws::{holders_exclude, sections_are_undisturbed};
 pub use table::{TABLE_LIMIT, Table, TableRefusal, ValidTable};

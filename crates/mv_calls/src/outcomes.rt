@@ -13,6 +13,16 @@ pub enum PostAnswer {
     Already(u32),
 }
 
+/// What a wait found of one of its blocks.
+#[derive(Clone, Copy, Debug, Default, PartialEq, Eq)]
+pub enum WaitSlot {
+    /// The block is complete with this code.
+    Complete(u32),
+    /// The block is not complete.
+    #[default]
+    Open,
+}
+
 /// What a pause returns: the code with which it was released, and the token of the next pause.
 #[derive(Clone, Copy, Debug, PartialEq, Eq)]
 pub struct Given {

@@ -36,6 +36,8 @@ use Rattle.mv_calls.specs.Refusal.{Refusal}
 use Rattle.mv_calls.specs.Refusal as refusal
 use Rattle.mv_calls.specs.Table.{event_block, slot_block}
 use Rattle.mv_calls.specs.Waits as waits
+use Rattle.mv_calls.specs.declared.outcomes.WaitSlot.{WaitSlot}
+use Rattle.mv_calls.specs.declared.outcomes.WaitSlot.TheVariants as wait_slot
 use Rattle.mv_eventlaws.specs.Completions.{Completion}
 use Rattle.mv_eventlaws.specs.Discipline.{Posts}
 use Rattle.mv_eventlaws.specs.Order.{IsAnswered}
@@ -120,14 +122,14 @@ blind_armed p ecb_reply.Armed w = w
 blind_armed p (ecb_reply.Complete code) w = w
 blind_armed p x w = tt
 
-blind_settled : {A : Type 0} (f : Option ℕ → Program A) (x : EcbReply) → ((o : Option ℕ) → Blind (f o)) → Blind (waits.settled f x)
-blind_settled f (ecb_reply.Complete code) w = w (Some code)
-blind_settled f ecb_reply.Open w = w None
+blind_settled : {A : Type 0} (f : WaitSlot → Program A) (x : EcbReply) → ((o : WaitSlot) → Blind (f o)) → Blind (waits.settled f x)
+blind_settled f (ecb_reply.Complete code) w = w (wait_slot.Complete code)
+blind_settled f ecb_reply.Open w = w wait_slot.Open
 blind_settled f x w = tt
 
-blind_enough : (slots : List (Option ℕ)) → Blind (waits.enough 1 slots)
+blind_enough : (slots : List WaitSlot) → Blind (waits.enough 1 slots)
 blind_enough slots = go (nat_le 1 (waits.complete_count slots)) where
-  go : (b : Bool) → Blind {A = Result (List (Option ℕ)) Refusal} (if b then Done (Ok slots) else Early)
+  go : (b : Bool) → Blind {A = Result (List WaitSlot) Refusal} (if b then Done (Ok slots) else Early)
   go true = tt
   go false = tt
 
@@ -143,12 +145,12 @@ module _ (c : Setup) (t : Table) where
     go true = blind_handed i kept
     go false = tt
 
-  blind_found : (a : Result (List (Option ℕ)) Refusal) (kept : Kept) → Blind (slot_found t a kept)
+  blind_found : (a : Result (List WaitSlot) Refusal) (kept : Kept) → Blind (slot_found t a kept)
   blind_found (Err why) kept = tt
   blind_found (Ok []) kept = tt
-  blind_found (Ok (None ∷ slots)) kept = tt
-  blind_found (Ok (Some i ∷ [])) kept = blind_indexed i kept
-  blind_found (Ok (Some i ∷ slot ∷ slots)) kept = tt
+  blind_found (Ok (wait_slot.Open ∷ slots)) kept = tt
+  blind_found (Ok (wait_slot.Complete i ∷ [])) kept = blind_indexed i kept
+  blind_found (Ok (wait_slot.Complete i ∷ slot ∷ slots)) kept = tt
 
   blind_settle : (position : ℕ) → Blind (waits.settle_all (slot_block t position ∷ []) [] (waits.enough 1))
   blind_settle position = by_reply (Ecb (slot_block t position)) (op_on.Ecb ecb_op.Settle)

@@ -1,5 +1,5 @@
 -- The next event, by what its parts did.
-use Rattle.std.proofs.Common.{◌≡◌, ℕ, ◌+◌, ◌<◌, ◌≤◌, ◌==◌, not, nat_lt, Bool, true, false, cond, List, [], ◌∷◌, Option, Some, None, Result}
+use Rattle.std.proofs.Common.{◌≡◌, ℕ, ◌+◌, ◌<◌, ◌≤◌, ◌==◌, not, nat_lt, Bool, true, false, cond, List, [], ◌∷◌, Some, None, Result}
 use Rattle.std.proofs.Common.{Ok, Err, refl, sym, ap, ◌∙◌, subst, arith}
 use Rattle.std.proofs.lemmas.Bool.{eq-eqb, ne_eqb}
 use Rattle.mv_machine.specs.Check.{or_else}
@@ -15,6 +15,8 @@ use Rattle.mv_calls.specs.Rest.{IsAtRest}
 use Rattle.mv_calls.specs.Table.{event_block, slot_block}
 use Rattle.mv_calls.specs.Waits.{wait, test_ecb, refused_if}
 use Rattle.mv_calls.proofs.Making.{kept_caller}
+use Rattle.mv_calls.specs.declared.outcomes.WaitSlot.{WaitSlot}
+use Rattle.mv_calls.specs.declared.outcomes.WaitSlot.TheVariants as wait_slot
 use Rattle.mv_wait.specs.Run.{Runs, IsServed, keeps}
 use Rattle.mv_wait.proofs.Runs.{runs_none, runs_within, serves}
 use Rattle.mv_events.proofs.Following.{served_first}
@@ -67,7 +69,7 @@ module _ (c : Setup) (t : Table) (position : ℕ) where
 
   -- it was not, and the wait for its slot was made
   waited : (index j : ℕ) (q : Program (Result Finding Refusal)) (f g h : CallerFace) → t.owner ≡ f.number → position < t.size
-      → IsServed 2 (wait c 1 (slot_block t position ∷ [])) (λ a. a ≡ Ok (Some index ∷ [])) f g
+      → IsServed 2 (wait c 1 (slot_block t position ∷ [])) (λ a. a ≡ Ok (wait_slot.Complete index ∷ [])) f g
       → Runs j (indexed t index (keeps g)) q g h → Runs (2 + j) (next_event c t position (keeps f)) q f h
   waited index j q f g h own lt s y =
       let call = wait c 1 (slot_block t position ∷ []) in
@@ -75,11 +77,11 @@ module _ (c : Setup) (t : Table) (position : ℕ) where
       tested f true true (eq-eqb t.owner f.number own) (below_is position t.size lt) in
       subst (λ (p : Program (Result Finding Refusal)). Runs (2 + j) p q f h)
       (sym (ap (λ r. unless_refused r (followed call (slot_found t) (keeps f))) none))
-      (served_first 2 j call (slot_found t) (λ a. a ≡ Ok (Some index ∷ [])) q f g h s
-      (subst (λ (a : Result (List (Option ℕ)) Refusal). Runs j (slot_found t a (keeps g)) q g h) (sym s.is) y))
+      (served_first 2 j call (slot_found t) (λ a. a ≡ Ok (wait_slot.Complete index ∷ [])) q f g h s
+      (subst (λ (a : Result (List WaitSlot) Refusal). Runs j (slot_found t a (keeps g)) q g h) (sym s.is) y))
 
   pub next_strange : (index : ℕ) (f g : CallerFace) → t.owner ≡ f.number → position < t.size → t.size ≤ index
-      → IsServed 2 (wait c 1 (slot_block t position ∷ [])) (λ a. a ≡ Ok (Some index ∷ [])) f g
+      → IsServed 2 (wait c 1 (slot_block t position ∷ [])) (λ a. a ≡ Ok (wait_slot.Complete index ∷ [])) f g
       → IsServed 3 (next_event c t position) (λ a. a ≡ Err (refusal.Strange index)) f g
   next_strange index f g own lt past s =
       let last = Done (Err (refusal.Strange index)) in
@@ -92,7 +94,7 @@ module _ (c : Setup) (t : Table) (position : ℕ) where
       s.made.rest
 
   pub next_served : (index word : ℕ) (f g h : CallerFace) → t.owner ≡ f.number → position < t.size → index < t.size
-      → IsServed 2 (wait c 1 (slot_block t position ∷ [])) (λ a. a ≡ Ok (Some index ∷ [])) f g
+      → IsServed 2 (wait c 1 (slot_block t position ∷ [])) (λ a. a ≡ Ok (wait_slot.Complete index ∷ [])) f g
       → IsServed 1 (test_ecb (event_block t index)) (λ a. a ≡ word) g h
       → IsServed 3 (next_event c t position) (λ a. a ≡ Ok (record { index = index; word = word })) f h
   next_served index word f g h own lt low s tested_ =

@@ -8,6 +8,7 @@ use Rattle.mv_calls.specs.Refusal.{Refusal}
 use Rattle.mv_calls.specs.Refusal as refusal
 use Rattle.mv_calls.specs.Table.{event_block, slot_block}
 use Rattle.mv_calls.specs.Waits.{wait, test_ecb}
+use Rattle.mv_calls.specs.declared.outcomes.WaitSlot.TheVariants as wait_slot
 use Rattle.mv_wait.specs.Run.{IsServed, keeps}
 use Rattle.mv_events.specs.declared.handing_out.Event.{Event}
 use Rattle.mv_events.specs.declared.handing_out.NextRefusal.{NextRefusal}
@@ -15,7 +16,7 @@ use Rattle.mv_events.specs.declared.handing_out.NextRefusal.TheVariants as refus
 
 -- the task waited for the slot of this position, and found it complete with this code
 abbrev pub HasCode : Setup → Table → ℕ → ℕ → CallerFace → CallerFace → Type 0
-HasCode c t position index f g = IsServed 2 (wait c 1 (slot_block t position ∷ [])) (λ a. a ≡ Ok (Some index ∷ [])) f g
+HasCode c t position index f g = IsServed 2 (wait c 1 (slot_block t position ∷ [])) (λ a. a ≡ Ok (wait_slot.Complete index ∷ [])) f g
 
 -- the call is refused for this reason, and the task made no event
 abbrev pub IsNextRefused : Table → ℕ → CallerFace → Refusal → CallerFace → Type 0

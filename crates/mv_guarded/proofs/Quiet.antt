@@ -1,5 +1,5 @@
 -- Calls that write no volume and purge no requestor, and keep the lock discipline: what a task's log keeps over them. For programs.
-use Rattle.std.proofs.Common.{◌≡◌, ℕ, ◌≤◌, ◌-◌, ◌&&◌, nat_lt, Bool, true, false, List, [], ◌∷◌, Option, None, Result, slice_get, refl, sym, ◌∙◌}
+use Rattle.std.proofs.Common.{◌≡◌, ℕ, ◌≤◌, ◌-◌, ◌&&◌, nat_lt, Bool, true, false, List, [], ◌∷◌, None, Result, slice_get, refl, sym, ◌∙◌}
 use Rattle.std.proofs.Common.{subst}
 use Rattle.std.proofs.lemmas.Bool.{false≢true}
 use Rattle.std.specs.List.{AllByRecursion}
@@ -24,6 +24,7 @@ use Rattle.mv_calls.specs.Program.{Program, Heard, on_latch}
 use Rattle.mv_calls.specs.Refusal.{Refusal}
 use Rattle.mv_calls.specs.Sections.{is_write}
 use Rattle.mv_calls.specs.Waits.{wait, clear, read_volume}
+use Rattle.mv_calls.specs.declared.outcomes.WaitSlot.{WaitSlot}
 use Rattle.mv_wait.specs.Run.{IsServed}
 use Rattle.mv_attach.proofs.Always.{Always, Grown, served_grown}
 use Rattle.mv_attach.proofs.Once.{served_once, once_grown}
@@ -92,7 +93,7 @@ off_wait c count es t =
     always_wait (λ o op. IsNoLatchOp op) c count es (kept_of t.number t.log) (all_of (λ e. tt) es) (all_of (λ e. tt) es)
 
 -- a wait, while the task has no latch
-pub wait_is_quiet : (c : Setup) (count : ℕ) (es : List ℕ) (most : ℕ) (Is : Result (List (Option ℕ)) Refusal → Type 0) (t u : CallerFace)
+pub wait_is_quiet : (c : Setup) (count : ℕ) (es : List ℕ) (most : ℕ) (Is : Result (List WaitSlot) Refusal → Type 0) (t u : CallerFace)
     → IsServed most (wait c count es) Is t u → held t.log ≡ [] → IsQuiet t u
 wait_is_quiet c count es most Is t u s bare = record {
   grown = served_grown IsCalm most (wait c count es) Is t u s
@@ -100,7 +101,7 @@ wait_is_quiet c count es most Is t u s bare = record {
   keeps = wait_keeps most (wait c count es) Is t u s (off_wait c count es t) bare;
 }
 
-pub wait_held : (c : Setup) (count : ℕ) (es : List ℕ) (most : ℕ) (Is : Result (List (Option ℕ)) Refusal → Type 0) (t u : CallerFace)
+pub wait_held : (c : Setup) (count : ℕ) (es : List ℕ) (most : ℕ) (Is : Result (List WaitSlot) Refusal → Type 0) (t u : CallerFace)
     → IsServed most (wait c count es) Is t u → held u.log ≡ held t.log
 wait_held c count es most Is t u s = same_held most (wait c count es) Is t u s (off_wait c count es t)
 

@@ -64,6 +64,7 @@ pub use Rattle.mv_calls.specs.Program.{asks, Program, Do, Done, Heard, heard, an
 pub use Rattle.mv_calls.specs.Program.{unless_refused, on_element, on_latch, Early, Wrong, Call, on_ecb}
 pub use Rattle.mv_latch.specs.declared.operation.Wake.{Wake}
 pub use Rattle.mv_calls.specs.declared.outcomes.Purged.{Purged}
+pub use Rattle.mv_calls.specs.declared.outcomes.WaitSlot.{WaitSlot}
 pub use Rattle.mv_calls.specs.LatchCalls.{obtained}
 pub use Rattle.mv_calls.specs.Pauses.{token_of, pause, closed, deallocate, release}
 pub use Rattle.mv_calls.specs.declared.outcomes.PostAnswer.{PostAnswer}

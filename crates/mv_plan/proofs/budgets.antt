@@ -1,10 +1,10 @@
 -- How many events each task may still make, by its point, and that each event takes one of them; so no task makes more than its
 -- budget, behind each entry of a walk.
-use Rattle.mv_plan.proofs.Words.{◌≡◌, ℕ, suc, ◌+◌, ◌*◌, ◌≤◌, nat_le, true, false, cond, List, [], ◌∷◌, ◌++◌, length, Option, arith, Reply}
+use Rattle.mv_plan.proofs.Words.{◌≡◌, ℕ, suc, ◌+◌, ◌*◌, ◌≤◌, nat_le, true, false, cond, List, [], ◌∷◌, ◌++◌, length, arith, Reply}
 use Rattle.mv_plan.proofs.Words.{length-map, length-map-range_with_len, After, Step, JobData, complete_count, EcbReply, common_steps, rules}
 use Rattle.mv_plan.proofs.Words.{◌<◌, ◌==◌, Bool, if◌then◌else◌, refl, ap, list_any, eq-eqb, ne_eqb, job_at, slice_index, Some, sym, subst}
 use Rattle.mv_plan.proofs.Words.{Entry, Object, Op, of, opening, asks, left_in, Follows, spool_setup, task_budgets, initiator, task_program}
-use Rattle.mv_plan.proofs.Words.{Program, cases_eq, inl, inr, step_events, sum_by, sum_by-cons}
+use Rattle.mv_plan.proofs.Words.{Program, cases_eq, inl, inr, step_events, sum_by, sum_by-cons, WaitSlot}
 use Rattle.mv_plan.proofs.deck.{IsPlanned}
 use Rattle.mv_plan.proofs.points.{Point, At, TooSoon, ReaderAt, Entering, entering_from, reader_goes, Arming, Settling, Stage, Dispatching}
 use Rattle.mv_plan.proofs.points.{Dismissing, Awaited, ForEntry, ForEnds, ForIdle, ToDismiss, SchedulerAt, Waits, Extends, Clears, Releases}
@@ -53,7 +53,7 @@ module _ (n : ℕ) where
   writing_few j x ends = grind (arith, common_steps)
 
   -- where it has found an end, or ended too soon
-  end_few : (j more : ℕ) (ends : List ℕ) (found : List (Option ℕ)) → writer_events (end_found n j more ends found) ≤ 2 * more
+  end_few : (j more : ℕ) (ends : List ℕ) (found : List WaitSlot) → writer_events (end_found n j more ends found) ≤ 2 * more
   end_few j more ends found = elim (nat_le 1 (complete_count found)) as
       (λ b. writer_events (cond b (lowest_at (λ p end. writing_from n (j + 1) more (ends ++ end ∷ [])) 0 found) TooSoon) ≤ 2 * more) [
         | true ↦ lowest_keeps (λ p. writer_events p ≤ 2 * more) (λ p end. writing_from n (j + 1) more (ends ++ end ∷ [])) 0 found
@@ -116,7 +116,7 @@ module _ (n initiators : ℕ) where
   ends_few j name x steps jobs = grind (arith, common_steps)
 
   -- where a wait has found enough
-  found_few : (a : Awaited) (found : List (Option ℕ)) → scheduler_events (found_at n a found) ≤ behind_wait a
+  found_few : (a : Awaited) (found : List WaitSlot) → scheduler_events (found_at n a found) ≤ behind_wait a
   found_few (ForEntry j job jobs) found =
       lowest_keeps (λ p. scheduler_events p ≤ behind_wait (ForEntry j job jobs)) (λ p code. ends_at n j job jobs) 0 found
       (λ p code. ends_few j job.name job.after job.steps jobs) (omega arith)
@@ -127,7 +127,7 @@ module _ (n initiators : ℕ) where
       lowest_keeps (λ p. scheduler_events p ≤ behind_wait (ToDismiss i more)) _ 0 found (λ p g. omega arith) (omega arith)
 
   -- where blocks are still to be settled
-  settling_few : (a : Awaited) (es : List ℕ) (found : List (Option ℕ))
+  settling_few : (a : Awaited) (es : List ℕ) (found : List WaitSlot)
       → scheduler_events (settling_from n a es found) ≤ length es + behind_wait a
   settling_few a es found = grind (arith, common_steps, found_few)
 

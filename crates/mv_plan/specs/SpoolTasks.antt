@@ -23,12 +23,14 @@ use Rattle.mv_calls.specs.Program.{Program, Call, followed, accepted, for_each, 
 use Rattle.mv_plan.specs.SpoolSetup.{spool_setup, entered, done, end_for_scheduler, end_for_writer, idle, reader, scheduler, initiator}
 use Rattle.mv_plan.specs.SpoolSetup.{writer}
 use Rattle.mv_calls.specs.Waits.{wait, clear, extend, read_volume, write_volume}
+use Rattle.mv_calls.specs.declared.outcomes.WaitSlot.{WaitSlot}
+use Rattle.mv_calls.specs.declared.outcomes.WaitSlot.TheVariants as wait_slot
 
 -- continues with f at the lowest slot that is complete: its position, counted from p, and its code
-abbrev pub lowest : {A : Type 0} → (ℕ → ℕ → Call A) → ℕ → List (Option ℕ) → Call A
+abbrev pub lowest : {A : Type 0} → (ℕ → ℕ → Call A) → ℕ → List WaitSlot → Call A
 lowest f p [] = wrong
-lowest f p (Some code ∷ slots) = f p code
-lowest f p (None ∷ slots) = lowest f (p + 1) slots
+lowest f p (wait_slot.Complete code ∷ slots) = f p code
+lowest f p (wait_slot.Open ∷ slots) = lowest f (p + 1) slots
 
 -- waits for one of these blocks, and continues with f at the lowest that is complete
 abbrev pub first_of : {A : Type 0} → Setup → List ℕ → (ℕ → ℕ → Call A) → Call A
@@ -51,9 +53,9 @@ abbrev pub code_of : ℕ → Bool → ℕ
 code_of j skipped = if skipped then j + 1 + not_to_run else j + 1
 
 -- whether one of the ends that were waited for is above what its part accepts
-abbrev pub some_end_above : List After → List (Option ℕ) → Bool
-some_end_above (part ∷ parts) (Some end ∷ slots) = nat_lt part.most end || some_end_above parts slots
-some_end_above (part ∷ parts) (None ∷ slots) = some_end_above parts slots
+abbrev pub some_end_above : List After → List WaitSlot → Bool
+some_end_above (part ∷ parts) (wait_slot.Complete end ∷ slots) = nat_lt part.most end || some_end_above parts slots
+some_end_above (part ∷ parts) (wait_slot.Open ∷ slots) = some_end_above parts slots
 some_end_above parts slots = false
 
 -- the blocks that have the ends of the jobs of these parts for the scheduler

@@ -1,5 +1,5 @@
 -- Waits between two polls.
-use Rattle.std.proofs.Common.{◌≡◌, ℕ, ◌*◌, [], ◌++◌, List, length, Option, Some, Result, Ok, Err, refl, sym, ◌∙◌, subst, arith}
+use Rattle.std.proofs.Common.{◌≡◌, ℕ, ◌*◌, [], ◌++◌, List, length, Some, Result, Ok, Err, refl, sym, ◌∙◌, subst, arith}
 use Rattle.mv_machine.specs.Setup.{Setup}
 use Rattle.mv_board.specs.declared.view.Sight.{Sight}
 use Rattle.mv_board.specs.Faces.{CallerFace}
@@ -7,6 +7,7 @@ use Rattle.mv_calls.specs.Keeping.{kept_of}
 use Rattle.mv_calls.specs.Program.{Wrong}
 use Rattle.mv_calls.specs.Rest.{IsAtRest}
 use Rattle.mv_calls.specs.Waits.{wait, arm_all, wait_refusal}
+use Rattle.mv_calls.specs.declared.outcomes.WaitSlot.{WaitSlot}
 use Rattle.mv_wait.specs.Answers.{wait_refused}
 use Rattle.mv_wait.specs.Run.{Went, IsServed}
 use Rattle.mv_wait.specs.Waiting.{IsArmed, IsArmedFor, AreOwn, SettlesEnough}
@@ -61,7 +62,7 @@ waiting_look c count es t0 t u w looks =
     }
 
 -- one whose blocks were settled was made
-pub waiting_ends : (c : Setup) (count : ℕ) (es : List ℕ) (slots : List (Option ℕ)) (t0 t u : CallerFace) → IsWaiting c count es t0 t
+pub waiting_ends : (c : Setup) (count : ℕ) (es : List ℕ) (slots : List WaitSlot) (t0 t u : CallerFace) → IsWaiting c count es t0 t
     → SettlesEnough count es slots t u → IsAtRest u.log
     → IsServed (2 * length es) (wait c count es) (λ a. a ≡ Ok slots) t0 u
 waiting_ends c count es slots t0 t u w settles rest =

@@ -1,10 +1,10 @@
 -- No run has an early settle: after one, the scheduler can only end its wait too soon, and does not finish. So a history with an early
 -- settle is no prefix of a run, and its scheduler is doomed.
-use Rattle.mv_plan.proofs.Words.{◌≡◌, ℕ, zero, suc, ◌+◌, ◌<◌, ◌≤◌, if◌then◌else◌, List, [], ◌∷◌, ◌++◌, length, map, Option, Some, None, ◌⊎◌}
+use Rattle.mv_plan.proofs.Words.{◌≡◌, ℕ, zero, suc, ◌+◌, ◌<◌, ◌≤◌, if◌then◌else◌, List, [], ◌∷◌, ◌++◌, length, map, None, ◌⊎◌}
 use Rattle.mv_plan.proofs.Words.{inl, inr, refl, sym, ap, ◌∙◌, subst, arith, common_steps, AllByRecursion, all_push, length-append}
 use Rattle.mv_plan.proofs.Words.{length-map, range_with_len, complete_count, Entry, Reply, EcbReply, JobData, After, idle, entered}
 use Rattle.mv_plan.proofs.Words.{end_for_scheduler, ends_of, spool_setup, IsRun, scheduler, initiator, writer, Program, Heard, Done, Early}
-use Rattle.mv_plan.proofs.Words.{Wrong, asks, Kept, Setup}
+use Rattle.mv_plan.proofs.Words.{Wrong, asks, Kept, Setup, WaitSlot}
 use Rattle.std.proofs.lemmas.Bool.{lt-leb}
 use Rattle.mv_plan.proofs.deck.Planned.{IsPlanned}
 use Rattle.mv_plan.proofs.deck.Ends.{few_jobs}
@@ -31,25 +31,25 @@ abbrev pub IsGivenUp : Point SchedulerAt → Type 0
 IsGivenUp (At (Waits (ForEnds j job jobs) (Settling e todo found))) = complete_count found < length found
 IsGivenUp p = ⊥
 
-count_le : (found : List (Option ℕ)) → complete_count found ≤ length found
+count_le : (found : List WaitSlot) → complete_count found ≤ length found
 count_le [] = omega arith
-count_le (Some code ∷ found) = let ih = count_le found in omega arith
-count_le (None ∷ found) = let ih = count_le found in omega arith
+count_le (WaitSlot.Complete code ∷ found) = let ih = count_le found in omega arith
+count_le (WaitSlot.Open ∷ found) = let ih = count_le found in omega arith
 
-count_slot : (found : List (Option ℕ)) (slot : Option ℕ) → complete_count (found ++ slot ∷ []) ≤ complete_count found + 1
-count_slot [] None = omega arith
-count_slot [] (Some code) = omega arith
-count_slot (Some code ∷ found) slot = let ih = count_slot found slot in omega arith
-count_slot (None ∷ found) slot = count_slot found slot
+count_slot : (found : List WaitSlot) (slot : WaitSlot) → complete_count (found ++ slot ∷ []) ≤ complete_count found + 1
+count_slot [] WaitSlot.Open = omega arith
+count_slot [] (WaitSlot.Complete code) = omega arith
+count_slot (WaitSlot.Complete code ∷ found) slot = let ih = count_slot found slot in omega arith
+count_slot (WaitSlot.Open ∷ found) slot = count_slot found slot
 
-count_none : (found : List (Option ℕ)) → complete_count (found ++ None ∷ []) ≡ complete_count found
+count_none : (found : List WaitSlot) → complete_count (found ++ WaitSlot.Open ∷ []) ≡ complete_count found
 count_none [] = refl
-count_none (Some code ∷ found) = let ih = count_none found in omega arith
-count_none (None ∷ found) = count_none found
+count_none (WaitSlot.Complete code ∷ found) = let ih = count_none found in omega arith
+count_none (WaitSlot.Open ∷ found) = count_none found
 
 -- it settles another block, or its wait ends too soon
-settled_up : (n j : ℕ) (job : JobData) (jobs : List JobData) (past : List ℕ) (e : ℕ) (todo : List ℕ) (found : List (Option ℕ))
-    (slot : Option ℕ)
+settled_up : (n j : ℕ) (job : JobData) (jobs : List JobData) (past : List ℕ) (e : ℕ) (todo : List ℕ) (found : List WaitSlot)
+    (slot : WaitSlot)
     → past ++ e ∷ todo ≡ ends_of n job.after → length past ≡ length found
     → complete_count (found ++ slot ∷ []) < length (found ++ slot ∷ [])
     → IsNotLost (settling_from n (ForEnds j job jobs) todo (found ++ slot ∷ []))
@@ -69,11 +69,11 @@ module _ (deck : List JobData) (initiators : ℕ) where
   up_goes : (x : SchedulerAt) (r : Reply) → IsSchedulerAt deck initiators (At x) → IsGivenUp (At x)
       → IsNotLost (scheduler_goes n initiators x r) → IsGivenUp (scheduler_goes n initiators x r)
   up_goes (Waits (ForEnds j job jobs) (Settling e todo found)) (Reply.Ecb (EcbReply.Complete code)) st g f =
-      settled_up n j job jobs st.1.0 e todo found (Some code) st.1.1 st.1.2
-      (let a = count_slot found (Some code) in let b = length-append found (Some code ∷ []) in omega arith) f
+      settled_up n j job jobs st.1.0 e todo found (WaitSlot.Complete code) st.1.1 st.1.2
+      (let a = count_slot found (WaitSlot.Complete code) in let b = length-append found (WaitSlot.Complete code ∷ []) in omega arith) f
   up_goes (Waits (ForEnds j job jobs) (Settling e todo found)) (Reply.Ecb EcbReply.Open) st g f =
-      settled_up n j job jobs st.1.0 e todo found None st.1.1 st.1.2
-      (let a = count_slot found None in let b = length-append found (None ∷ []) in omega arith) f
+      settled_up n j job jobs st.1.0 e todo found WaitSlot.Open st.1.1 st.1.2
+      (let a = count_slot found WaitSlot.Open in let b = length-append found (WaitSlot.Open ∷ []) in omega arith) f
   up_goes x r st g f = grind (arith, common_steps)
 
   -- no idle block is a job's end
@@ -86,8 +86,8 @@ module _ (deck : List JobData) (initiators : ℕ) where
   timely_or_up : (x : SchedulerAt) (p : ℕ) (r : Reply) → IsSchedulerAt deck initiators (At x) → IsNotLost (scheduler_goes n initiators x r)
       → IsNoEarlySettle deck (entry_of scheduler p (scheduler_asks n x) r) ⊎ IsGivenUp (scheduler_goes n initiators x r)
   timely_or_up (Waits (ForEnds j job jobs) (Settling e todo found)) p (Reply.Ecb EcbReply.Open) st f =
-      inr (settled_up n j job jobs st.1.0 e todo found None st.1.1 st.1.2
-      (let a = count_le found in let b = count_none found in let d = length-append found (None ∷ []) in omega arith) f)
+      inr (settled_up n j job jobs st.1.0 e todo found WaitSlot.Open st.1.1 st.1.2
+      (let a = count_le found in let b = count_none found in let d = length-append found (WaitSlot.Open ∷ []) in omega arith) f)
   timely_or_up (Waits (ForEntry j job jobs) (Settling e todo found)) p r st f =
       inl (λ k lt o op q. in_all (λ b. (j : ℕ) → j < n → b ≡ end_for_scheduler n j → ⊥) (entered j ∷ []) e
       ((λ k lt z. let less = later_below deck j job jobs st.0 in absurd (omega arith)), tt)

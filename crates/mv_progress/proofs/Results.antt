@@ -3,6 +3,7 @@
 use Rattle.mv_plan.proofs.Words.{◌≡◌, ℕ, zero, suc, ◌+◌, ◌^◌, ◌<◌, ◌≤◌, List, [], ◌∷◌, ◌++◌, length, sum, slice_index, ◌⊎◌, inl, inr, refl}
 use Rattle.mv_plan.proofs.Words.{sym, ap, ◌∙◌, subst, append_assoc, append-nil, arith, cases_lt, length-append, Entry, Setup, System, after}
 use Rattle.mv_plan.proofs.Words.{of, JobData, spool_setup, task_budgets, weight, Follows, IsRun, all_push, common_steps, None, Some, Option}
+use Rattle.mv_plan.proofs.Words.{WaitSlot}
 use Rattle.mv_machine.specs.Merge.{entry_count}
 use Rattle.mv_machine.specs.Parts.{parts_from}
 use Rattle.mv_machine.proofs.Allowed.{lists_stay}
@@ -160,7 +161,7 @@ module _ (deck : List JobData) (initiators : ℕ) (some : 1 ≤ initiators) (sou
       -- the writer
       written : Next ⊎ ((a : List ℕ) × (t.writer ≡ Finished a))
       written = by t.writer refl where
-        there : (x : WriterAt) → IsWriterAt n (At x) → (j more e : ℕ) (ends todo : List ℕ) (found : List (Option ℕ))
+        there : (x : WriterAt) → IsWriterAt n (At x) → (j more e : ℕ) (ends todo : List ℕ) (found : List WaitSlot)
             → x ≡ Keeping j more ends (Settling e todo found) → IsComplete s e
         there x stands j more e kept todo found is =
             let at = subst (λ z. IsWriterAt n (At z)) is stands in

@@ -5,7 +5,7 @@ use Rattle.mv_plan.proofs.Words.{Option, Some, None, ◌⊎◌, inl, inr, refl, 
 use Rattle.mv_plan.proofs.Words.{cases_lt, le-leb, length-append, length-map, range_with_len, complete_count, Entry, Setup, System, Ecb, Op}
 use Rattle.mv_plan.proofs.Words.{Reply, EcbOp, EcbReply, ecb_step, EcbState, ElementState, Phase, Complete, admitted, reply_to, JobData}
 use Rattle.mv_plan.proofs.Words.{After, Step, entered, end_for_scheduler, end_for_writer, idle, reader, scheduler, writer, code_of, ends_of}
-use Rattle.mv_plan.proofs.Words.{spool_setup, naming, given_codes, released_codes, purges}
+use Rattle.mv_plan.proofs.Words.{spool_setup, naming, given_codes, released_codes, purges, WaitSlot}
 use Rattle.mv_machine.specs.System.{place_of}
 use Rattle.mv_plan.proofs.deck.Planned.{IsPlanned}
 use Rattle.mv_plan.proofs.lists.{sum_to, one_of}
@@ -177,7 +177,7 @@ module _ (deck : List JobData) (initiators : ℕ) (some : 1 ≤ initiators) (sou
         tt,
       )
 
-      pub settles_complete : (a : Awaited) (e : ℕ) (todo : List ℕ) (found : List (Option ℕ))
+      pub settles_complete : (a : Awaited) (e : ℕ) (todo : List ℕ) (found : List WaitSlot)
           → t.scheduler ≡ At (Waits a (Settling e todo found))
           → IsSchedulerAt deck initiators (At (Waits a (Settling e todo found))) → IsComplete s e
       settles_complete a e todo found at st = in_all (IsComplete s) (awaited_blocks n initiators a) e
@@ -190,7 +190,7 @@ module _ (n initiators : ℕ) where
       → IsInTime (ends_at n j (record { name = name; after = after; steps = steps }) jobs)
   ends_in_time j name x steps jobs = grind (arith, common_steps)
 
-  found_in_time : (a : Awaited) (found : List (Option ℕ)) → IsInTime (found_at n a found)
+  found_in_time : (a : Awaited) (found : List WaitSlot) → IsInTime (found_at n a found)
   found_in_time (ForEntry j job jobs) found =
       lowest_keeps IsInTime (λ p code. ends_at n j job jobs) 0 found (λ p code. ends_in_time j job.name job.after job.steps jobs) tt
   found_in_time (ForEnds j job jobs) found = tt
@@ -198,7 +198,7 @@ module _ (n initiators : ℕ) where
       lowest_keeps IsInTime (λ i g. At (Clears i g (code_of j skipped) (Dispatching (j + 1) jobs))) 0 found (λ i g. tt) tt
   found_in_time (ToDismiss i more) found = lowest_keeps IsInTime (λ p g. At (Clears i g 0 (Dismissing (i + 1) more))) 0 found (λ p g. tt) tt
 
-  settling_in_time : (a : Awaited) (es : List ℕ) (found : List (Option ℕ)) → (es ≡ [] → awaited_count a ≤ complete_count found)
+  settling_in_time : (a : Awaited) (es : List ℕ) (found : List WaitSlot) → (es ≡ [] → awaited_count a ≤ complete_count found)
       → IsInTime (settling_from n a es found)
   settling_in_time a [] found le = subst (λ b. IsInTime (if b then found_at n a found else TooSoon))
       (sym (le-leb (awaited_count a) (complete_count found) (le refl))) (found_in_time a found)
@@ -220,9 +220,9 @@ module _ (n initiators : ℕ) where
   stage_in_time x = grind (arith, common_steps)
 
 -- if the last block is complete too, as many were found complete as the scheduler waits for
-enough_found : (n initiators : ℕ) (a : Awaited) (past : List ℕ) (e : ℕ) (found : List (Option ℕ)) (code : ℕ)
+enough_found : (n initiators : ℕ) (a : Awaited) (past : List ℕ) (e : ℕ) (found : List WaitSlot) (code : ℕ)
     → past ++ e ∷ [] ≡ awaited_blocks n initiators a → length past ≡ length found → FoundAll a found
-    → awaited_count a ≤ complete_count (found ++ Some code ∷ [])
+    → awaited_count a ≤ complete_count (found ++ WaitSlot.Complete code ∷ [])
 enough_found n initiators (ForEnds j job jobs) past e found code is l w =
     let a : length past + 1 ≡ length (ends_of n job.after) = sym (length-append past (e ∷ [])) ∙ ap (λ z. length z) is in
     let b : length (ends_of n job.after) ≡ length job.after = length-map job.after (λ (p : After). end_for_scheduler n p.job) in
@@ -244,7 +244,7 @@ module _ (deck : List JobData) (initiators : ℕ) where
 
   -- an event of the scheduler that settles no open block is no early settle
   scheduler_settles : (s : System) (x : SchedulerAt) (p : ℕ) (r : Reply)
-      → ((a : Awaited) (e : ℕ) (todo : List ℕ) (found : List (Option ℕ)) → x ≡ Waits a (Settling e todo found) → IsComplete s e)
+      → ((a : Awaited) (e : ℕ) (todo : List ℕ) (found : List WaitSlot) → x ≡ Waits a (Settling e todo found) → IsComplete s e)
       → Some r ≡ reply_to s scheduler (scheduler_asks many x).0 (scheduler_asks many x).1
       → IsNoEarlySettle deck (entry_of scheduler p (scheduler_asks many x) r)
   scheduler_settles s (Waits a (Settling e todo found)) p r there q j lt o op bare =
@@ -252,7 +252,7 @@ module _ (deck : List JobData) (initiators : ℕ) where
   scheduler_settles s x p r there q j lt o op bare = absurd (cc op)
 
   scheduler_in_time : (s : System) (x : SchedulerAt) (r : Reply) → IsSchedulerAt deck initiators (At x) → AllFound (At x)
-      → ((a : Awaited) (e : ℕ) (todo : List ℕ) (found : List (Option ℕ)) → x ≡ Waits a (Settling e todo found) → IsComplete s e)
+      → ((a : Awaited) (e : ℕ) (todo : List ℕ) (found : List WaitSlot) → x ≡ Waits a (Settling e todo found) → IsComplete s e)
       → Some r ≡ reply_to s scheduler (scheduler_asks many x).0 (scheduler_asks many x).1 → IsInTime (scheduler_goes many initiators x r)
   scheduler_in_time s (Waits a (Arming e todo)) r st w there q =
       on_armed_keeps IsInTime (arming_from many initiators a todo) r (arming_in_time many initiators a st.1.0 e todo st.1.1) tt
@@ -260,13 +260,14 @@ module _ (deck : List JobData) (initiators : ℕ) where
       let code = there a e todo found refl in
       subst (λ z. IsInTime (scheduler_goes many initiators (Waits a (Settling e todo found)) z))
       (sym (settled_reply s scheduler e code.0 r code.1 q))
-      (settling_in_time many initiators a todo (found ++ Some code.0 ∷ []) (λ none. enough_found many initiators a st.1.0 e found code.0
+      (settling_in_time many initiators a todo (found ++ WaitSlot.Complete code.0 ∷ [])
+      (λ none. enough_found many initiators a st.1.0 e found code.0
       (ap (λ z. st.1.0 ++ e ∷ z) (sym none) ∙ st.1.1) st.1.2 w))
   scheduler_in_time s x r st w there q = grind (arith, common_steps, first_in_time, stage_in_time, initiators)
 
   pub scheduler_can : (s : System) (x : SchedulerAt) → admitted setup s scheduler (scheduler_asks many x).0 (scheduler_asks many x).1 ≡ true
       → IsSchedulerAt deck initiators (At x) → AllFound (At x)
-      → ((a : Awaited) (e : ℕ) (todo : List ℕ) (found : List (Option ℕ)) → x ≡ Waits a (Settling e todo found) → IsComplete s e)
+      → ((a : Awaited) (e : ℕ) (todo : List ℕ) (found : List WaitSlot) → x ≡ Waits a (Settling e todo found) → IsComplete s e)
       → IsEnabled setup deck s scheduler (scheduler_asks many x) (scheduler_goes many initiators x)
   scheduler_can s x adm st w there = record {
     admits = adm;
@@ -299,7 +300,7 @@ module _ (deck : List JobData) (initiators : ℕ) where
       let is : e ≡ end_for_scheduler many k = cc o in let its : e ≡ end_for_writer many j = at.1 in omega arith
 
   writer_in_time : (s : System) (x : WriterAt) (r : Reply) → IsWriterAt many (At x)
-      → ((j more e : ℕ) (ends todo : List ℕ) (found : List (Option ℕ)) → x ≡ Keeping j more ends (Settling e todo found) → IsComplete s e)
+      → ((j more e : ℕ) (ends todo : List ℕ) (found : List WaitSlot) → x ≡ Keeping j more ends (Settling e todo found) → IsComplete s e)
       → Some r ≡ reply_to s (writer initiators) (writer_asks x).0 (writer_asks x).1 → IsInTime (writer_goes many x r)
   writer_in_time s (Keeping j more ends (Arming e [])) r at there q = on_armed_keeps IsInTime (writer_arming many j more ends []) r tt tt
   writer_in_time s (Keeping j more ends (Arming e (b ∷ todo))) r at there q =
@@ -313,7 +314,7 @@ module _ (deck : List JobData) (initiators : ℕ) where
 
   pub writer_can : (s : System) (x : WriterAt) → admitted setup s (writer initiators) (writer_asks x).0 (writer_asks x).1 ≡ true
       → IsWriterAt many (At x)
-      → ((j more e : ℕ) (ends todo : List ℕ) (found : List (Option ℕ)) → x ≡ Keeping j more ends (Settling e todo found) → IsComplete s e)
+      → ((j more e : ℕ) (ends todo : List ℕ) (found : List WaitSlot) → x ≡ Keeping j more ends (Settling e todo found) → IsComplete s e)
       → IsEnabled setup deck s (writer initiators) (writer_asks x) (writer_goes many x)
   writer_can s x adm at there = record {
     admits = adm;

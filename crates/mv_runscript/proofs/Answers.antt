@@ -1,5 +1,5 @@
 -- The answers of services as answers of calls: none shows a word that was met elsewhere.
-use Rattle.std.proofs.Common.{◌≡◌, ℕ, List, [], ◌∷◌, map, Option, Some, None, Result, Ok, Err, false, refl, ap}
+use Rattle.std.proofs.Common.{◌≡◌, ℕ, List, Option, Some, None, Result, Ok, Err, false, refl}
 use Rattle.mv_calls.specs.declared.table.Table.{Table}
 use Rattle.mv_calls.specs.Events.{Entering, EnteredAt, WasComplete}
 use Rattle.mv_calls.specs.LatchCalls.{Requested, GrantedAs, PendingAs}
@@ -14,24 +14,15 @@ use Rattle.mv_calls.specs.Refusal.{Refusal}
 use Rattle.mv_calls.specs.Refusal as refusal
 use Rattle.mv_calls.specs.Services.{Service}
 use Rattle.mv_calls.specs.Services as service
-use Rattle.mv_wait.specs.declared.waiting.WaitSlot.{WaitSlot}
-use Rattle.mv_wait.specs.declared.waiting.WaitSlot.TheVariants as slot
-use Rattle.mv_wait.specs.Answers.{slots_of}
 use Rattle.mv_script.specs.declared.answer.Answer.{Answer}
 use Rattle.mv_script.specs.declared.call.Call.{Call}
 use Rattle.mv_script.specs.declared.call.Call.TheVariants as call
-use Rattle.mv_script.specs.Answered.{refused, done_or, slot_with, posted, given, given_if_paused, reached, obtained, standing, entered}
+use Rattle.mv_script.specs.Answered.{refused, done_or, posted, given, given_if_paused, reached, obtained, standing, entered}
 use Rattle.mv_script.specs.Answered.{found, answer_to}
 use Rattle.mv_script.specs.Costs.{Asked, service_of}
 use Rattle.mv_script.specs.Run.{word_in}
 use Rattle.mv_script.specs.Script.{is_obtain}
 use Rattle.mv_script.specs.Tasks.{requests_with}
-
--- slots are those that their codes are
-pub slots_again : (slots : List WaitSlot) → map slot_with (slots_of slots) ≡ slots
-slots_again [] = refl
-slots_again (slot.Complete code ∷ slots) = ap (λ rest. slot.Complete code ∷ rest) (slots_again slots)
-slots_again (slot.Open ∷ slots) = ap (λ rest. slot.Open ∷ rest) (slots_again slots)
 
 -- ---- no word
 

@@ -10,7 +10,7 @@ use Rattle.mv_latchset.specs.declared.token.LatchToken.{LatchToken}
 use Rattle.mv_machine.specs.declared.entry.Object.{Object}
 use Rattle.mv_machine.specs.Setup.{Setup}
 use Rattle.mv_calls.specs.declared.table.Table.{Table}
-use Rattle.mv_wait.specs.declared.waiting.WaitSlot.{WaitSlot}
+use Rattle.mv_calls.specs.declared.outcomes.WaitSlot.{WaitSlot}
 use Rattle.mv_wait.specs.Run.{IsServed}
 use Rattle.mv_script.specs.declared.answer.Answer.{Answer}
 use Rattle.mv_script.specs.declared.call.Call.{Call}

@@ -1,12 +1,12 @@
 //! The answers of calls, made of those of the services (`Answered.antt` of mv_script).
 
-ghost use Rattle.std.specs.Prelude.{◌≡◌, map};
+ghost use Rattle.std.specs.Prelude.{◌≡◌};
 ghost use Rattle.mv_latchset.specs.Answers.{obtain_answer, freed_answer};
 ghost use Rattle.mv_pause.specs.Answers.{allocate_answer, pause_answer, release_answer, transfer_answer, deallocate_answer};
 ghost use Rattle.mv_wait.specs.Answers.{clear_answer, extend_answer, wait_answer};
 ghost use Rattle.mv_script.specs.declared.answer.Answer.TheVariants as answer;
 ghost use Rattle.mv_script.specs.Answered.{done_or, given as given_as, given_if_paused, reached, obtained as obtained_told};
-ghost use Rattle.mv_script.specs.Answered.{posted as posted_as, purged as purged_as, slot_with, standing as standing_of};
+ghost use Rattle.mv_script.specs.Answered.{posted as posted_as, purged as purged_as, standing as standing_of};
 ghost use Rattle.mv_script.specs.Answered.{entered as entered_as, found};
 ghost use Rattle.mv_events.specs.Answers.{entering_answer, next_answer};
 
@@ -22,7 +22,7 @@ use mv_wait::{ExtendRefusal, NotOwner, PostAnswer, WaitRefusal};
 
 /// Returns the answer of a WAIT, with what its slots say.
 pub fn waited(outcome: Result<(), WaitRefusal>, slots: Slots) -> Answer
-    ensures { result ≡ done_or (λ found. answer.Waited (map slot_with found)) (wait_answer outcome slots) }
+    ensures { result ≡ done_or answer.Waited (wait_answer outcome slots) }
 {
     match outcome {
         Ok(()) => Answer::Waited(slots),

@@ -1,5 +1,5 @@
 -- Why a call on a table is refused, by its program.
-use Rattle.std.proofs.Common.{◌≡◌, ◌==◌, ℕ, ◌+◌, if◌then◌else◌, ◌<◌, nat_lt, Bool, true, false, not, List, [], ◌∷◌, Option, Some, None}
+use Rattle.std.proofs.Common.{◌≡◌, ◌==◌, ℕ, ◌+◌, if◌then◌else◌, ◌<◌, nat_lt, Bool, true, false, not, List, [], ◌∷◌, None}
 use Rattle.std.proofs.Common.{Result, Ok, Err, subst}
 use Rattle.std.proofs.lemmas.Bool.{lt-ltb}
 use Rattle.mv_latch.specs.declared.operation.LatchOp.TheVariants as latch_op
@@ -26,6 +26,8 @@ use Rattle.mv_calls.specs.Refusal.{Refusal}
 use Rattle.mv_calls.specs.Refusal as refusal
 use Rattle.mv_calls.specs.Table.{event_block, slot_block}
 use Rattle.mv_calls.specs.Waits.{refused_if, wait, test_ecb, read_volume, write_volume}
+use Rattle.mv_calls.specs.declared.outcomes.WaitSlot.{WaitSlot}
+use Rattle.mv_calls.specs.declared.outcomes.WaitSlot.TheVariants as wait_slot
 use Rattle.mv_script.proofs.Cutting.{cut_followed}
 use Rattle.mv_eventlaws.proofs.Programs.{goes_on, not_over, wrong_never, early_never, done_is}
 
@@ -165,12 +167,12 @@ module _ (c : Setup) (t : Table) where
           answers_so (IfRefused RefusesNext) (Ok (record { index = index; word = cut.first })) answer cut.later cut.goes_on tt
       go false w = answers_so (IfRefused RefusesNext) (Err (refusal.Strange index)) answer hs w tt
 
-    when_found : (found : Result (List (Option ℕ)) Refusal) (kept : Kept) (hs : List Heard) → IsDoneOn (slot_found t found kept) hs answer
+    when_found : (found : Result (List WaitSlot) Refusal) (kept : Kept) (hs : List Heard) → IsDoneOn (slot_found t found kept) hs answer
         → IfRefused RefusesNext answer
-    when_found (Ok (Some index ∷ [])) kept hs w = when_indexed index kept hs w
+    when_found (Ok (wait_slot.Complete index ∷ [])) kept hs w = when_indexed index kept hs w
     when_found (Ok []) kept hs w = absurd (wrong_never hs answer w)
-    when_found (Ok (None ∷ slots)) kept hs w = absurd (wrong_never hs answer w)
-    when_found (Ok (Some index ∷ other ∷ slots)) kept hs w = absurd (wrong_never hs answer w)
+    when_found (Ok (wait_slot.Open ∷ slots)) kept hs w = absurd (wrong_never hs answer w)
+    when_found (Ok (wait_slot.Complete index ∷ other ∷ slots)) kept hs w = absurd (wrong_never hs answer w)
     when_found (Err why) kept hs w = absurd (wrong_never hs answer w)
 
     pub next_refused : (position : ℕ) (kept : Kept) (hs : List Heard) → IsDoneOn (next_event c t position kept) hs answer

@@ -1,5 +1,5 @@
 -- The answer to a call of a script, by what the service returned.
-use Rattle.std.specs.Prelude.{ℕ, map, Option, Some, None, Result, Ok, Err}
+use Rattle.std.specs.Prelude.{Option, Some, None, Result, Ok, Err}
 use Rattle.mv_calls.specs.Events.{Entering, EnteredAt, WasComplete, Finding}
 use Rattle.mv_calls.specs.LatchCalls.{Requested, GrantedAs, PendingAs}
 use Rattle.mv_calls.specs.declared.outcomes.Given.{Given}
@@ -14,8 +14,6 @@ use Rattle.mv_calls.specs.Refusal.{Refusal}
 use Rattle.mv_calls.specs.Refusal as refusal
 use Rattle.mv_calls.specs.Services.{Service}
 use Rattle.mv_calls.specs.Services as service
-use Rattle.mv_wait.specs.declared.waiting.WaitSlot.{WaitSlot}
-use Rattle.mv_wait.specs.declared.waiting.WaitSlot.TheVariants as slot
 use Rattle.mv_script.specs.declared.answer.Answer.{Answer}
 use Rattle.mv_script.specs.declared.answer.Answer.TheVariants as answer
 
@@ -50,11 +48,6 @@ refused (refusal.Strange index) = answer.Purged
 abbrev pub done_or : {A : Type 0} → (A → Answer) → Result A Refusal → Answer
 done_or f (Ok a) = f a
 done_or f (Err why) = refused why
-
--- a block of a wait, by the code with which the wait found it complete, if it did
-abbrev pub slot_with : Option ℕ → WaitSlot
-slot_with None = slot.Open
-slot_with (Some code) = slot.Complete code
 
 -- the answer to a post
 abbrev pub posted : PostAnswer → Answer
@@ -102,7 +95,7 @@ found finding = answer.Event finding.index finding.word
 
 -- the answer to each service
 abbrev pub answer_to : (s : Service) → service.Answer s → Answer
-answer_to (service.Wait count blocks) a = done_or (λ slots. answer.Waited (map slot_with slots)) a
+answer_to (service.Wait count blocks) a = done_or answer.Waited a
 answer_to (service.Post block code) a = posted a
 answer_to (service.TryPost block expected code) a = posted a
 answer_to (service.Clear block) a = done_or (λ word. answer.Word word) a

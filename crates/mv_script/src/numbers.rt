@@ -25,7 +25,7 @@ pub struct Slots {
 
 impl Model for Slots {
     ghost use Rattle.std.specs.Prelude.{List};
-    ghost use Rattle.mv_wait.specs.declared.waiting.WaitSlot.{WaitSlot};
+    ghost use Rattle.mv_calls.specs.declared.outcomes.WaitSlot.{WaitSlot};
 
     ghost Value = { List WaitSlot };
 

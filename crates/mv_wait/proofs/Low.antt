@@ -23,8 +23,8 @@ use Rattle.mv_calls.proofs.Uses.{possible_names}
 use Rattle.mv_wait.specs.declared.keep.Keep.{Keep}
 use Rattle.mv_wait.specs.Task.{Fits, IsRecorded}
 use Rattle.mv_wait.specs.Waiting.{settle_reply, HasLowCode}
-use Rattle.mv_wait.specs.declared.waiting.WaitSlot.{WaitSlot}
-use Rattle.mv_wait.specs.declared.waiting.WaitSlot.TheVariants as slot
+use Rattle.mv_calls.specs.declared.outcomes.WaitSlot.{WaitSlot}
+use Rattle.mv_calls.specs.declared.outcomes.WaitSlot.TheVariants as slot
 use Rattle.mv_wait.proofs.Runs.{entry_of}
 
 -- the tables fit the task's configuration

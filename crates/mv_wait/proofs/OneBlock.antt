@@ -1,6 +1,6 @@
 -- A wait for one block that is not refused arms it, settles it and finds it complete, and answers the code with which it was posted.
 -- For the programs above that take what a block was posted with.
-use Rattle.std.proofs.Common.{◌≡◌, ℕ, ◌+◌, ◌≤◌, ◌==◌, not, Bool, true, false, List, [], ◌∷◌, ◌++◌, length, Option, Some, None, Result, Ok}
+use Rattle.std.proofs.Common.{◌≡◌, ℕ, ◌+◌, ◌≤◌, ◌==◌, not, Bool, true, false, List, [], ◌∷◌, ◌++◌, length, Some, None, Result, Ok}
 use Rattle.std.proofs.Common.{get_or, slice_index, refl, sym, ap, ◌∙◌, subst, arith}
 use Rattle.std.proofs.lemmas.Bool.{eq-eqb, false≢true}
 use Rattle.std.proofs.lemmas.Option.{some_pair_parts}
@@ -21,14 +21,14 @@ use Rattle.mv_calls.specs.Refusal as refusal
 use Rattle.mv_calls.specs.Exits.{StartsExit}
 use Rattle.mv_calls.specs.Waits.{wait, wait_refusal, is_others_block, armed, settled, enough, arm_all, settle_all}
 use Rattle.mv_calls.proofs.Making.{kept_caller}
-use Rattle.mv_wait.specs.Answers.{slots_of, wait_refused}
+use Rattle.mv_wait.specs.Answers.{wait_refused}
 use Rattle.mv_wait.specs.OneBlock.{WaitedFor}
 use Rattle.mv_wait.specs.Run.{IsServed}
 use Rattle.mv_wait.specs.Waiting.{NamesSource}
 use Rattle.mv_wait.specs.declared.waiting.WaitRefusal.{WaitRefusal}
 use Rattle.mv_wait.specs.declared.waiting.WaitRefusal.TheVariants as wait_why
-use Rattle.mv_wait.specs.declared.waiting.WaitSlot.{WaitSlot}
-use Rattle.mv_wait.specs.declared.waiting.WaitSlot.TheVariants as slot
+use Rattle.mv_calls.specs.declared.outcomes.WaitSlot.{WaitSlot}
+use Rattle.mv_calls.specs.declared.outcomes.WaitSlot.TheVariants as slot
 
 -- ---- an event that is asked for
 
@@ -41,8 +41,8 @@ asked_is o p op oq q = let is : (o ≡ p) × (op ≡ oq) = some_pair_parts o p o
 -- ---- the wait
 
 -- what it has done, and the answer that says it
-abbrev pub FoundIt : ℕ → Result (List (Option ℕ)) Refusal → CallerFace → CallerFace → Type 0
-FoundIt ecb a t u = (code : ℕ) × (a ≡ Ok (Some code ∷ [])) × WaitedFor ecb code t u
+abbrev pub FoundIt : ℕ → Result (List WaitSlot) Refusal → CallerFace → CallerFace → Type 0
+FoundIt ecb a t u = (code : ℕ) × (a ≡ Ok (slot.Complete code ∷ [])) × WaitedFor ecb code t u
 
 -- a block of the task's own that is not extended is not refused
 unrefused : (c : Setup) (ecb : ℕ) (kept : Kept) → is_others_block c kept ecb ≡ false → kept.extended ecb ≡ false
@@ -72,7 +72,7 @@ not_refused c ecb t why own plain is names = go ((kept_of t.number t.log).extend
       false≢true (sym (plain (named why (sym some ∙ is) names)) ∙ held)
 
 -- the program behind the arm
-abbrev settling : ℕ → Program (Result (List (Option ℕ)) Refusal)
+abbrev settling : ℕ → Program (Result (List WaitSlot) Refusal)
 settling ecb = settle_all (ecb ∷ []) [] (enough 1)
 
 -- behind the reply to the arm another event is asked for
@@ -83,21 +83,21 @@ asks_settle ecb (reply_of.Ecb (ecb_reply.Complete c)) x e = refl
 asks_settle ecb (reply_of.Ecb r) x e = absurd (cc e)
 asks_settle ecb r x e = absurd (cc e)
 
-not_done_yet : (ecb : ℕ) (r : Reply) (a : Result (List (Option ℕ)) Refusal) → on_ecb r (armed (settling ecb)) ≡ Done a → ⊥
+not_done_yet : (ecb : ℕ) (r : Reply) (a : Result (List WaitSlot) Refusal) → on_ecb r (armed (settling ecb)) ≡ Done a → ⊥
 not_done_yet ecb (reply_of.Ecb ecb_reply.Armed) a e = cc e
 not_done_yet ecb (reply_of.Ecb (ecb_reply.Complete c)) a e = cc e
 not_done_yet ecb (reply_of.Ecb r) a e = cc e
 not_done_yet ecb r a e = cc e
 
 -- and its end has a code
-found_by : (r : Reply) (a : Result (List (Option ℕ)) Refusal) → on_ecb r (settled (λ slot. enough 1 (slot ∷ []))) ≡ Done a
-    → (code : ℕ) × (r ≡ reply_of.Ecb (ecb_reply.Complete code)) × (a ≡ Ok (Some code ∷ []))
+found_by : (r : Reply) (a : Result (List WaitSlot) Refusal) → on_ecb r (settled (λ slot. enough 1 (slot ∷ []))) ≡ Done a
+    → (code : ℕ) × (r ≡ reply_of.Ecb (ecb_reply.Complete code)) × (a ≡ Ok (slot.Complete code ∷ []))
 found_by (reply_of.Ecb (ecb_reply.Complete code)) a e = (code, refl, cc e)
 found_by (reply_of.Ecb ecb_reply.Open) a e = absurd (cc e)
 found_by (reply_of.Ecb r) a e = absurd (cc e)
 found_by r a e = absurd (cc e)
 
-waited_by : (ecb : ℕ) (p : Program (Result (List (Option ℕ)) Refusal)) (a : Result (List (Option ℕ)) Refusal) (t u : CallerFace)
+waited_by : (ecb : ℕ) (p : Program (Result (List WaitSlot) Refusal)) (a : Result (List WaitSlot) Refusal) (t u : CallerFace)
     (hs : List Heard) → p ≡ arm_all (ecb ∷ []) (settling ecb) → Says p hs → left p hs ≡ Done a → length hs ≤ 2 → u.number ≡ t.number
     → u.log ≡ t.log ++ entries hs → u.left + length hs ≡ t.left → FoundIt ecb a t u
 waited_by ecb p a t u [] is says done few number logged spent = absurd (cc (sym is ∙ done))
@@ -125,7 +125,7 @@ waited_by ecb p a t u (h ∷ g ∷ []) is says done few number logged spent =
     )
 waited_by ecb p a t u (h ∷ g ∷ f ∷ hs) is says done few number logged spent = absurd (omega arith)
 
-pub waited_made : (c : Setup) (ecb : ℕ) (Is : Result (List (Option ℕ)) Refusal → Type 0) (t u : CallerFace)
+pub waited_made : (c : Setup) (ecb : ℕ) (Is : Result (List WaitSlot) Refusal → Type 0) (t u : CallerFace)
     → (s : IsServed 2 (wait c 1 (ecb ∷ [])) Is t u)
     → wait_refusal c 1 (ecb ∷ []) (kept_of t.number t.log) ≡ None → FoundIt ecb s.answer t u
 waited_made c ecb Is t u s accepted = waited_by ecb (wait c 1 (ecb ∷ []) (kept_of t.number t.log)) s.answer t u s.made.events
@@ -134,16 +134,9 @@ waited_made c ecb Is t u s accepted = waited_by ecb (wait c 1 (ecb ∷ []) (kept
 
 -- ---- the one slot of a wait that answers so
 
-pub slot_is : (out : List WaitSlot) (a : Result (List (Option ℕ)) Refusal) (code : ℕ) → a ≡ Ok (slots_of out) → a ≡ Ok (Some code ∷ [])
+pub slot_is : (out : List WaitSlot) (a : Result (List WaitSlot) Refusal) (code : ℕ) → a ≡ Ok out → a ≡ Ok (slot.Complete code ∷ [])
     → out ≡ slot.Complete code ∷ []
-slot_is out a code is found = go out (cc (sym is ∙ found)) where
-  go : (out : List WaitSlot) → slots_of out ≡ Some code ∷ [] → out ≡ slot.Complete code ∷ []
-  go [] e = absurd (cc e)
-  go (slot.Complete d ∷ []) e = (λ i. slot.Complete (same i) ∷ []) where
-    same : d ≡ code
-    same = cc e
-  go (slot.Open ∷ out) e = absurd (cc e)
-  go (slot.Complete d ∷ x ∷ out) e = absurd (cc e)
+slot_is out a code is found = cc (sym is ∙ found)
 
 -- so it is not open
 pub found_open : (out : List WaitSlot) (code : ℕ) (d : WaitSlot) → out ≡ slot.Complete code ∷ [] → get_or out 0 d ≡ slot.Open → ⊥

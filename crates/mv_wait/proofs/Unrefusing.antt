@@ -15,6 +15,7 @@ use Rattle.mv_calls.specs.Rest.{IsAtRest}
 use Rattle.mv_calls.specs.Waits.{refused_if, refused_at, doubled_at, is_others_block, wait_refusal, wait, arm_all, settle_all}
 use Rattle.mv_calls.specs.Waits.{enough, complete_count, AreDistinct}
 use Rattle.mv_calls.proofs.Unrefused.{wait_is}
+use Rattle.mv_calls.specs.declared.outcomes.WaitSlot.{WaitSlot}
 use Rattle.mv_wait.specs.Run.{Went, Runs, IsServed}
 use Rattle.mv_wait.specs.Waiting.{AreOwn, ArmsAll, SettlesEnough, Waited}
 use Rattle.mv_wait.proofs.Runs.{runs_then, runs_within, runs_look, serves}
@@ -111,7 +112,7 @@ accepted_own c t u es there a same =
     (subst (λ k. AllByRecursion (λ e. owner_of c e ≡ k) es) (kept_caller (nothing_kept t.number) t.log ∙ sym same.number) a.own)
 
 -- the parts of a wait put together
-pub wait_served : (c : Setup) (count : ℕ) (es : List ℕ) (slots : List (Option ℕ)) (t u v w : CallerFace)
+pub wait_served : (c : Setup) (count : ℕ) (es : List ℕ) (slots : List WaitSlot) (t u v w : CallerFace)
     → wait_refusal c count es (kept_of t.number t.log) ≡ None
     → IsAtRest t.log → ArmsAll es t u → Went [] u v → SettlesEnough count es slots v w → IsAtRest w.log
     → IsServed (2 * length es) (wait c count es) (λ a. a ≡ Ok slots) t w

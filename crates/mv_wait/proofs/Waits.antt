@@ -1,6 +1,6 @@
 -- The parts of a wait.
 use Rattle.std.proofs.Common.{◌≡◌, ◌≢◌, ℕ, zero, suc, set, not, ◌+◌, ◌<◌, ◌≤◌, ◌==◌, Bool, true, false, ◌||◌, List, [], ◌∷◌, ◌++◌}
-use Rattle.std.proofs.Common.{length, cond, take, drop, Some, Option, None, ◌⊎◌, inl, inr, refl, sym, ap, ◌∙◌, subst}
+use Rattle.std.proofs.Common.{length, cond, take, drop, ◌⊎◌, inl, inr, refl, sym, ap, ◌∙◌, subst}
 use Rattle.std.proofs.Common.{arith}
 use Rattle.std.proofs.lemmas.List.{take_more_set}
 use Rattle.std.proofs.lemmas.Bool.{false≢true, eq-eqb, eqb-true, ne_eqb, or_left}
@@ -26,13 +26,12 @@ use Rattle.mv_calls.specs.Keeping.{Kept, kept_of, kept_after, nothing_kept}
 use Rattle.mv_calls.specs.Rest.{OpenWaits, no_waits, waits_from, waits_after, IsAtRest}
 use Rattle.mv_calls.specs.Waits.{AreDistinct, arm_all, armed, settle_all, settled, complete_count}
 use Rattle.mv_calls.specs.Program.{Program, on_ecb}
-use Rattle.mv_wait.specs.Answers.{slot_of, slots_of}
 use Rattle.mv_wait.specs.Run.{Runs}
 use Rattle.mv_calls.proofs.Making.{kept_from-append, waits_from-append}
 use Rattle.mv_wait.specs.Listed.{is_block, is_listed, listed_count}
 use Rattle.mv_wait.specs.Waiting.{IsArmedFor, ArePlain, IsComplete, IsBlockSettled, Waited, settle_reply}
-use Rattle.mv_wait.specs.declared.waiting.WaitSlot.{WaitSlot}
-use Rattle.mv_wait.specs.declared.waiting.WaitSlot.TheVariants as slot
+use Rattle.mv_calls.specs.declared.outcomes.WaitSlot.{WaitSlot}
+use Rattle.mv_calls.specs.declared.outcomes.WaitSlot.TheVariants as slot
 use Rattle.mv_wait.proofs.Runs.{entry_of, runs_word}
 
 -- ---- lists
@@ -198,49 +197,45 @@ arm_step t u e reply es p h r =
     runs_word (arm_all (e ∷ es) p) (arm_all es p) t (Ecb e) (op_on.Ecb Arm) reply u tt h refl
     (λ x is. ap (λ z. on_ecb z (armed (arm_all es p))) is ∙ armed_next reply (arm_all es p) r)
 
-settled_next : (found : WaitSlot) (f : Option ℕ → Program Waited)
-    → on_ecb (reply_of.Ecb (settle_reply found)) (settled f) ≡ f (slot_of found)
+settled_next : (found : WaitSlot) (f : WaitSlot → Program Waited)
+    → on_ecb (reply_of.Ecb (settle_reply found)) (settled f) ≡ f found
 settled_next (slot.Complete code) f = refl
 settled_next slot.Open f = refl
 
-pub settle_step : (t u : CallerFace) (e : ℕ) (slot : WaitSlot) (es : List ℕ) (found : List (Option ℕ))
-    (f : List (Option ℕ) → Program Waited) → IsBlockSettled e t slot u
-    → Runs 1 (settle_all (e ∷ es) found f) (settle_all es (found ++ slot_of slot ∷ []) f) t u
+pub settle_step : (t u : CallerFace) (e : ℕ) (slot : WaitSlot) (es : List ℕ) (found : List WaitSlot)
+    (f : List WaitSlot → Program Waited) → IsBlockSettled e t slot u
+    → Runs 1 (settle_all (e ∷ es) found f) (settle_all es (found ++ slot ∷ []) f) t u
 settle_step t u e slot es found f h =
-    runs_word (settle_all (e ∷ es) found f) (settle_all es (found ++ slot_of slot ∷ []) f) t (Ecb e) (op_on.Ecb Settle)
+    runs_word (settle_all (e ∷ es) found f) (settle_all es (found ++ slot ∷ []) f) t (Ecb e) (op_on.Ecb Settle)
     (reply_of.Ecb (settle_reply slot)) u tt h refl
     (λ x is. ap (λ z. on_ecb z (settled (λ s. settle_all es (found ++ s ∷ []) f))) is
     ∙ settled_next slot (λ s. settle_all es (found ++ s ∷ []) f))
 
 -- ---- how many are complete
 
-complete_last : (xs : List (Option ℕ)) (s : Option ℕ) → complete_count (xs ++ s ∷ []) ≡ complete_count xs + complete_count (s ∷ [])
+complete_last : (xs : List WaitSlot) (s : WaitSlot) → complete_count (xs ++ s ∷ []) ≡ complete_count xs + complete_count (s ∷ [])
 complete_last [] s = omega arith
-complete_last (Some code ∷ xs) s = let later = complete_last xs s in omega arith
-complete_last (None ∷ xs) s = complete_last xs s
-
-slots-append : (xs ys : List WaitSlot) → slots_of (xs ++ ys) ≡ slots_of xs ++ slots_of ys
-slots-append [] ys = refl
-slots-append (x ∷ xs) ys = ap (λ zs. slot_of x ∷ zs) (slots-append xs ys)
+complete_last (slot.Complete code ∷ xs) s = let later = complete_last xs s in omega arith
+complete_last (slot.Open ∷ xs) s = complete_last xs s
 
 -- one slot more
 pub slots_more : (i : ℕ) (out : List WaitSlot) (s : WaitSlot) → i < length out
-    → slots_of (take (i + 1) (set out i s)) ≡ slots_of (take i out) ++ slot_of s ∷ []
-slots_more i out s lt = ap slots_of (take_more_set out i s lt) ∙ slots-append (take i out) (s ∷ [])
+    → take (i + 1) (set out i s) ≡ take i out ++ s ∷ []
+slots_more i out s lt = take_more_set out i s lt
 
-listed_complete : (b : Bool) (s : WaitSlot) → (b ≡ true → IsComplete s) → cond {A = ℕ} b 1 0 ≤ complete_count (slot_of s ∷ [])
+listed_complete : (b : Bool) (s : WaitSlot) → (b ≡ true → IsComplete s) → cond {A = ℕ} b 1 0 ≤ complete_count (s ∷ [])
 listed_complete true (slot.Complete code) f = omega arith
 listed_complete true slot.Open f = let w = f refl in absurd (cc w.1)
 listed_complete false s f = omega arith
 
 -- what is listed of those behind it, and what was found complete, are still enough
-pub enough_still : (count i e : ℕ) (es : List ℕ) (ready : List Watch) (xs : List (Option ℕ)) (s : WaitSlot)
+pub enough_still : (count i e : ℕ) (es : List ℕ) (ready : List Watch) (xs : List WaitSlot) (s : WaitSlot)
     → AllByRecursion (λ m. m ≡ e → ⊥) es
     → (is_listed ready e ≡ true → IsComplete s) → count ≤ complete_count xs + listed_count ready (e ∷ es)
-    → count ≤ complete_count (xs ++ slot_of s ∷ []) + listed_count (off (Ecb e) (op_on.Ecb Settle) ready) es
+    → count ≤ complete_count (xs ++ s ∷ []) + listed_count (off (Ecb e) (op_on.Ecb Settle) ready) es
 enough_still count i e es ready xs s differ complete le =
     let a = count_one ready e es in
     let b = off_counts ready e (op_on.Ecb Settle) es differ in
-    let c = complete_last xs (slot_of s) in
+    let c = complete_last xs s in
     let d = listed_complete (is_listed ready e) s complete in
     omega arith

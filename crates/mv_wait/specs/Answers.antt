@@ -1,5 +1,5 @@
 -- How the values that the calls return correspond to the answers of their programs.
-use Rattle.std.specs.Prelude.{ℕ, List, map, Option, Some, None, Result, Ok, Err}
+use Rattle.std.specs.Prelude.{ℕ, List, Result, Ok, Err}
 use Rattle.mv_calls.specs.Refusal.{Refusal}
 use Rattle.mv_calls.specs.Refusal as refusal
 use Rattle.mv_wait.specs.declared.single.NotOwner.{NotOwner}
@@ -7,17 +7,7 @@ use Rattle.mv_wait.specs.declared.single.ExtendRefusal.{ExtendRefusal}
 use Rattle.mv_wait.specs.declared.single.ExtendRefusal.TheVariants as extend_refusal
 use Rattle.mv_wait.specs.declared.waiting.WaitRefusal.{WaitRefusal}
 use Rattle.mv_wait.specs.declared.waiting.WaitRefusal.TheVariants as wait_refusal
-use Rattle.mv_wait.specs.declared.waiting.WaitSlot.{WaitSlot}
-use Rattle.mv_wait.specs.declared.waiting.WaitSlot.TheVariants as slot
-
--- the code in a slot: that of a complete block, none if the block is open
-abbrev pub slot_of : WaitSlot → Option ℕ
-slot_of (slot.Complete code) = Some code
-slot_of slot.Open = None
-
--- the codes in the slots of a wait, in the order of its list
-abbrev pub slots_of : List WaitSlot → List (Option ℕ)
-slots_of slots = map slot_of slots
+use Rattle.mv_calls.specs.declared.outcomes.WaitSlot.{WaitSlot}
 
 -- the reason for which a wait is refused, with the position in its list if one block is the cause
 abbrev pub wait_refused : WaitRefusal → Refusal
@@ -44,6 +34,6 @@ extend_answer (Ok done) = Ok tt
 extend_answer (Err why) = Err (extend_refused why)
 
 -- the answer of a wait: the codes in its slots, or the reason for which it is refused
-abbrev pub wait_answer : Result (Unit {0}) WaitRefusal → List WaitSlot → Result (List (Option ℕ)) Refusal
-wait_answer (Ok done) out = Ok (slots_of out)
+abbrev pub wait_answer : Result (Unit {0}) WaitRefusal → List WaitSlot → Result (List WaitSlot) Refusal
+wait_answer (Ok done) out = Ok out
 wait_answer (Err why) out = Err (wait_refused why)

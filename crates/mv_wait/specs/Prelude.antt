@@ -47,6 +47,7 @@ pub use Rattle.mv_calls.specs.Rest.{IsAtRest}
 pub use Rattle.mv_calls.specs.declared.outcomes.Given.{Given}
 pub use Rattle.mv_calls.specs.declared.outcomes.PostAnswer.{PostAnswer}
 pub use Rattle.mv_calls.specs.declared.outcomes.ReleaseAnswer.{ReleaseAnswer}
+pub use Rattle.mv_calls.specs.declared.outcomes.WaitSlot.{WaitSlot}
 -- ---- the calls
 pub use Rattle.mv_calls.specs.declared.table.Table.{Table}
 pub use Rattle.mv_calls.specs.Endings.{end_of_job, end_of_task, used_elements}
@@ -62,7 +63,7 @@ pub use Rattle.mv_calls.specs.Table.{IsSoundTable, slot_block}
 pub use Rattle.mv_calls.specs.Waits.{AreDistinct, clear, extend, read_volume, test_ecb, wait, write_volume}
 -- ---- stations and tasks
 pub use Rattle.mv_board.specs.Faces.{AreFresh, AreInOrder, BoardFace, CallerFace, IsFresh, IsIn, IsOf, IsSame, last_of}
-pub use Rattle.mv_wait.specs.Answers.{clear_answer, extend_answer, slot_of, slots_of, wait_answer}
+pub use Rattle.mv_wait.specs.Answers.{clear_answer, extend_answer, wait_answer}
 pub use Rattle.mv_wait.specs.Listed.{listed_count}
 pub use Rattle.mv_wait.specs.OneBlock.{WaitedFor}
 pub use Rattle.mv_wait.specs.Run.{IsServed, MayCall, Serves, Went, keeps}

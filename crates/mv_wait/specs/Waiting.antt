@@ -1,5 +1,5 @@
 -- The parts of a wait: its blocks are armed, and later settled.
-use Rattle.std.specs.Prelude.{◌≡◌, ℕ, ◌<◌, ◌≤◌, ◌==◌, false, List, ◌++◌, length, get_or, slice_index, Option, None, Result}
+use Rattle.std.specs.Prelude.{◌≡◌, ℕ, ◌<◌, ◌≤◌, ◌==◌, false, List, ◌++◌, length, get_or, slice_index, None, Result}
 use Rattle.std.specs.List.{AllByRecursion, list_any}
 use Rattle.mv_ecb.specs.Table.{code_limit}
 use Rattle.mv_ecb.specs.declared.operation.EcbOp.TheVariants.{Settle}
@@ -19,8 +19,8 @@ use Rattle.mv_calls.specs.Waits.{arm_all, settle_all, complete_count, wait_refus
 use Rattle.mv_calls.specs.Exits.{StartsExit}
 use Rattle.mv_wait.specs.declared.waiting.WaitRefusal.{WaitRefusal}
 use Rattle.mv_wait.specs.declared.waiting.WaitRefusal.TheVariants as refusal
-use Rattle.mv_wait.specs.declared.waiting.WaitSlot.{WaitSlot}
-use Rattle.mv_wait.specs.declared.waiting.WaitSlot.TheVariants as slot
+use Rattle.mv_calls.specs.declared.outcomes.WaitSlot.{WaitSlot}
+use Rattle.mv_calls.specs.declared.outcomes.WaitSlot.TheVariants as slot
 use Rattle.mv_wait.specs.Run.{Runs}
 
 -- these blocks exist, and are owned by caller k
@@ -43,7 +43,7 @@ pub record IsArmedFor (es : List ℕ) (log : List Entry) : Type 0 where
 
 -- the answer of a wait in the programs
 abbrev pub Waited : Type 0
-Waited = Result (List (Option ℕ)) Refusal
+Waited = Result (List WaitSlot) Refusal
 
 -- the task armed each of these blocks, in the order of the list, whatever program follows
 abbrev pub ArmsAll : List ℕ → CallerFace → CallerFace → Type 0
@@ -59,12 +59,12 @@ pub record IsArmed (c : Setup) (count : ℕ) (es : List ℕ) (t u : CallerFace) 
   pub distinct : AreDistinct es
 
 -- the task settled each of these blocks with these slots, whatever program follows
-abbrev pub SettlesAll : List ℕ → List (Option ℕ) → CallerFace → CallerFace → Type 0
-SettlesAll es slots t u = (found : List (Option ℕ)) (f : List (Option ℕ) → Program Waited)
+abbrev pub SettlesAll : List ℕ → List WaitSlot → CallerFace → CallerFace → Type 0
+SettlesAll es slots t u = (found : List WaitSlot) (f : List WaitSlot → Program Waited)
     → Runs (length es) (settle_all es found f) (f (found ++ slots)) t u
 
 -- the task settled each of these blocks with these slots, of which at least `count` are complete
-pub record SettlesEnough (count : ℕ) (es : List ℕ) (slots : List (Option ℕ)) (t u : CallerFace) : Type 0 where
+pub record SettlesEnough (count : ℕ) (es : List ℕ) (slots : List WaitSlot) (t u : CallerFace) : Type 0 where
   pub settles : SettlesAll es slots t u
   pub enough : count ≤ complete_count slots
 

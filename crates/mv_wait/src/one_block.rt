@@ -1,13 +1,14 @@
 //! A wait for one block. Clauses cite `Waits.antt` and `Exits.antt` of mv_calls, `specs/Run.antt` and `specs/OneBlock.antt`.
 
-ghost use Rattle.std.specs.Prelude.{◌≡◌, ◌<◌, ◌∷◌, [], false, length, Some, Ok};
+ghost use Rattle.std.specs.Prelude.{◌≡◌, ◌<◌, ◌∷◌, [], false, length, Ok};
+ghost use Rattle.mv_calls.specs.declared.outcomes.WaitSlot.TheVariants.{Complete};
 ghost use Rattle.mv_calls.specs.Prelude.{code_limit, owner_of, kept_of, StartsExit, wait};
 ghost use Rattle.mv_wait.specs.OneBlock.{WaitedFor};
 ghost use Rattle.mv_wait.specs.Run.{Serves, MayCall};
 
 use crate::station::Station;
 use crate::task::Task;
-use crate::waiting::WaitSlot;
+use mv_calls::WaitSlot;
 use std::sync::Wait;
 use std::time::Clock;
 
@@ -35,7 +36,7 @@ impl Station {
         requires block { ecb < length self.now.config.owners }
         requires own { owner_of self.now.config ecb ≡ task.old.number }
         requires plain { StartsExit self.now.config ecb → (kept_of task.old.number task.old.log).extended ecb ≡ false }
-        ensures served { Serves 2 (wait self.now.config 1 (ecb ∷ [])) (Ok (Some result ∷ [])) task.old task.new }
+        ensures served { Serves 2 (wait self.now.config 1 (ecb ∷ [])) (Ok (Complete result ∷ [])) task.old task.new }
         ensures waited { WaitedFor ecb result task.old task.new }
         ensures code { result < code_limit }
     {

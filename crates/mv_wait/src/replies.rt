@@ -10,8 +10,7 @@ ghost use Rattle.mv_wait.specs.Says.{SaysSettled, SaysWord, SaysValue, SaysPoste
 ghost use Rattle.mv_wait.specs.Single.{extend_reply};
 ghost use Rattle.mv_wait.specs.Waiting.{settle_reply};
 
-use crate::waiting::WaitSlot;
-use mv_calls::PostAnswer;
+use mv_calls::{PostAnswer, WaitSlot};
 use mv_ecb::EcbReply;
 use mv_machine::{Reply, VolumeReply};
 

@@ -7,7 +7,7 @@ ghost use Rattle.std.specs.List.{AllByRecursion};
 ghost use Rattle.mv_calls.specs.Prelude.{owner_of, kept_of, IsAtRest, wait, wait_refusal, complete_count, doubled_at, refused_at};
 ghost use Rattle.mv_calls.specs.Prelude.{AreDistinct, Doubled, NotOwnerAt};
 ghost use Rattle.mv_board.specs.Faces.{IsOf};
-ghost use Rattle.mv_wait.specs.Answers.{wait_answer, wait_refused, slots_of};
+ghost use Rattle.mv_wait.specs.Answers.{wait_answer, wait_refused};
 ghost use Rattle.mv_wait.specs.Listed.{is_listed, listed_count, AreSeenBut};
 ghost use Rattle.mv_wait.specs.Run.{Went, Serves, MayCall};
 ghost use Rattle.mv_wait.specs.Waiting.{IsArmed, IsArmedFor, ArePlain, AreOwn, AreOwnUpTo, ArmsAll, SettlesEnough, IsBlockSettled};
@@ -18,21 +18,12 @@ use crate::replies::slot;
 use crate::station::Station;
 use crate::task::Task;
 use mv_board::{Caller, Watch};
+use mv_calls::WaitSlot;
 use mv_ecb::EcbOp;
 use mv_machine::{Object, Op, ValidConfig};
 use std::sync::Wait;
 use std::time::Clock;
 use thiserror::Error;
-
-/// What a wait found of one of its blocks.
-#[derive(Clone, Copy, Debug, Default, PartialEq, Eq)]
-pub enum WaitSlot {
-    /// The block is complete with this code.
-    Complete(u32),
-    /// The block is not complete.
-    #[default]
-    Open,
-}
 
 /// The reason for which a wait was refused. Positions count from 0.
 #[derive(Clone, Copy, Debug, PartialEq, Eq, Error)]
@@ -98,7 +89,7 @@ impl Station {
             (λ why. (wait_refusal self.now.config count ecbs.now (kept_of task.old.number task.old.log) ≡ Some (wait_refused why))
             × (task.new ≡ task.old) × (out.new ≡ out.old)) }
         ensures exit { IfErr result (NamesSource self.now.config ecbs.now) }
-        ensures enough { IfOk result (λ _. count ≤ complete_count (slots_of out.new)) }
+        ensures enough { IfOk result (λ _. count ≤ complete_count out.new) }
         ensures codes { IfOk result (λ _. AllByRecursion HasLowCode out.new) }
     {
         if let Err(refusal) = self.begin_wait(rt, task, count, ecbs) {
@@ -192,7 +183,7 @@ impl Station {
         requires listed { count ≤ listed_count task.old.ready ecbs.now }
         requires out { length out.old ≡ length ecbs.now }
         requires left { length ecbs.now ≤ task.old.left }
-        ensures settled { SettlesEnough count ecbs.now (slots_of out.new) task.old task.new }
+        ensures settled { SettlesEnough count ecbs.now out.new task.old task.new }
         ensures codes { AllByRecursion HasLowCode out.new }
         ensures rest { IsAtRest task.new.log }
         ensures size { length out.new ≡ length out.old }

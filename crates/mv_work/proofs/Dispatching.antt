@@ -1,5 +1,5 @@
 -- How the scheduler hands out the jobs, wait by wait.
-use Rattle.std.proofs.Common.{◌≡◌, ℕ, ◌+◌, ◌*◌, ◌-◌, ◌<◌, ◌≤◌, ◌==◌, zero, suc, Bool, true, false, List, [], ◌∷◌, length, drop, Option}
+use Rattle.std.proofs.Common.{◌≡◌, ℕ, ◌+◌, ◌*◌, ◌-◌, ◌<◌, ◌≤◌, ◌==◌, zero, suc, Bool, true, false, List, [], ◌∷◌, length, drop}
 use Rattle.std.proofs.Common.{refl, sym, ap, ◌∙◌, arith}
 use Rattle.std.specs.List.{range_with_len}
 use Rattle.std.proofs.lemmas.Bool.{eqb-true}
@@ -9,6 +9,7 @@ use Rattle.std.proofs.lemmas.List.Sums.{sum_by-cons}
 use Rattle.mv_board.specs.Faces.{CallerFace}
 use Rattle.mv_calls.specs.Program.{Call, Done, Wrong, accepted, finished, followed, for_each}
 use Rattle.mv_calls.specs.Waits.{extend, wait}
+use Rattle.mv_calls.specs.declared.outcomes.WaitSlot.{WaitSlot}
 use Rattle.mv_deck.specs.declared.deck.After.{After}
 use Rattle.mv_deck.specs.Deck.{JobData}
 use Rattle.mv_deck.specs.Weight.{after_parts}
@@ -60,7 +61,7 @@ exit_first s j skipped = accepted-assoc (extend s.board.config (done (length s.j
 -- ---- what was found
 
 -- the call of what was found was made, or went astray
-module _ {A B : Type 0} (slots : List (Option ℕ)) (f : ℕ → ℕ → Call A) (later : A → Call B) {u v : CallerFace} (r : ℕ × ℕ)
+module _ {A B : Type 0} (slots : List WaitSlot) (f : ℕ → ℕ → Call A) (later : A → Call B) {u v : CallerFace} (r : ℕ × ℕ)
     (is : lowest_complete 0 slots ≡ finished r) where
   pub found_done : {a : A} → Ran (f r.0 r.1) (Done a) u v → Leads (followed (lowest f 0 slots) later) (later a) u v
   found_done x = leads_on later (leads_as u (found_is slots f later is)) x

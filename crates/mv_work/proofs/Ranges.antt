@@ -8,9 +8,8 @@ use Rattle.mv_calls.specs.Program.{Call, Done, followed, for_each}
 use Rattle.mv_deck.specs.declared.deck.After.{After}
 use Rattle.mv_plan.specs.SpoolSetup.{idle}
 use Rattle.mv_plan.specs.SpoolTasks.{ends_of, some_end_above}
-use Rattle.mv_wait.specs.Answers.{slot_of, slots_of}
-use Rattle.mv_wait.specs.declared.waiting.WaitSlot.{WaitSlot}
-use Rattle.mv_wait.specs.declared.waiting.WaitSlot.TheVariants.{Complete, Open}
+use Rattle.mv_calls.specs.declared.outcomes.WaitSlot.{WaitSlot}
+use Rattle.mv_calls.specs.declared.outcomes.WaitSlot.TheVariants.{Complete, Open}
 use Rattle.mv_work.specs.Parts.{is_end_above}
 use Rattle.mv_work.specs.Ran.{Ran, Leads}
 use Rattle.mv_work.proofs.Runs.{leads_on}
@@ -53,17 +52,17 @@ ends_exist n owners (part ∷ parts) le all = (let lt = all.0 in omega arith, en
 
 -- one slot and its part are looked at
 one_above : (part : After) (parts : List After) (slot : WaitSlot) (slots : List WaitSlot)
-    → some_end_above (part ∷ parts) (slots_of (slot ∷ slots)) ≡ (is_end_above part (slot_of slot) || some_end_above parts (slots_of slots))
+    → some_end_above (part ∷ parts) (slot ∷ slots) ≡ (is_end_above part slot || some_end_above parts slots)
 one_above part parts (Complete end) slots = refl
 one_above part parts Open slots = refl
 
 -- the next of what is left
 pub next_above : (after : List After) (slots : List WaitSlot) (k : ℕ) (d : After) (e : WaitSlot) {above : Bool} → k < length after
-    → k < length slots → above ≡ is_end_above (get_or after k d) (slot_of (get_or slots k e))
-    → some_end_above (drop k after) (slots_of (drop k slots))
-    ≡ (above || some_end_above (drop (k + 1) after) (slots_of (drop (k + 1) slots)))
+    → k < length slots → above ≡ is_end_above (get_or after k d) (get_or slots k e)
+    → some_end_above (drop k after) (drop k slots)
+    ≡ (above || some_end_above (drop (k + 1) after) (drop (k + 1) slots))
 next_above after slots k d e lt within is =
-    ap (λ ps. some_end_above ps (slots_of (drop k slots))) (drop_more after k d lt)
-    ∙ ap (λ ss. some_end_above (get_or after k d ∷ drop (k + 1) after) (slots_of ss)) (drop_more slots k e within)
+    ap (λ ps. some_end_above ps (drop k slots)) (drop_more after k d lt)
+    ∙ ap (λ ss. some_end_above (get_or after k d ∷ drop (k + 1) after) ss) (drop_more slots k e within)
     ∙ one_above (get_or after k d) (drop (k + 1) after) (get_or slots k e) (drop (k + 1) slots)
-    ∙ ap (λ b. b || some_end_above (drop (k + 1) after) (slots_of (drop (k + 1) slots))) (sym is)
+    ∙ ap (λ b. b || some_end_above (drop (k + 1) after) (drop (k + 1) slots)) (sym is)

@@ -1,5 +1,5 @@
 -- What a task waits for, as a call, and the answer to it.
-use Rattle.std.specs.Prelude.{◌≡◌, ℕ, ◌*◌, List, [], ◌∷◌, Option, Some, length}
+use Rattle.std.specs.Prelude.{◌≡◌, ℕ, ◌*◌, List, [], ◌∷◌, Some, length}
 use Rattle.mv_latch.specs.declared.request.LatchForm.TheVariants.{Waiting}
 use Rattle.mv_machine.specs.Setup.{Setup}
 use Rattle.mv_calls.specs.LatchCalls.{obtain}
@@ -7,8 +7,8 @@ use Rattle.mv_calls.specs.declared.outcomes.Given.{Given}
 use Rattle.mv_calls.specs.Pauses.{pause}
 use Rattle.mv_calls.specs.Program.{Call, accepted, finished, wrong}
 use Rattle.mv_calls.specs.Waits.{wait}
+use Rattle.mv_calls.specs.declared.outcomes.WaitSlot.{WaitSlot}
 use Rattle.mv_plan.specs.SpoolTasks.{granted_as}
-use Rattle.mv_wait.specs.Answers.{slots_of}
 use Rattle.mv_work.specs.declared.need.Blocks.{Blocks}
 use Rattle.mv_work.specs.declared.need.Need.{Need}
 use Rattle.mv_work.specs.declared.need.Need.TheVariants as need
@@ -21,7 +21,7 @@ most_blocks = 8
 
 -- what a wait tells: how its blocks were found, what a pause was given, or the number of a request that was granted
 pub data Answer : Type 0 where
-  Slots : (slots : List (Option ℕ)) → Answer
+  Slots : (slots : List WaitSlot) → Answer
   Gave : (gift : Given) → Answer
   Holds : (id : ℕ) → Answer
 
@@ -47,13 +47,13 @@ need_events (need.Latch latch requestor mode) = 2
 
 -- the answer, as the program of the task reads it
 abbrev pub answer_of : Got → Answer
-answer_of (got.Slots found) = Slots (slots_of found.items)
+answer_of (got.Slots found) = Slots found.items
 answer_of (got.Code code) = Slots (Some code ∷ [])
 answer_of (got.Given given) = Gave given
 answer_of (got.Granted token) = Holds token.id
 
 -- what follows how blocks were found; any other answer is foreseen nowhere
-abbrev pub on_slots : {A : Type 0} → (List (Option ℕ) → Call A) → Answer → Call A
+abbrev pub on_slots : {A : Type 0} → (List WaitSlot → Call A) → Answer → Call A
 on_slots f (Slots slots) = f slots
 on_slots f answer = wrong
 

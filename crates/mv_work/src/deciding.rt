@@ -8,7 +8,7 @@
 
 ghost use Rattle.std.specs.Prelude.{◌≡◌, ◌<◌, ◌≤◌, length, map};
 ghost use Rattle.std.specs.List.{AllByRecursion, range_with_len};
-ghost use Rattle.mv_wait.specs.Prelude.{release_limit, slot_of, slots_of};
+ghost use Rattle.mv_wait.specs.Prelude.{release_limit};
 ghost use Rattle.mv_deck.specs.Operand.{most_after};
 ghost use Rattle.mv_deck.specs.Weight.{most_initiators};
 ghost use Rattle.mv_plan.specs.SpoolSetup.{jobs_limit, idle};
@@ -38,7 +38,7 @@ pub(crate) fn end_blocks(jobs: u32, after: &[After]) -> ArrayVec<u32, MOST_BLOCK
 /// Whether one of these ends is above what its part accepts.
 pub(crate) fn some_above(after: &[After], slots: &[WaitSlot]) -> bool
     requires { length after.now ≡ length slots.now }
-    ensures { result ≡ some_end_above after.now (slots_of slots.now) }
+    ensures { result ≡ some_end_above after.now slots.now }
 {
     for k in 0..after.len() {
         if is_above(after[k], slots[k]) {
@@ -50,7 +50,7 @@ pub(crate) fn some_above(after: &[After], slots: &[WaitSlot]) -> bool
 
 /// Whether an end was found that is above what a part accepts.
 fn is_above(part: After, slot: WaitSlot) -> bool
-    ensures { result ≡ is_end_above part (slot_of slot) }
+    ensures { result ≡ is_end_above part slot }
 {
     match slot {
         WaitSlot::Complete(end) => part.most < end,

@@ -5,7 +5,7 @@
 //! ```
 
 ghost use Rattle.std.specs.Prelude.{◌≡◌, ◌<◌, length, IfOk, MatchResult};
-ghost use Rattle.mv_wait.specs.Prelude.{finished, wrong, slots_of};
+ghost use Rattle.mv_wait.specs.Prelude.{finished, wrong};
 ghost use Rattle.mv_work.specs.Parts.{lowest_complete, pair_of};
 
 use crate::lost::Lost;
@@ -21,8 +21,8 @@ pub(crate) struct Found {
 
 /// The lowest position that was found complete, with its code.
 pub(crate) fn first_in(slots: &[WaitSlot]) -> Result<Found, Lost>
-    ensures found { MatchResult result (λ found. lowest_complete 0 (slots_of slots.now) ≡ finished (pair_of found))
-        (λ _. lowest_complete 0 (slots_of slots.now) ≡ wrong) }
+    ensures found { MatchResult result (λ found. lowest_complete 0 slots.now ≡ finished (pair_of found))
+        (λ _. lowest_complete 0 slots.now ≡ wrong) }
     ensures listed { IfOk result (λ found. found.position < length slots.now) }
 {
     for position in 0..slots.len() {

@@ -14,7 +14,7 @@
 //! leads to `Dismissal(0)`.
 
 ghost use Rattle.std.specs.Prelude.{◌≡◌, ◌<◌, ◌≤◌, ◌+◌, ◌*◌, ◌-◌, [], ◌∷◌, length, MatchResult, Some};
-ghost use Rattle.mv_wait.specs.Prelude.{release_limit, Done, Wrong, CallerFace, IsFresh, slots_of, MayCall};
+ghost use Rattle.mv_wait.specs.Prelude.{release_limit, Done, Wrong, CallerFace, IsFresh, MayCall};
 ghost use Rattle.mv_plan.specs.Prelude.{job_at, scheduler, ends_awaited, hand_over as handed};
 ghost use Rattle.mv_work.specs.Needs.{Slots, answer_of};
 ghost use Rattle.mv_work.specs.Ran.{Ran};
@@ -143,7 +143,7 @@ impl<G: Gate> Spool<'_, G> {
         requires job { job < length self.now.jobs }
         requires slots { length slots.now ≡ length (job_at self.now.jobs job).after }
         requires task { MayCall self.now.board (scheduler_due self.now (stage.Ends job)) task.old }
-        ensures { SchedulerComes self.now (scheduler_left self.now (stage.Ends job) (Slots (slots_of slots.now))) task.old result task.new }
+        ensures { SchedulerComes self.now (scheduler_left self.now (stage.Ends job) (Slots slots.now)) task.old result task.new }
     {
         let skipped = some_above(self.after_of(job), slots);
         self.set_exit(rt, task, job, skipped)
@@ -184,7 +184,7 @@ impl<G: Gate> Spool<'_, G> {
         requires job { job < length self.now.jobs }
         requires slots { length slots.now ≡ self.now.initiators }
         requires task { MayCall self.now.board (scheduler_due self.now (stage.Idle job skipped)) task.old }
-        ensures { SchedulerComes self.now (scheduler_left self.now (stage.Idle job skipped) (Slots (slots_of slots.now)))
+        ensures { SchedulerComes self.now (scheduler_left self.now (stage.Idle job skipped) (Slots slots.now))
             task.old result task.new }
     {
         let found = first_in(slots)?;

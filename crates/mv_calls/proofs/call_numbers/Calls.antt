@@ -35,6 +35,7 @@ use Rattle.mv_calls.specs.Services.{Service, program, Wait, Post, TryPost, Clear
 use Rattle.mv_calls.specs.Services.{Allocate, Pause, Release, TryRelease, Transfer, Deallocate, TestElement, Obtain, CheckLatch}
 use Rattle.mv_calls.specs.Services.{ReleaseLatch, Purge, EndOfJob, EndOfTask, PostEvent, NextEvent}
 use Rattle.mv_calls.specs.OneCall.{IsSingle}
+use Rattle.mv_calls.specs.declared.outcomes.WaitSlot.{WaitSlot}
 
 -- a program without event keeps it
 ends_stay : {A : Type 0} (c : Setup) (u : Numbering) (p : Program A) → HasNoEvent p → StaysTo c Anything u p
@@ -70,8 +71,8 @@ not_refused c (Some why) p b = tt
 -- ---- waits: behind an arm an arm continues, and a settle always does
 
 -- the settles of a wait
-settles_stay : {A : Type 0} (c : Setup) (es : List ℕ) (found : List (Option ℕ)) (f : List (Option ℕ) → Program A) (t : Numbering)
-    → ((u : Numbering) (slots : List (Option ℕ)) → StaysTo c Anything u (f slots)) → StaysTo c Anything t (waits.settle_all es found f)
+settles_stay : {A : Type 0} (c : Setup) (es : List ℕ) (found : List WaitSlot) (f : List WaitSlot → Program A) (t : Numbering)
+    → ((u : Numbering) (slots : List WaitSlot) → StaysTo c Anything u (f slots)) → StaysTo c Anything t (waits.settle_all es found f)
 settles_stay c [] found f t g = g t found
 settles_stay c (e ∷ es) found f t g = λ k place reply ws. (
   group_kept t.last t.group,

@@ -4,7 +4,7 @@ use Rattle.mv_plan.proofs.Words.{◌≡◌, ℕ, ◌+◌, ◌<◌, ◌==◌, Boo
 use Rattle.mv_plan.proofs.Words.{◌∙◌, subst, append-nil, arith, AllByRecursion, filter_map-append, EcbOp, ecb_step, EcbState, Extended}
 use Rattle.mv_plan.proofs.Words.{Complete, Entry, Object, Ecb, Element, Op, Reply, IsNext, Setup, System, moved, opening, posts, post_codes}
 use Rattle.mv_plan.proofs.Words.{JobData, not_run, end_of, end_for_scheduler, end_for_writer, code_of, all_push, done, EcbReply, ElementOp}
-use Rattle.mv_plan.proofs.Words.{common_steps, suc, Option, cases_lt, idle, reader, scheduler, initiator, writer}
+use Rattle.mv_plan.proofs.Words.{common_steps, suc, cases_lt, idle, reader, scheduler, initiator, writer, WaitSlot}
 use Rattle.std.proofs.lemmas.List.{map-append}
 use Rattle.mv_plan.specs.PostingEnds.{post_in, FindsEnd}
 use Rattle.mv_plan.proofs.deck.{IsPlanned, is_skipped, skipped_ends, few_jobs, code_parts, never_zero}
@@ -179,9 +179,9 @@ one_more n j s last h k lt = elim
       | inr le ↦ subst (λ z. IsComplete s (end_for_writer n z)) (let e : j ≡ k = omega arith in e) last
     ]
 
-settled_found : (n j more : ℕ) (s : System) (kept : List ℕ) (code : ℕ) (found : List (Option ℕ)) → found ≡ [] → j + suc more ≡ n
+settled_found : (n j more : ℕ) (s : System) (kept : List ℕ) (code : ℕ) (found : List WaitSlot) → found ≡ [] → j + suc more ≡ n
     → IsComplete s (end_for_writer n j) → ((k : ℕ) → k < j → IsComplete s (end_for_writer n k))
-    → HasFound n s (end_found n j more kept (found ++ Some code ∷ []))
+    → HasFound n s (end_found n j more kept (found ++ WaitSlot.Complete code ∷ []))
 settled_found n j more s kept code [] none e last h =
     writing_found n (j + 1) more s (kept ++ code ∷ []) (omega arith) (one_more n j s last h)
 settled_found n j more s kept code (f ∷ found) none e last h = absurd (cc none)

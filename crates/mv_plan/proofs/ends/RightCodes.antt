@@ -1,11 +1,11 @@
 -- The codes that pass between the tasks are the deck's: the scheduler marks each job as the deck says, a block with a job's end holds
 -- that end, an element holds 0 or a job's code with its mark, and the writer keeps the ends. All blocks at once, no induction.
-use Rattle.mv_plan.proofs.Words.{◌≡◌, ℕ, ◌+◌, ◌<◌, ◌≤◌, nat_lt, ◌||◌, List, [], ◌∷◌, ◌++◌, length, Option, Some, None, refl, sym, ap, ◌∙◌}
+use Rattle.mv_plan.proofs.Words.{◌≡◌, ℕ, ◌+◌, ◌<◌, ◌≤◌, nat_lt, ◌||◌, List, [], ◌∷◌, ◌++◌, length, Some, refl, sym, ap, ◌∙◌}
 use Rattle.mv_plan.proofs.Words.{arith, AllByRecursion, leb-true, Reply, JobData, After, Step, some_unaccepted, ends, job_at, end_of}
 use Rattle.mv_plan.proofs.Words.{end_for_scheduler, code_of, some_end_above, ends_of, complete_count, EcbReply, common_steps, suc, get_or}
 use Rattle.mv_plan.proofs.Words.{◌⊎◌, inl, inr, subst, append-nil, append_assoc, length-append, get_or-append_seam, Complete, Entry, Object}
 use Rattle.mv_plan.proofs.Words.{Ecb, Element, Op, IsNext, Setup, System, moved, opening, initiator, Named, job_named, one_end_per_job}
-use Rattle.mv_plan.proofs.Words.{EcbOp, ElementOp}
+use Rattle.mv_plan.proofs.Words.{EcbOp, ElementOp, WaitSlot}
 use Rattle.mv_plan.proofs.deck.{ArePlannedJobs, is_skipped, IsPlanned, end_by_mark}
 use Rattle.mv_plan.proofs.points.{Point, At, TooSoon, WaitAt, Arming, Settling, Stage, Dispatching, Dismissing, Awaited, ForEntry, ForEnds}
 use Rattle.mv_plan.proofs.points.{ForIdle, ToDismiss, SchedulerAt, Waits, Extends, Clears, Releases, awaited_blocks, awaited_count}
@@ -20,10 +20,10 @@ use Rattle.mv_plan.proofs.walks.{Points, start_points, HasStanding, KeepsUnder, 
 use Rattle.mv_plan.proofs.ends.Blocks.{complete_moved, held_moved, settled_code, HasEnd, posts_run, posts_ending}
 
 -- what was found at the blocks of these parts are the ends of their jobs
-abbrev pub AreFound : List JobData → List After → List (Option ℕ) → Type 0
+abbrev pub AreFound : List JobData → List After → List WaitSlot → Type 0
 AreFound deck parts [] = Unit {0}
-AreFound deck (part ∷ parts) (Some code ∷ found) = (code ≡ end_of deck part.job) × AreFound deck parts found
-AreFound deck (part ∷ parts) (None ∷ found) = AreFound deck parts found
+AreFound deck (part ∷ parts) (WaitSlot.Complete code ∷ found) = (code ≡ end_of deck part.job) × AreFound deck parts found
+AreFound deck (part ∷ parts) (WaitSlot.Open ∷ found) = AreFound deck parts found
 AreFound deck [] (slot ∷ found) = ⊥
 
 -- the code that was chosen for the job in front of a stage; 0 where an initiator is dismissed
@@ -31,13 +31,13 @@ abbrev pub IsCodeFor : List JobData → ℕ → Stage → Type 0
 IsCodeFor deck code (Dispatching j jobs) = (k : ℕ) × (k < length deck) × (j ≡ k + 1) × (code ≡ code_of k (is_skipped deck k))
 IsCodeFor deck code (Dismissing i more) = code ≡ 0
 
-abbrev pub MarkedWait : List JobData → Awaited → List (Option ℕ) → Type 0
+abbrev pub MarkedWait : List JobData → Awaited → List WaitSlot → Type 0
 MarkedWait deck (ForEntry j job jobs) found = Unit {0}
 MarkedWait deck (ForEnds j job jobs) found = AreFound deck job.after found
 MarkedWait deck (ForIdle j job jobs skipped) found = skipped ≡ is_skipped deck j
 MarkedWait deck (ToDismiss i more) found = Unit {0}
 
-abbrev pub found_in : WaitAt → List (Option ℕ)
+abbrev pub found_in : WaitAt → List WaitSlot
 found_in (Arming e todo) = []
 found_in (Settling e todo found) = found
 
@@ -50,31 +50,31 @@ IsMarked deck p = Unit {0}
 
 -- ---- what was found
 
-none_more : (deck : List JobData) (parts : List After) (found : List (Option ℕ)) → AreFound deck parts found
+none_more : (deck : List JobData) (parts : List After) (found : List WaitSlot) → AreFound deck parts found
     → complete_count found ≤ length parts
 none_more deck parts [] f = omega arith
-none_more deck (part ∷ parts) (Some code ∷ found) f = let le = none_more deck parts found f.1 in
+none_more deck (part ∷ parts) (WaitSlot.Complete code ∷ found) f = let le = none_more deck parts found f.1 in
     omega arith
-none_more deck (part ∷ parts) (None ∷ found) f = grind (arith, common_steps, none_more deck parts found f)
+none_more deck (part ∷ parts) (WaitSlot.Open ∷ found) f = grind (arith, common_steps, none_more deck parts found f)
 none_more deck [] (slot ∷ found) f = absurd f
 
 -- where all ends were found, one is above what is accepted exactly where the deck says so
-pub found_mark : (deck : List JobData) (parts : List After) (found : List (Option ℕ)) → AreFound deck parts found
+pub found_mark : (deck : List JobData) (parts : List After) (found : List WaitSlot) → AreFound deck parts found
     → length parts ≤ complete_count found → some_end_above parts found ≡ some_unaccepted (ends deck) parts
-found_mark deck (part ∷ parts) (Some code ∷ found) f le =
+found_mark deck (part ∷ parts) (WaitSlot.Complete code ∷ found) f le =
     ap (λ c. nat_lt part.most c || some_end_above parts found) f.0
     ∙ ap (λ b. nat_lt part.most (end_of deck part.job) || b) (found_mark deck parts found f.1 (omega arith))
-found_mark deck (part ∷ parts) (None ∷ found) f le = let few = none_more deck parts found f in
+found_mark deck (part ∷ parts) (WaitSlot.Open ∷ found) f le = let few = none_more deck parts found f in
     absurd (omega arith)
 found_mark deck parts found f le = grind (arith, common_steps)
 
-abbrev pub IsRight : Option ℕ → ℕ → Type 0
-IsRight (Some code) end = code ≡ end
-IsRight None end = Unit {0}
+abbrev pub IsRight : WaitSlot → ℕ → Type 0
+IsRight (WaitSlot.Complete code) end = code ≡ end
+IsRight WaitSlot.Open end = Unit {0}
 
 -- one more was settled
-pub found_push : (deck : List JobData) (n : ℕ) (parts : List After) (past : List ℕ) (e : ℕ) (todo : List ℕ) (found : List (Option ℕ))
-    (slot : Option ℕ)
+pub found_push : (deck : List JobData) (n : ℕ) (parts : List After) (past : List ℕ) (e : ℕ) (todo : List ℕ) (found : List WaitSlot)
+    (slot : WaitSlot)
     → past ++ e ∷ todo ≡ ends_of n parts → length past ≡ length found → AllByRecursion (λ part. part.job < n) parts
     → AreFound deck parts found
     → ((k : ℕ) → k < n → e ≡ end_for_scheduler n k → IsRight slot (end_of deck k)) → AreFound deck parts (found ++ slot ∷ [])
@@ -83,9 +83,9 @@ found_push deck n [] (p ∷ past) e todo found slot at count below f right = abs
 found_push deck n (part ∷ parts) [] e todo [] slot at count below f right = grind (arith, common_steps)
 found_push deck n (part ∷ parts) [] e todo (s ∷ found) slot at count below f right = absurd (omega arith)
 found_push deck n (part ∷ parts) (p ∷ past) e todo [] slot at count below f right = absurd (omega arith)
-found_push deck n (part ∷ parts) (p ∷ past) e todo (Some code ∷ found) slot at count below f right =
+found_push deck n (part ∷ parts) (p ∷ past) e todo (WaitSlot.Complete code ∷ found) slot at count below f right =
     (f.0, found_push deck n parts past e todo found slot (cc at) (omega arith) below.1 f.1 right)
-found_push deck n (part ∷ parts) (p ∷ past) e todo (None ∷ found) slot at count below f right =
+found_push deck n (part ∷ parts) (p ∷ past) e todo (WaitSlot.Open ∷ found) slot at count below f right =
     found_push deck n parts past e todo found slot (cc at) (omega arith) below.1 f right
 
 -- ---- the jobs that are left
@@ -114,7 +114,7 @@ module _ (deck : List JobData) (initiators : ℕ) where
   stage_marked : (after : Stage) → IsMarked deck (stage_at (length deck) initiators after)
   stage_marked x = grind (arith, common_steps)
 
-  found_marked : (a : Awaited) (found : List (Option ℕ)) → IsAwaited deck initiators a → MarkedWait deck a found
+  found_marked : (a : Awaited) (found : List WaitSlot) → IsAwaited deck initiators a → MarkedWait deck a found
       → awaited_count a ≤ complete_count found → IsMarked deck (found_at (length deck) a found)
   found_marked (ForEntry j job jobs) found r f le =
       lowest_keeps (IsMarked deck) (λ p code. ends_at (length deck) j job jobs) 0 found
@@ -126,12 +126,12 @@ module _ (deck : List JobData) (initiators : ℕ) where
   found_marked (ToDismiss i more) found r f le =
       lowest_keeps (IsMarked deck) (λ p g. At (Clears i g 0 (Dismissing (i + 1) more))) 0 found (λ p code. refl) tt
 
-  settling_marked : (a : Awaited) (es : List ℕ) (found : List (Option ℕ)) → IsAwaited deck initiators a → MarkedWait deck a found
+  settling_marked : (a : Awaited) (es : List ℕ) (found : List WaitSlot) → IsAwaited deck initiators a → MarkedWait deck a found
       → IsMarked deck (settling_from (length deck) a es found)
   settling_marked a [] found s f = grind (arith, common_steps, TooSoon, found_marked, leb-true)
   settling_marked a (e ∷ es) found s f = f
 
-  one_settled : (a : Awaited) (e : ℕ) (todo : List ℕ) (found : List (Option ℕ)) (slot : Option ℕ) → ArePlannedJobs 0 deck
+  one_settled : (a : Awaited) (e : ℕ) (todo : List ℕ) (found : List WaitSlot) (slot : WaitSlot) → ArePlannedJobs 0 deck
       → IsAwaited deck initiators a → IsWaitAt (awaited_blocks (length deck) initiators a) (Settling e todo found)
       → MarkedWait deck a found → ((k : ℕ) → k < length deck → e ≡ end_for_scheduler (length deck) k → IsRight slot (end_of deck k))
       → MarkedWait deck a (found ++ slot ∷ [])
@@ -146,9 +146,10 @@ module _ (deck : List JobData) (initiators : ℕ) where
   pub scheduler_marks : (x : SchedulerAt) (r : Reply) → ArePlannedJobs 0 deck → IsSchedulerAt deck initiators (At x)
       → IsMarked deck (At x) → FindsEnds x r → IsMarked deck (scheduler_goes (length deck) initiators x r)
   scheduler_marks (Waits a (Settling e todo found)) (Reply.Ecb (EcbReply.Complete code)) sound s f finds =
-      settling_marked a todo (found ++ Some code ∷ []) s.0 (one_settled a e todo found (Some code) sound s.0 s.1 f finds)
+      settling_marked a todo (found ++ WaitSlot.Complete code ∷ []) s.0
+      (one_settled a e todo found (WaitSlot.Complete code) sound s.0 s.1 f finds)
   scheduler_marks (Waits a (Settling e todo found)) (Reply.Ecb EcbReply.Open) sound s f finds =
-      settling_marked a todo (found ++ None ∷ []) s.0 (one_settled a e todo found None sound s.0 s.1 f (λ k lt at. tt))
+      settling_marked a todo (found ++ WaitSlot.Open ∷ []) s.0 (one_settled a e todo found WaitSlot.Open sound s.0 s.1 f (λ k lt at. tt))
   scheduler_marks x r sound s f finds = grind (arith, common_steps, stage_marked)
 
 -- ---- the codes of jobs
@@ -219,9 +220,9 @@ WriterFindsEnd deck (Keeping j more kept (Settling e todo found)) (Reply.Ecb (Ec
 WriterFindsEnd deck x r = Unit {0}
 
 -- a wait for one block that found these
-settled_keeps : (deck : List JobData) (j more : ℕ) (kept rest : List ℕ) (code : ℕ) (found : List (Option ℕ)) → kept ++ rest ≡ ends deck
+settled_keeps : (deck : List JobData) (j more : ℕ) (kept rest : List ℕ) (code : ℕ) (found : List WaitSlot) → kept ++ rest ≡ ends deck
     → length kept ≡ j → j + suc more ≡ length deck → found ≡ [] → code ≡ end_of deck j
-    → KeepsEnds deck (end_found (length deck) j more kept (found ++ Some code ∷ []))
+    → KeepsEnds deck (end_found (length deck) j more kept (found ++ WaitSlot.Complete code ∷ []))
 settled_keeps deck j more kept rest code [] e l n none c = one_kept deck j more kept rest code e l n c
 settled_keeps deck j more kept rest code (f ∷ found) e l n none c = absurd (cc none)
 

@@ -8,7 +8,7 @@ use Rattle.mv_plan.proofs.Words.{Option, Some, None, if◌then◌else◌, ◌^�
 use Rattle.mv_plan.proofs.Words.{Latches, Reply, with_at, JobData, Step, Print, Use, Count, Scan, Abend, Return, job_at, not_run, Purged}
 use Rattle.mv_plan.proofs.Words.{entered, end_for_scheduler, end_for_writer, idle, initiator, Named, job_named, code_of, some_end_above}
 use Rattle.mv_plan.proofs.Words.{ends_of, complete_count, Free, done, EcbOp, EcbReply, ElementOp, ElementReply, LatchOp, LatchReply, ◌-◌}
-use Rattle.mv_plan.proofs.Words.{LatchForm, VolumeOp, VolumeReply, ElementState, ◌≡◌, refl, eqb-true, rules, arith, common_steps}
+use Rattle.mv_plan.proofs.Words.{LatchForm, VolumeOp, VolumeReply, ElementState, ◌≡◌, refl, eqb-true, rules, arith, common_steps, WaitSlot}
 use Rattle.mv_element.specs.declared.element.Phase.{Phase}
 use Rattle.mv_element.specs.declared.element.Phase.TheVariants.{Reset, Prereleased, Paused, Released}
 
@@ -33,9 +33,9 @@ on_armed p (Reply.Ecb EcbReply.Armed) = p
 on_armed p (Reply.Ecb (EcbReply.Complete code)) = p
 on_armed p r = Astray
 
-abbrev pub on_settled : {X : Type 0} → (Option ℕ → Point X) → Reply → Point X
-on_settled f (Reply.Ecb (EcbReply.Complete code)) = f (Some code)
-on_settled f (Reply.Ecb EcbReply.Open) = f None
+abbrev pub on_settled : {X : Type 0} → (WaitSlot → Point X) → Reply → Point X
+on_settled f (Reply.Ecb (EcbReply.Complete code)) = f (WaitSlot.Complete code)
+on_settled f (Reply.Ecb EcbReply.Open) = f WaitSlot.Open
 on_settled f r = Astray
 
 -- ---- the reader: job j is entered, and as many later ones are still to be entered
@@ -55,19 +55,19 @@ reader_goes (Entering j more) r = on_posted (entering_from (j + 1) more) r
 -- ---- a wait: a block is armed or settled, and then these; with what was found at those before
 pub data WaitAt : Type 0 where
   Arming : (e : ℕ) (todo : List ℕ) → WaitAt
-  Settling : (e : ℕ) (todo : List ℕ) (found : List (Option ℕ)) → WaitAt
+  Settling : (e : ℕ) (todo : List ℕ) (found : List WaitSlot) → WaitAt
 
 abbrev pub wait_asks : WaitAt → Object × Op
 wait_asks (Arming e todo) = (Ecb e, Op.Ecb EcbOp.Arm)
 wait_asks (Settling e todo found) = (Ecb e, Op.Ecb EcbOp.Settle)
 
-abbrev pub lowest_at : {X : Type 0} → (ℕ → ℕ → Point X) → ℕ → List (Option ℕ) → Point X
+abbrev pub lowest_at : {X : Type 0} → (ℕ → ℕ → Point X) → ℕ → List WaitSlot → Point X
 lowest_at f p [] = Astray
-lowest_at f p (Some code ∷ slots) = f p code
-lowest_at f p (None ∷ slots) = lowest_at f (p + 1) slots
+lowest_at f p (WaitSlot.Complete code ∷ slots) = f p code
+lowest_at f p (WaitSlot.Open ∷ slots) = lowest_at f (p + 1) slots
 
 -- where enough were found
-abbrev pub if_enough : {X : Type 0} → ℕ → List (Option ℕ) → Point X → Point X
+abbrev pub if_enough : {X : Type 0} → ℕ → List WaitSlot → Point X → Point X
 if_enough count found p = if nat_le count (complete_count found) then p else TooSoon
 
 -- ---- the scheduler
@@ -133,13 +133,13 @@ stage_at n initiators (Dispatching j (job ∷ jobs)) = At (Waits (ForEntry j job
 stage_at n initiators (Dismissing i more) = dismissing_from n i more
 
 -- after a wait that found these, where they are enough
-abbrev pub found_at : ℕ → Awaited → List (Option ℕ) → Point SchedulerAt
+abbrev pub found_at : ℕ → Awaited → List WaitSlot → Point SchedulerAt
 found_at n (ForEntry j job jobs) found = lowest_at (λ p code. ends_at n j job jobs) 0 found
 found_at n (ForEnds j job jobs) found = At (Extends j job jobs (some_end_above job.after found))
 found_at n (ForIdle j job jobs skipped) found = lowest_at (λ i g. At (Clears i g (code_of j skipped) (Dispatching (j + 1) jobs))) 0 found
 found_at n (ToDismiss i more) found = lowest_at (λ p g. At (Clears i g 0 (Dismissing (i + 1) more))) 0 found
 
-abbrev pub settling_from : ℕ → Awaited → List ℕ → List (Option ℕ) → Point SchedulerAt
+abbrev pub settling_from : ℕ → Awaited → List ℕ → List WaitSlot → Point SchedulerAt
 settling_from n a [] found = if_enough (awaited_count a) found (found_at n a found)
 settling_from n a (e ∷ es) found = At (Waits a (Settling e es found))
 
@@ -181,10 +181,10 @@ abbrev pub writer_asks : WriterAt → Object × Op
 writer_asks (Keeping j more ends w) = wait_asks w
 
 -- a wait for one block that found these
-abbrev pub end_found : ℕ → ℕ → ℕ → List ℕ → List (Option ℕ) → Point WriterAt
+abbrev pub end_found : ℕ → ℕ → ℕ → List ℕ → List WaitSlot → Point WriterAt
 end_found n j more ends found = if_enough 1 found (lowest_at (λ p end. writing_from n (j + 1) more (ends ++ end ∷ [])) 0 found)
 
-abbrev pub writer_settling : ℕ → ℕ → ℕ → List ℕ → List ℕ → List (Option ℕ) → Point WriterAt
+abbrev pub writer_settling : ℕ → ℕ → ℕ → List ℕ → List ℕ → List WaitSlot → Point WriterAt
 writer_settling n j more ends [] found = end_found n j more ends found
 writer_settling n j more ends (e ∷ es) found = At (Keeping j more ends (Settling e es found))
 

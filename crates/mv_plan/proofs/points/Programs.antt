@@ -1,15 +1,15 @@
 -- The program of each task at each point. Posts and waits, which all tasks make, point by point: programs and points go alike, and what
 -- holds of each point that may follow holds of the one that does. The reader's and the writer's programs go from point to point; where
 -- these two may stand, and what the writer keeps. Used by Following.
-use Rattle.mv_plan.proofs.Words.{ℕ, suc, ◌+◌, ◌-◌, List, [], ◌∷◌, ◌++◌, length, map, false, Option, Some, Result, Ok, ◌==◌, if◌then◌else◌}
+use Rattle.mv_plan.proofs.Words.{ℕ, suc, ◌+◌, ◌-◌, List, [], ◌∷◌, ◌++◌, length, map, false, Some, Result, Ok, ◌==◌, if◌then◌else◌}
 use Rattle.mv_plan.proofs.Words.{range_with_len, Ecb, Element, Volume, Latches, Setup, with_at, JobData, Step, Kept, Purged, obtained}
 use Rattle.mv_plan.proofs.Words.{token_of, closed, release, deallocate, pause, PostAnswer, Woke, post, post_within, each_posted, wake_posted}
 use Rattle.mv_plan.proofs.Words.{Program, Do, Done, Early, Wrong, Call, and_then, going_on, unrefused, finished, on_ecb, on_element}
 use Rattle.mv_plan.proofs.Words.{on_latch, followed, accepted, Refusal, entered, end_for_scheduler, end_for_writer, idle, initiator, lowest}
 use Rattle.mv_plan.proofs.Words.{some_end_above, ends_awaited, hand_over, code_of, granted_as, named_by, run_job, rounds, job_named}
 use Rattle.mv_plan.proofs.Words.{first_of, arm_all, settle_all, enough, the_word, extended, extend, done, EcbOp, ElementOp, LatchOp}
-use Rattle.mv_plan.proofs.Words.{LatchForm, Op, VolumeOp, Bool, ◌≡◌, ◌<◌, ◌≤◌, None, arith, Reply, posted_next, EcbReply, common_steps}
-use Rattle.mv_plan.proofs.Words.{zero, refl, ap, Object, kept_after, Heard, asks, heard, writer}
+use Rattle.mv_plan.proofs.Words.{LatchForm, Op, VolumeOp, Bool, ◌≡◌, ◌<◌, ◌≤◌, arith, Reply, posted_next, EcbReply, common_steps}
+use Rattle.mv_plan.proofs.Words.{zero, refl, ap, Object, kept_after, Heard, asks, heard, writer, WaitSlot}
 use Rattle.mv_calls.specs.LatchCalls.{confirmed, let_go, purged}
 use Rattle.mv_calls.specs.declared.outcomes.Given.{Given}
 use Rattle.mv_calls.specs.Pauses.{opened, paused, resumed}
@@ -51,7 +51,7 @@ reader_program c kept (Entering j more) = going_on kept (posting_now c (entered 
 
 -- ---- a wait
 
-abbrev pub wait_program : ℕ → List ℕ → WaitAt → Program (Result (List (Option ℕ)) Refusal)
+abbrev pub wait_program : ℕ → List ℕ → WaitAt → Program (Result (List WaitSlot) Refusal)
 wait_program count es (Arming e todo) = arm_all (e ∷ todo) (settle_all es [] (enough count))
 wait_program count es (Settling e todo found) = settle_all (e ∷ todo) found (enough count)
 
@@ -77,7 +77,7 @@ abbrev pub extending : Setup → ℕ → ℕ → ℕ → Bool → Call (Unit {0}
 extending c n initiators j skipped = accepted (extend c (done n j) (j + 1)) (λ linked. handing c n initiators j skipped)
 
 -- what follows the job's or the initiator's wait within it
-abbrev pub awaited_then : Setup → ℕ → ℕ → Awaited → List (Option ℕ) → Call (Unit {0})
+abbrev pub awaited_then : Setup → ℕ → ℕ → Awaited → List WaitSlot → Call (Unit {0})
 awaited_then c n initiators (ForEntry j job jobs) = lowest (λ position zero_code. ends_awaited c n job.after (extending c n initiators j)) 0
 awaited_then c n initiators (ForEnds j job jobs) = λ slots. extending c n initiators j (some_end_above job.after slots)
 awaited_then c n initiators (ForIdle j job jobs skipped) = lowest (hand_over c n (code_of j skipped)) 0
@@ -215,24 +215,25 @@ pub armed_goes : {A X : Type 0} (g : Program A → Program (List ℕ)) (f : X �
 armed_goes g f p pt r same lost = grind (arith, common_steps)
 
 -- and to a settle
-pub settled_goes : {A X : Type 0} (g : Program A → Program (List ℕ)) (f : X → Program (List ℕ)) (p : Option ℕ → Program A)
-    (pt : Option ℕ → Point X) (r : Reply)
-    → ((slot : Option ℕ) → g (p slot) ≡ program_at f (pt slot)) → g Wrong ≡ Wrong
+pub settled_goes : {A X : Type 0} (g : Program A → Program (List ℕ)) (f : X → Program (List ℕ)) (p : WaitSlot → Program A)
+    (pt : WaitSlot → Point X) (r : Reply)
+    → ((slot : WaitSlot) → g (p slot) ≡ program_at f (pt slot)) → g Wrong ≡ Wrong
     → g (on_ecb r (settled p)) ≡ program_at f (on_settled pt r)
 settled_goes g f p pt r same lost = grind (arith, common_steps)
 
 -- the lowest that was found complete, at a position below a bound
 pub lowest_goes : {A X : Type 0} (g : Program A → Program (List ℕ)) (f : X → Program (List ℕ)) (call : ℕ → ℕ → Call A)
     (pt : ℕ → ℕ → Point X) (kept : Kept)
-    (p bound : ℕ) (found : List (Option ℕ)) → p + length found ≤ bound
+    (p bound : ℕ) (found : List WaitSlot) → p + length found ≤ bound
     → ((i code : ℕ) → i < bound → g (call i code kept) ≡ program_at f (pt i code)) → g Wrong ≡ Wrong
     → g (lowest call p found kept) ≡ program_at f (lowest_at pt p found)
-lowest_goes g f call pt kept p bound (None ∷ found) le same lost = lowest_goes g f call pt kept (p + 1) bound found (omega arith) same lost
+lowest_goes g f call pt kept p bound (WaitSlot.Open ∷ found) le same lost =
+    lowest_goes g f call pt kept (p + 1) bound found (omega arith) same lost
 lowest_goes g f call pt kept p bound found le same lost = grind (arith, common_steps)
 
 -- enough were found, or the wait ended too soon
-pub enough_goes : {X : Type 0} (g : Program (Result (List (Option ℕ)) Refusal) → Program (List ℕ)) (f : X → Program (List ℕ))
-    (count : ℕ) (found : List (Option ℕ)) (pt : Point X)
+pub enough_goes : {X : Type 0} (g : Program (Result (List WaitSlot) Refusal) → Program (List ℕ)) (f : X → Program (List ℕ))
+    (count : ℕ) (found : List WaitSlot) (pt : Point X)
     → g (Done (Ok found)) ≡ program_at f pt → g Early ≡ Early → g (enough count found) ≡ program_at f (if_enough count found pt)
 enough_goes g f count found pt same early = grind (arith, common_steps)
 
@@ -244,13 +245,13 @@ on_posted_keeps x pt r p a = grind (arith, common_steps)
 pub on_armed_keeps : {X : Type 0} (P : Point X → Type 0) (pt : Point X) (r : Reply) → P pt → P Astray → P (on_armed pt r)
 on_armed_keeps x pt r p a = grind (arith, common_steps)
 
-pub on_settled_keeps : {X : Type 0} (P : Point X → Type 0) (pt : Option ℕ → Point X) (r : Reply) → ((slot : Option ℕ) → P (pt slot))
+pub on_settled_keeps : {X : Type 0} (P : Point X → Type 0) (pt : WaitSlot → Point X) (r : Reply) → ((slot : WaitSlot) → P (pt slot))
     → P Astray → P (on_settled pt r)
 on_settled_keeps x pt r p a = grind (arith, common_steps)
 
-pub lowest_keeps : {X : Type 0} (P : Point X → Type 0) (f : ℕ → ℕ → Point X) (p : ℕ) (found : List (Option ℕ))
+pub lowest_keeps : {X : Type 0} (P : Point X → Type 0) (f : ℕ → ℕ → Point X) (p : ℕ) (found : List WaitSlot)
     → ((i code : ℕ) → P (f i code)) → P Astray → P (lowest_at f p found)
-lowest_keeps P f p (None ∷ found) each lost = lowest_keeps P f (p + 1) found each lost
+lowest_keeps P f p (WaitSlot.Open ∷ found) each lost = lowest_keeps P f (p + 1) found each lost
 lowest_keeps P f p found each lost = grind (arith, common_steps)
 
 -- ---- what is kept after an event

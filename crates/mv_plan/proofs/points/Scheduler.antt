@@ -1,11 +1,11 @@
 -- Where the scheduler may stand: which jobs are left, which code it hands over, and what it keeps there, whatever the reply; its
 -- program goes from point to point; and which points may follow one, as one lemma for any fact of points.
-use Rattle.mv_plan.proofs.Words.{◌≡◌, ℕ, suc, ◌+◌, ◌<◌, ◌≤◌, Bool, true, List, [], ◌∷◌, ◌++◌, length, Option, None, refl, sym, ap, ◌∙◌, map}
+use Rattle.mv_plan.proofs.Words.{◌≡◌, ℕ, suc, ◌+◌, ◌<◌, ◌≤◌, Bool, true, List, [], ◌∷◌, ◌++◌, length, None, refl, sym, ap, ◌∙◌, map}
 use Rattle.mv_plan.proofs.Words.{subst, append_assoc, zero-add, arith, length-append, length-map-range_with_len, Reply, JobData, After}
 use Rattle.mv_plan.proofs.Words.{Step, Kept, code_of, EcbReply, common_steps, zero, false, Some, AllByRecursion, range_with_len, Setup}
 use Rattle.mv_plan.proofs.Words.{Heard, asks, heard, going_on, unrefused, accepted, end_for_scheduler, idle, ends_of, some_end_above, rules}
 use Rattle.mv_plan.proofs.Words.{ends_awaited, hand_over, AreDistinct, arm_all, settle_all, enough, wait_unrefused, Program, length-map}
-use Rattle.mv_plan.proofs.Words.{ElementReply, on_element, finished, nat_le, cond, complete_count}
+use Rattle.mv_plan.proofs.Words.{ElementReply, on_element, finished, nat_le, cond, complete_count, WaitSlot}
 use Rattle.mv_plan.proofs.deck.{IsPlannedJob, ArePlannedJobs, Facts}
 use Rattle.mv_plan.proofs.points.Points.{Point, At, WaitAt, Arming, Settling, Stage, Dispatching, Dismissing, Awaited, ForEntry, ForEnds}
 use Rattle.mv_plan.proofs.points.Points.{ForIdle, ToDismiss, SchedulerAt, Waits, Extends, Clears, Releases, awaited_blocks, scheduler_asks}
@@ -107,10 +107,10 @@ SchedulerStands deck initiators kept p = IsSchedulerAt deck initiators p × Sche
 -- ---- each point's next stands
 
 module _ (deck : List JobData) (initiators : ℕ) (kept : Kept) where
-  lowest_stands : (f : ℕ → ℕ → Point SchedulerAt) (p bound : ℕ) (found : List (Option ℕ)) → p + length found ≤ bound
+  lowest_stands : (f : ℕ → ℕ → Point SchedulerAt) (p bound : ℕ) (found : List WaitSlot) → p + length found ≤ bound
       → ((i code : ℕ) → i < bound → SchedulerStands deck initiators kept (f i code))
       → SchedulerStands deck initiators kept (lowest_at f p found)
-  lowest_stands f p bound (None ∷ found) le each = lowest_stands f (p + 1) bound found (omega arith) each
+  lowest_stands f p bound (WaitSlot.Open ∷ found) le each = lowest_stands f (p + 1) bound found (omega arith) each
   lowest_stands f p bound found le each = grind (arith, common_steps)
 
   ends_stands : (j : ℕ) (name : List ℕ) (after : List After) (steps : List Step) (jobs : List JobData)
@@ -118,13 +118,13 @@ module _ (deck : List JobData) (initiators : ℕ) (kept : Kept) where
       → SchedulerStands deck initiators kept (ends_at (length deck) j (record { name = name; after = after; steps = steps }) jobs)
   ends_stands j name x steps jobs r k = grind (arith, common_steps)
 
-  found_stands : (a : Awaited) (found : List (Option ℕ)) → IsAwaited deck initiators a
+  found_stands : (a : Awaited) (found : List WaitSlot) → IsAwaited deck initiators a
       → SchedulerKept (length deck) (awaited_extended (length deck) a) kept
       → length found ≤ length (awaited_blocks (length deck) initiators a)
       → SchedulerStands deck initiators kept (found_at (length deck) a found)
   found_stands a found r k le = grind (arith, common_steps, lowest_stands, ends_stands, length-map-range_with_len, one_later)
 
-  settling_stands : (a : Awaited) (past es : List ℕ) (found : List (Option ℕ)) → IsAwaited deck initiators a
+  settling_stands : (a : Awaited) (past es : List ℕ) (found : List WaitSlot) → IsAwaited deck initiators a
       → SchedulerKept (length deck) (awaited_extended (length deck) a) kept
       → past ++ es ≡ awaited_blocks (length deck) initiators a → length past ≡ length found
       → SchedulerStands deck initiators kept (settling_from (length deck) a es found)
@@ -256,7 +256,7 @@ module _ (c : Setup) (deck : List JobData) (initiators : ℕ) (facts : Facts c (
   stage_enters x kept r k = grind (arith, common_steps)
 
   -- what was found is enough
-  found_enters : (a : Awaited) (kept : Kept) (found : List (Option ℕ)) → IsAwaited deck initiators a
+  found_enters : (a : Awaited) (kept : Kept) (found : List WaitSlot) → IsAwaited deck initiators a
       → SchedulerKept n (awaited_extended n a) kept → length found ≤ length (blocks a)
       → stage (awaited_stage a) kept (awaited_then c n initiators a found kept) ≡ program kept (found_at n a found)
   found_enters (ForEntry j job jobs) kept found r k le =
@@ -273,7 +273,7 @@ module _ (c : Setup) (deck : List JobData) (initiators : ℕ) (facts : Facts c (
       (λ p g. At (Clears i g 0 (Dismissing (i + 1) more))) kept 0 (length found) found (omega arith)
       (λ p g lt. clear_enters i g 0 n (Dismissing (i + 1) more) kept (omega arith) k) refl
 
-  settle_enters : (a : Awaited) (kept : Kept) (es : List ℕ) (found : List (Option ℕ)) → IsAwaited deck initiators a
+  settle_enters : (a : Awaited) (kept : Kept) (es : List ℕ) (found : List WaitSlot) → IsAwaited deck initiators a
       → SchedulerKept n (awaited_extended n a) kept → length found + length es ≤ length (blocks a)
       → stage (awaited_stage a) kept
       (going_on kept (settle_all es found (enough (awaited_count a))) (unrefused (awaited_then c n initiators a)))
@@ -311,7 +311,7 @@ module _ (c : Setup) (deck : List JobData) (initiators : ℕ) (facts : Facts c (
         now : Kept
         now = kept_by kept (Waits a (Settling e todo found)) h.entry.reply
 
-        room : (slot : Option ℕ) → length (found ++ slot ∷ []) + length todo ≤ length (blocks a)
+        room : (slot : WaitSlot) → length (found ++ slot ∷ []) + length todo ≤ length (blocks a)
         room slot = grind (arith, common_steps)
   scheduler_hears kept (Releases i g code after) h s = goes h.entry.reply where
     goes : (r : Reply) → stage after (kept_by kept (Releases i g code after) r)
@@ -347,7 +347,7 @@ module _ (n initiators : ℕ) (P : Point SchedulerAt → Type 0) where
       → P (ends_at n j (record { name = name; after = after; steps = steps }) jobs)
   ends_next j name x steps jobs w e = grind (arith, common_steps)
 
-  found_next : (a : Awaited) (v : WaitAt) (found : List (Option ℕ)) → P Astray → AllNext (Waits a v) → P (found_at n a found)
+  found_next : (a : Awaited) (v : WaitAt) (found : List WaitSlot) → P Astray → AllNext (Waits a v) → P (found_at n a found)
   found_next (ForEntry j job jobs) v found lost all =
       lowest_keeps P (λ p code. ends_at n j job jobs) 0 found (λ p code. ends_next j job.name job.after job.steps jobs all.1 all.2) lost
   found_next (ForEnds j job jobs) v found lost all = all.1 (some_end_above job.after found)
@@ -359,7 +359,7 @@ module _ (n initiators : ℕ) (P : Point SchedulerAt → Type 0) where
   wait_next : (a : Awaited) (v w : WaitAt) → AllNext (Waits a v) → P (At (Waits a w))
   wait_next a v w all = grind (arith, common_steps)
 
-  settling_next : (a : Awaited) (v : WaitAt) (es : List ℕ) (found : List (Option ℕ)) → P Astray → P TooSoon → AllNext (Waits a v)
+  settling_next : (a : Awaited) (v : WaitAt) (es : List ℕ) (found : List WaitSlot) → P Astray → P TooSoon → AllNext (Waits a v)
       → P (settling_from n a es found)
   settling_next a v [] found lost early all =
       elim (nat_le (awaited_count a) (complete_count found)) as (λ b. P (cond b (found_at n a found) TooSoon)) [

@@ -1,10 +1,11 @@
 -- No reply leads the reader, the scheduler or the writer astray, nor an initiator in its rounds: one that is named a job that it was
 -- not named before has a round left for it.
 use Rattle.mv_plan.proofs.Words.{◌≡◌, ℕ, ◌<◌, ◌≤◌, ◌==◌, Bool, false, List, [], ◌∷◌, length, Some, arith, AllByRecursion, list_any, code_of}
-use Rattle.mv_plan.proofs.Words.{job_named, not_to_run, AreDistinct, common_steps, zero, suc, ◌+◌, true, IsTrue, if◌then◌else◌, ◌++◌, None}
+use Rattle.mv_plan.proofs.Words.{job_named, not_to_run, AreDistinct, common_steps, zero, suc, ◌+◌, true, IsTrue, if◌then◌else◌, ◌++◌}
 use Rattle.mv_plan.proofs.Words.{Option, ◌⊎◌, inl, inr, refl, sym, ap, ◌∙◌, subst, eq-eqb, leb-true, ecb_step, EcbState, Extended, Reply}
 use Rattle.mv_plan.proofs.Words.{ElementState, element_step, Setup, owner_of, System, admitted, reply_to, JobData, After, Step, job_at}
 use Rattle.mv_plan.proofs.Words.{reader, scheduler, initiator, writer, end_for_writer, complete_count, done, EcbOp, EcbReply, ElementOp}
+use Rattle.mv_plan.proofs.Words.{WaitSlot}
 use Rattle.mv_calls.proofs.Distinct.{few, none_found}
 use Rattle.mv_ecb.specs.Word.{Waiting}
 use Rattle.mv_plan.proofs.deck.{ArePlannedJobs, Facts}
@@ -43,16 +44,16 @@ arm_foreseen : {X : Type 0} (p : Point X) (v : EcbState) (r : Reply) → r ≡ R
     → ((y : ℕ) → v ≡ Extended y → ⊥) → IsForeseen p → IsForeseen (on_armed p r)
 arm_foreseen p x r e a b w = grind (arith, common_steps)
 
-settle_foreseen : {X : Type 0} (f : Option ℕ → Point X) (v : EcbState) (r : Reply) → r ≡ Reply.Ecb (ecb_step EcbOp.Settle v).1
-    → ((y : ℕ) → v ≡ Extended y → ⊥) → ((slot : Option ℕ) → IsForeseen (f slot)) → IsForeseen (on_settled f r)
+settle_foreseen : {X : Type 0} (f : WaitSlot → Point X) (v : EcbState) (r : Reply) → r ≡ Reply.Ecb (ecb_step EcbOp.Settle v).1
+    → ((y : ℕ) → v ≡ Extended y → ⊥) → ((slot : WaitSlot) → IsForeseen (f slot)) → IsForeseen (on_settled f r)
 settle_foreseen f x r e b w = grind (arith, common_steps)
 
 -- where one is complete, the lowest is found
-lowest_foreseen : {X : Type 0} (f : ℕ → ℕ → Point X) → ((p code : ℕ) → IsForeseen (f p code)) → (k : ℕ) (found : List (Option ℕ))
+lowest_foreseen : {X : Type 0} (f : ℕ → ℕ → Point X) → ((p code : ℕ) → IsForeseen (f p code)) → (k : ℕ) (found : List WaitSlot)
     → 1 ≤ complete_count found → IsForeseen (lowest_at f k found)
 lowest_foreseen f w k [] le = absurd (omega arith)
-lowest_foreseen f w k (Some code ∷ found) le = w k code
-lowest_foreseen f w k (None ∷ found) le = lowest_foreseen f w (k + 1) found le
+lowest_foreseen f w k (WaitSlot.Complete code ∷ found) le = w k code
+lowest_foreseen f w k (WaitSlot.Open ∷ found) le = lowest_foreseen f w (k + 1) found le
 
 -- ---- the reader
 pub reader_foreseen : (s : System) (x : ReaderAt) (r : Reply) → Some r ≡ reply_to s reader (reader_asks x).0 (reader_asks x).1
@@ -66,13 +67,13 @@ module _ (n initiators : ℕ) where
       → IsForeseen (ends_at n j (record { name = name; after = after; steps = steps }) jobs)
   ends_foreseen j name x steps jobs = grind (arith, common_steps)
 
-  found_foreseen : (a : Awaited) (found : List (Option ℕ)) → awaited_count a ≤ complete_count found → IsForeseen (found_at n a found)
+  found_foreseen : (a : Awaited) (found : List WaitSlot) → awaited_count a ≤ complete_count found → IsForeseen (found_at n a found)
   found_foreseen (ForEntry j job jobs) found le = grind (arith, common_steps, lowest_foreseen, ends_foreseen)
   found_foreseen (ForEnds j job jobs) found le = tt
   found_foreseen (ForIdle j job jobs skipped) found le = grind (arith, common_steps, lowest_foreseen)
   found_foreseen (ToDismiss i more) found le = grind (arith, common_steps, lowest_foreseen)
 
-  settling_foreseen : (a : Awaited) (es : List ℕ) (found : List (Option ℕ)) → IsForeseen (settling_from n a es found)
+  settling_foreseen : (a : Awaited) (es : List ℕ) (found : List WaitSlot) → IsForeseen (settling_from n a es found)
   settling_foreseen a [] found = grind (arith, common_steps, TooSoon, found_foreseen, leb-true)
   settling_foreseen a (e ∷ es) found = tt
 
@@ -133,7 +134,7 @@ module _ (c : Setup) (deck : List JobData) (initiators : ℕ) (facts : Facts c (
   writing_foreseen : (j more : ℕ) (ends : List ℕ) → IsForeseen (writing_from n j more ends)
   writing_foreseen j x ends = grind (arith, common_steps)
 
-  end_foreseen : (j more : ℕ) (ends : List ℕ) (found : List (Option ℕ)) → IsForeseen (end_found n j more ends found)
+  end_foreseen : (j more : ℕ) (ends : List ℕ) (found : List WaitSlot) → IsForeseen (end_found n j more ends found)
   end_foreseen j more ends found = grind (arith, common_steps, TooSoon, lowest_foreseen, writing_foreseen, leb-true)
 
   writer_block : (j e : ℕ) → e ≡ end_for_writer n j → (y : ℕ) → (s.ecb e).state ≡ Extended y → ⊥

@@ -1,7 +1,7 @@
 -- In its wait for ends the scheduler has found each block complete that it settled, if no entry is an early settle.
-use Rattle.mv_plan.proofs.Words.{◌≡◌, ℕ, ◌+◌, ◌<◌, List, [], ◌∷◌, ◌++◌, length, Option, Some, None, refl, sym, ap, ◌∙◌, subst, arith}
+use Rattle.mv_plan.proofs.Words.{◌≡◌, ℕ, ◌+◌, ◌<◌, List, [], ◌∷◌, ◌++◌, length, refl, sym, ap, ◌∙◌, subst, arith}
 use Rattle.mv_plan.proofs.Words.{common_steps, AllByRecursion, length-append, complete_count, Entry, moved, Ecb, Reply, EcbReply}
-use Rattle.mv_plan.proofs.Words.{JobData, Step, After, end_for_scheduler, scheduler, code_of, ends_of}
+use Rattle.mv_plan.proofs.Words.{JobData, Step, After, end_for_scheduler, scheduler, code_of, ends_of, WaitSlot}
 use Rattle.mv_plan.proofs.deck.Planned.{ArePlannedJobs}
 use Rattle.mv_plan.proofs.points.Points.{Point, At, TooSoon, Arming, Settling, Stage, Dispatching, Dismissing, Awaited, ForEntry, ForEnds}
 use Rattle.mv_plan.proofs.points.Points.{ForIdle, ToDismiss, SchedulerAt, Waits, Clears, awaited_blocks, scheduler_asks}
@@ -16,7 +16,7 @@ use Rattle.mv_progress.specs.Progress.{IsNoEarlySettle}
 -- ---- what a wait for ends has found
 
 -- each end that was settled was complete
-abbrev pub FoundAll : Awaited → List (Option ℕ) → Type 0
+abbrev pub FoundAll : Awaited → List WaitSlot → Type 0
 FoundAll (ForEnds j job jobs) found = complete_count found ≡ length found
 FoundAll a found = Unit {0}
 
@@ -24,17 +24,18 @@ abbrev pub AllFound : Point SchedulerAt → Type 0
 AllFound (At (Waits a (Settling e todo found))) = FoundAll a found
 AllFound p = Unit {0}
 
-pub count_push : (found : List (Option ℕ)) (code : ℕ) → complete_count (found ++ Some code ∷ []) ≡ complete_count found + 1
+pub count_push : (found : List WaitSlot) (code : ℕ) → complete_count (found ++ WaitSlot.Complete code ∷ []) ≡ complete_count found + 1
 count_push [] code = omega arith
-count_push (Some x ∷ found) code = let ih = count_push found code in omega arith
-count_push (None ∷ found) code = count_push found code
+count_push (WaitSlot.Complete x ∷ found) code = let ih = count_push found code in omega arith
+count_push (WaitSlot.Open ∷ found) code = count_push found code
 
 found_none : (a : Awaited) → FoundAll a []
 found_none (ForEnds j job jobs) = refl
 found_none a = tt
 
-found_one : (a : Awaited) (found : List (Option ℕ)) (code : ℕ) → FoundAll a found → FoundAll a (found ++ Some code ∷ [])
-found_one (ForEnds j job jobs) found code w = count_push found code ∙ ap (λ m. m + 1) w ∙ sym (length-append found (Some code ∷ []))
+found_one : (a : Awaited) (found : List WaitSlot) (code : ℕ) → FoundAll a found → FoundAll a (found ++ WaitSlot.Complete code ∷ [])
+found_one (ForEnds j job jobs) found code w =
+    count_push found code ∙ ap (λ m. m + 1) w ∙ sym (length-append found (WaitSlot.Complete code ∷ []))
 found_one a found code w = tt
 
 -- the scheduler's settle of an end does not find it open
@@ -42,9 +43,9 @@ abbrev pub NoEarlySettleAt : SchedulerAt → Reply → Type 0
 NoEarlySettleAt (Waits (ForEnds j job jobs) (Settling e todo found)) (Reply.Ecb EcbReply.Open) = ⊥
 NoEarlySettleAt x r = Unit {0}
 
-found_open : (a : Awaited) (e : ℕ) (todo : List ℕ) (found : List (Option ℕ))
+found_open : (a : Awaited) (e : ℕ) (todo : List ℕ) (found : List WaitSlot)
     → NoEarlySettleAt (Waits a (Settling e todo found)) (Reply.Ecb EcbReply.Open)
-    → FoundAll a (found ++ None ∷ [])
+    → FoundAll a (found ++ WaitSlot.Open ∷ [])
 found_open (ForEnds j job jobs) e todo found w = absurd w
 found_open a e todo found w = tt
 
@@ -53,7 +54,7 @@ module _ (n initiators : ℕ) where
       → AllFound (ends_at n j (record { name = name; after = after; steps = steps }) jobs)
   ends_all j name x steps jobs = grind (arith, common_steps)
 
-  found_at_all : (a : Awaited) (found : List (Option ℕ)) → AllFound (found_at n a found)
+  found_at_all : (a : Awaited) (found : List WaitSlot) → AllFound (found_at n a found)
   found_at_all (ForEntry j job jobs) found =
       lowest_keeps AllFound (λ p code. ends_at n j job jobs) 0 found (λ p code. ends_all j job.name job.after job.steps jobs) tt
   found_at_all (ForEnds j job jobs) found = tt
@@ -61,7 +62,7 @@ module _ (n initiators : ℕ) where
       lowest_keeps AllFound (λ i g. At (Clears i g (code_of j skipped) (Dispatching (j + 1) jobs))) 0 found (λ i g. tt) tt
   found_at_all (ToDismiss i more) found = lowest_keeps AllFound (λ p g. At (Clears i g 0 (Dismissing (i + 1) more))) 0 found (λ p g. tt) tt
 
-  settling_all : (a : Awaited) (es : List ℕ) (found : List (Option ℕ)) → FoundAll a found → AllFound (settling_from n a es found)
+  settling_all : (a : Awaited) (es : List ℕ) (found : List WaitSlot) → FoundAll a found → AllFound (settling_from n a es found)
   settling_all a [] found w = grind (arith, common_steps, TooSoon, found_at_all)
   settling_all a (e ∷ es) found w = w
 
@@ -79,9 +80,9 @@ module _ (n initiators : ℕ) where
   pub found_goes : (x : SchedulerAt) (r : Reply) → NoEarlySettleAt x r → AllFound (At x) → AllFound (scheduler_goes n initiators x r)
   found_goes (Waits a (Arming e todo)) r p w = on_armed_keeps AllFound (arming_from n initiators a todo) r (arming_all a todo) tt
   found_goes (Waits a (Settling e todo found)) (Reply.Ecb (EcbReply.Complete code)) p w =
-      settling_all a todo (found ++ Some code ∷ []) (found_one a found code w)
+      settling_all a todo (found ++ WaitSlot.Complete code ∷ []) (found_one a found code w)
   found_goes (Waits a (Settling e todo found)) (Reply.Ecb EcbReply.Open) p w =
-      settling_all a todo (found ++ None ∷ []) (found_open a e todo found p)
+      settling_all a todo (found ++ WaitSlot.Open ∷ []) (found_open a e todo found p)
   found_goes x r p w = grind (arith, common_steps, first_all, stage_all)
 
 -- ---- a settle of the scheduler, if its entry is no early settle

@@ -1,9 +1,8 @@
 use Rattle.std.proofs.Common.{[], ◌∷◌, List, refl, ap, ◌∙◌, subst}
 use Rattle.std.proofs.lemmas.Result.{err_from_is_err_and}
 use Rattle.mv_calls.specs.Program.{Done}
-use Rattle.mv_wait.specs.Answers.{slots_of}
-use Rattle.mv_wait.specs.declared.waiting.WaitSlot.{WaitSlot}
-use Rattle.mv_wait.specs.declared.waiting.WaitSlot.TheVariants.{Complete}
+use Rattle.mv_calls.specs.declared.outcomes.WaitSlot.{WaitSlot}
+use Rattle.mv_calls.specs.declared.outcomes.WaitSlot.TheVariants.{Complete}
 use Rattle.mv_wait.proofs.OneBlock.{found_code, slot_is, waited_made}
 use Rattle.mv_work.specs.declared.need.Need.TheVariants as need
 use Rattle.mv_work.specs.Needs.{Slots, need_call}
@@ -24,7 +23,7 @@ returns-in-Complete-clause-turn g c e t does =
     let slots = slot_is c.poll.new.self.slots served.answer found.0 served.is found.1 in
     let code = found_code c.slots.result.now found.0 c.in-Complete.code (Complete 0) (c.slots.ensures ∙ slots) c.in-Complete.is in (
       tt,
-      subst (λ (xs : List WaitSlot). Ran (need_call config (need.Block e)) (Done (Slots (slots_of xs))) t u)
+      subst (λ (xs : List WaitSlot). Ran (need_call config (need.Block e)) (Done (Slots xs)) t u)
           (slots ∙ ap (λ n. Complete n ∷ []) code) (met _ served refl),
       served_few served,
     )

@@ -4,8 +4,7 @@ use Rattle.mv_calls.specs.Program.{Done}
 use Rattle.mv_work.specs.declared.need.Need.TheVariants as need
 use Rattle.mv_work.specs.Needs.{Slots, need_call}
 use Rattle.mv_work.specs.Ran.{Ran}
-use Rattle.mv_wait.specs.Answers.{slots_of}
-use Rattle.mv_wait.specs.declared.waiting.WaitSlot.{WaitSlot}
+use Rattle.mv_calls.specs.declared.outcomes.WaitSlot.{WaitSlot}
 use Rattle.mv_work.proofs.Meeting.{met}
 use Rattle.mv_work.proofs.Runs.{served_few}
 use Rattle.mv_polledspool.proofs.meeting.await_blocks.Goals as goal
@@ -32,7 +31,7 @@ returns-in-Ok-clause-turn g c b t does =
     let found = c.in-Ok.ensures.0 in
     let served = rw (call.0 ∙ does.0, es) at waited.served in (
       ap (λ (xs : List WaitSlot). length xs) found ∙ size,
-      subst (λ (xs : List WaitSlot). Ran (need_call config (need.Blocks b)) (Done (Slots (slots_of xs))) t u)
+      subst (λ (xs : List WaitSlot). Ran (need_call config (need.Blocks b)) (Done (Slots xs)) t u)
           (sym slots ∙ sym found) (met _ served refl),
       served_few served,
     )

@@ -1,13 +1,13 @@
 use Rattle.mv_attach.proofs.Always.{served_grown}
 use Rattle.mv_attach.proofs.Says.{always_clear, always_wait}
-use Rattle.mv_wait.specs.Prelude.{BoardFace, CallerFace, kept_of, Refusal, clear, wait, Setup, owner_of, IsServed}
+use Rattle.mv_wait.specs.Prelude.{BoardFace, CallerFace, kept_of, Refusal, WaitSlot, clear, wait, Setup, owner_of, IsServed}
 use Rattle.mv_guarded.proofs.Quiet.{clear_held, clear_is_quiet, no_exit_starts, wait_held, wait_is_quiet}
 use Rattle.mv_ordered.specs.Held.{held}
 use Rattle.mv_queue.proofs.Calls.{did_then, no_exits, still_did}
 use Rattle.mv_queue.proofs.Logs.{IsStill}
 use Rattle.mv_queue.specs.Queue.{Did, IsReady}
 use Rattle.mv_queue.specs.Setup.{queue_setup}
-use Rattle.std.proofs.Common.{List, Option, Result, [], ap, arith, length, subst, sym, ℕ, ◌+◌, ◌<◌, ◌∙◌, ◌∷◌, ◌≡◌}
+use Rattle.std.proofs.Common.{List, Result, [], ap, arith, length, subst, sym, ℕ, ◌+◌, ◌<◌, ◌∙◌, ◌∷◌, ◌≡◌}
 use Rattle.std.proofs.lemmas.List.FromFn.{get_or-range_with_len}
 use Rattle.mv_queue.proofs.queue.await_news.Goals as goal
 
@@ -16,7 +16,7 @@ own_block : (c : Setup) (k : ℕ) → (tries : ℕ) × (c ≡ queue_setup tries)
 own_block c k has lt =
     ap (λ (s : Setup). owner_of s k) has.1 ∙ get_or-range_with_len 0 4 k 0 lt ∙ (let e : 0 + k ≡ k = omega arith in e)
 
-wait_did : (b : BoardFace) (e : ℕ) (Is : Result (List (Option ℕ)) Refusal → Type 0) (t u : CallerFace)
+wait_did : (b : BoardFace) (e : ℕ) (Is : Result (List WaitSlot) Refusal → Type 0) (t u : CallerFace)
     → IsServed 2 (wait b.config 1 (e ∷ [])) Is t u → held t.log ≡ [] → IsReady b t → Did b 2 [] [] [] t u
 wait_did b e Is t u s bare =
     still_did b 2 (wait b.config 1 (e ∷ [])) Is [] t u s

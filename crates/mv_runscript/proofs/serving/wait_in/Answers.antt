@@ -1,6 +1,6 @@
-use Rattle.std.proofs.Common.{◌≡◌, length, map, ap, ◌∙◌}
+use Rattle.std.proofs.Common.{◌≡◌, length, ap, ◌∙◌}
 use Rattle.mv_script.specs.declared.answer.Answer.TheVariants as answer
-use Rattle.mv_script.specs.Answered.{done_or, slot_with}
+use Rattle.mv_script.specs.Answered.{done_or}
 use Rattle.mv_wait.specs.Answers.{wait_answer}
 use Rattle.mv_runscript.proofs.Served.{served_with}
 use Rattle.mv_runscript.proofs.serving.wait_in.Goals as goal
@@ -13,6 +13,6 @@ returns g c =
     let outcome = c.wait-outcome.result in
     let size : length out ≡ length slots.items = c.wait-outcome.auto.out ∙ ap length c.deref_mut.ensures.value in
     served_with
-    (c.waited.ensures ∙ ap (λ s. done_or (λ found. answer.Waited (map slot_with found)) (wait_answer outcome s))
+    (c.waited.ensures ∙ ap (λ s. done_or answer.Waited (wait_answer outcome s))
     (given_back slots.len out slots.items size slots.ok.0))
     c.wait-outcome.ensures.served

@@ -1,7 +1,6 @@
 use Rattle.std.proofs.Common.{◌≡◌, ℕ, ◌+◌, ◌≤◌, ◌++◌, [], Ok, map, length, take, drop, refl, sym, ap, ◌∙◌, subst, arith}
 use Rattle.mv_board.specs.declared.watch.Watch.TheVariants as watch
 use Rattle.mv_calls.specs.Program.{Wrong}
-use Rattle.mv_wait.specs.Answers.{slots_of}
 use Rattle.mv_wait.specs.Listed.{listed_count}
 use Rattle.mv_wait.specs.Waiting.{ArePlain, SettlesEnough}
 use Rattle.mv_wait.proofs.Parts.{plain_still, given_back}
@@ -88,7 +87,7 @@ returns-clause-turn g c = λ t0 w.
     let stage : c.self.inside.stage ≡ Begun = ap (λ (f : WaitFace). f.stage) c.self.view_is ∙ c.requires.stage in
     let before = subst (λ (f : WaitFace). IsWaiting s f.count f.ecbs t0 t) (sym c.self.view_is) w in
     let waiting = waiting_look s count es t0 t u before c.look_at.ensures.went in
-    let settled = subst (λ xs. SettlesEnough count xs (slots_of out) u v) c.deref-2.ensures.value c.end_wait.ensures.settled in
+    let settled = subst (λ xs. SettlesEnough count xs out u v) c.deref-2.ensures.value c.end_wait.ensures.settled in
     let found = c.self.inside.found in
     let slots = subst (λ st. HasSlots st found.items es) stage c.self.invariant.slots in
     let size : length out ≡ length found.items = c.end_wait.ensures.size ∙ ap length c.deref_mut.ensures.value in
@@ -106,7 +105,7 @@ returns-clause-turn g c = λ t0 w.
     }) (Ok tt) t0 v)
     (sym back)
     (record {
-      served = waiting_ends s count es (slots_of out) t0 u v waiting settled c.end_wait.ensures.rest;
+      served = waiting_ends s count es out t0 u v waiting settled c.end_wait.ensures.rest;
       causes = (before.accepted, settled.enough, size ∙ slots);
       stage = refl;
       keys = c.clear.ensures.items;

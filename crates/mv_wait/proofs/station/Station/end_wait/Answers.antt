@@ -9,7 +9,6 @@ use Rattle.mv_machine.proofs.Lists.{all_push}
 use Rattle.mv_calls.specs.Keeping.{kept_of}
 use Rattle.mv_calls.specs.Program.{Wrong}
 use Rattle.mv_calls.specs.Waits.{settle_all, complete_count, AreDistinct}
-use Rattle.mv_wait.specs.Answers.{slot_of, slots_of}
 use Rattle.mv_wait.specs.Listed.{listed_count}
 use Rattle.mv_wait.specs.Run.{Runs}
 use Rattle.mv_wait.specs.Waiting.{IsArmedFor, settle_reply, HasLowCode}
@@ -65,27 +64,27 @@ loop-i-preserved g c =
     let distinct : AreDistinct (e ∷ drop (i + 1) es) = subst AreDistinct parts (distinct_later i es c.requires.distinct) in
     let place = c.settle.ensures.settled.0 in
     let h = c.settle.ensures.settled.1 in
-    let more : slots_of (take (i + 1) (set out i s)) ≡ slots_of (take i out) ++ slot_of s ∷ [] = slots_more i out s (omega arith) in
+    let more : take (i + 1) (set out i s) ≡ take i out ++ s ∷ [] = slots_more i out s (omega arith) in
     let waits : IsArmedFor (e ∷ drop (i + 1) es) t.log = subst (λ ns. IsArmedFor ns t.log) parts since.waits in
-    let enough : c.args.count ≤ complete_count (slots_of (take i out)) + listed_count t.ready (e ∷ drop (i + 1) es) =
-    subst (λ ns. c.args.count ≤ complete_count (slots_of (take i out)) + listed_count t.ready ns) parts since.enough in record {
+    let enough : c.args.count ≤ complete_count (take i out) + listed_count t.ready (e ∷ drop (i + 1) es) =
+    subst (λ ns. c.args.count ≤ complete_count (take i out) + listed_count t.ready ns) parts since.enough in record {
       runs = λ found f.
-          runs_then i 1 (settle_all es found f) (settle_all (drop i es) (found ++ slots_of (take i out)) f)
-          (settle_all (drop (i + 1) es) (found ++ slots_of (take (i + 1) (set out i s))) f)
+          runs_then i 1 (settle_all es found f) (settle_all (drop i es) (found ++ take i out) f)
+          (settle_all (drop (i + 1) es) (found ++ take (i + 1) (set out i s)) f)
           c.args.task.now t u (since.runs found f)
-          (subst (λ ns. Runs 1 (settle_all ns (found ++ slots_of (take i out)) f)
-          (settle_all (drop (i + 1) es) (found ++ slots_of (take (i + 1) (set out i s))) f) t u) (sym parts)
-          (subst (λ xs. Runs 1 (settle_all (e ∷ drop (i + 1) es) (found ++ slots_of (take i out)) f) (settle_all (drop (i + 1) es) xs f)
+          (subst (λ ns. Runs 1 (settle_all ns (found ++ take i out) f)
+          (settle_all (drop (i + 1) es) (found ++ take (i + 1) (set out i s)) f) t u) (sym parts)
+          (subst (λ xs. Runs 1 (settle_all (e ∷ drop (i + 1) es) (found ++ take i out) f) (settle_all (drop (i + 1) es) xs f)
           t u)
-          (append_assoc found (slots_of (take i out)) (slot_of s ∷ []) ∙ ap (λ xs. found ++ xs) (sym more))
-          (settle_step t u e s (drop (i + 1) es) (found ++ slots_of (take i out)) f c.settle.ensures.settled)));
+          (append_assoc found (take i out) (s ∷ []) ∙ ap (λ xs. found ++ xs) (sym more))
+          (settle_step t u e s (drop (i + 1) es) (found ++ take i out) f c.settle.ensures.settled)));
       waits = subst (IsArmedFor (drop (i + 1) es)) (sym h.logged)
           (settled_less (drop (i + 1) es) t.log t.number e place (reply_of.Ecb (settle_reply s)) distinct.0 waits);
       plain = event_keeps t u e place Settle (reply_of.Ecb (settle_reply s)) es h (λ q. refl) since.plain;
       enough = subst (λ xs. c.args.count ≤ complete_count xs + listed_count u.ready (drop (i + 1) es)) (sym more)
-          (subst (λ ws. c.args.count ≤ complete_count (slots_of (take i out) ++ slot_of s ∷ []) + listed_count ws (drop (i + 1) es))
+          (subst (λ ws. c.args.count ≤ complete_count (take i out ++ s ∷ []) + listed_count ws (drop (i + 1) es))
           (sym h.ready)
-          (enough_still c.args.count i e (drop (i + 1) es) t.ready (slots_of (take i out)) s distinct.0 c.settle.ensures.complete enough));
+          (enough_still c.args.count i e (drop (i + 1) es) t.ready (take i out) s distinct.0 c.settle.ensures.complete enough));
       size = length-set out i s ∙ size;
       codes = subst (AllByRecursion HasLowCode) (sym (take_more_set out i s (omega arith)))
           (all_push HasLowCode (take i out) s since.codes c.settle.ensures.code);
@@ -103,13 +102,13 @@ returns g c =
     let all : take i out ≡ out = take_all i out (omega arith) in record {
       settled = record {
         settles = λ found f.
-            runs_within i (length es) (settle_all es found f) (f (found ++ slots_of out)) c.args.task.now c.loop-i.task (omega arith)
-            (subst (λ xs. Runs i (settle_all es found f) (f (found ++ slots_of xs)) c.args.task.now c.loop-i.task) all
-            (subst (λ ns. Runs i (settle_all es found f) (settle_all ns (found ++ slots_of (take i out)) f) c.args.task.now c.loop-i.task)
+            runs_within i (length es) (settle_all es found f) (f (found ++ out)) c.args.task.now c.loop-i.task (omega arith)
+            (subst (λ xs. Runs i (settle_all es found f) (f (found ++ xs)) c.args.task.now c.loop-i.task) all
+            (subst (λ ns. Runs i (settle_all es found f) (settle_all ns (found ++ take i out) f) c.args.task.now c.loop-i.task)
             none (since.runs found f)));
-        enough = subst (λ xs. c.args.count ≤ complete_count (slots_of xs)) all
-            (let e : c.args.count ≤ complete_count (slots_of (take i out)) + listed_count c.loop-i.task.ready [] =
-            subst (λ ns. c.args.count ≤ complete_count (slots_of (take i out)) + listed_count c.loop-i.task.ready ns) none
+        enough = subst (λ xs. c.args.count ≤ complete_count xs) all
+            (let e : c.args.count ≤ complete_count (take i out) + listed_count c.loop-i.task.ready [] =
+            subst (λ ns. c.args.count ≤ complete_count (take i out) + listed_count c.loop-i.task.ready ns) none
             since.enough in omega arith);
       };
       rest = none_is_rest c.loop-i.task.log (subst (λ ns. IsArmedFor ns c.loop-i.task.log) none since.waits);

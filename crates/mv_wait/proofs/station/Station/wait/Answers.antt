@@ -2,7 +2,7 @@ use Rattle.std.proofs.Common.{◌≡◌, ◌*◌, [], length, Err, refl, sym, ap
 use Rattle.mv_board.specs.Faces.{CallerFace}
 use Rattle.mv_calls.specs.Program.{Wrong}
 use Rattle.mv_calls.specs.Waits.{wait}
-use Rattle.mv_wait.specs.Answers.{wait_refused, slots_of}
+use Rattle.mv_wait.specs.Answers.{wait_refused}
 use Rattle.mv_wait.specs.Run.{Went, IsServed}
 use Rattle.mv_wait.specs.Task.{blocks_in}
 use Rattle.mv_wait.specs.Waiting.{IsArmedFor, ArePlain, AreOwn}
@@ -110,6 +110,6 @@ returns-clause-served g c =
     let es = c.args.ecbs.now in
     let s = c.args.self.now.config in
     let armed = c.in_default.ensures.armed in
-    wait_served s c.args.count es (slots_of c.end_wait.new.out) t u v w armed.accepted c.requires.task.rest armed.arms
+    wait_served s c.args.count es c.end_wait.new.out t u v w armed.accepted c.requires.task.rest armed.arms
     (subst (λ (d : CallerFace). Went [] d v) c.task.view_is c.await_complete.ensures.went) c.end_wait.ensures.settled
     c.end_wait.ensures.rest

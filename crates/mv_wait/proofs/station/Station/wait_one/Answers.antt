@@ -1,11 +1,10 @@
 use Rattle.std.proofs.Common.{◌≡◌, ◌<◌, List, [], ◌∷◌, length, Ok, sym, ap, ◌∙◌, subst, arith}
 use Rattle.mv_calls.specs.Waits.{wait}
-use Rattle.mv_wait.specs.Answers.{slots_of}
 use Rattle.mv_wait.specs.OneBlock.{WaitedFor}
 use Rattle.mv_wait.specs.Run.{IsServed}
 use Rattle.mv_wait.specs.Waiting.{HasLowCode}
-use Rattle.mv_wait.specs.declared.waiting.WaitSlot.{WaitSlot}
-use Rattle.mv_wait.specs.declared.waiting.WaitSlot.TheVariants.{Complete}
+use Rattle.mv_calls.specs.declared.outcomes.WaitSlot.{WaitSlot}
+use Rattle.mv_calls.specs.declared.outcomes.WaitSlot.TheVariants.{Complete}
 use Rattle.mv_wait.proofs.Parts.{one_of}
 use Rattle.mv_wait.proofs.OneBlock.{not_refused, waited_made, slot_is, found_open, found_code}
 use Rattle.mv_wait.proofs.station.Station.wait_one.Goals as goal
@@ -33,7 +32,7 @@ returns g c =
     let found = waited_made config ecb _ t u served c.in-Ok.ensures.causes in
     let slots = slot_is out served.answer found.0 served.is found.1 in
     let code = found_code out found.0 c.in-Complete.code (Complete 0) slots c.in-Complete.is in record {
-      served = subst (λ (found : List WaitSlot). IsServed 2 (wait config 1 (ecb ∷ [])) (λ a. a ≡ Ok (slots_of found)) t u)
+      served = subst (λ (found : List WaitSlot). IsServed 2 (wait config 1 (ecb ∷ [])) (λ a. a ≡ Ok found) t u)
           (slots ∙ ap (λ n. Complete n ∷ []) code) served;
       waited = subst (λ n. WaitedFor ecb n t u) code found.2;
       code = subst HasLowCode c.in-Complete.is (one_of HasLowCode out 0 (Complete 0) c.in-Ok.ensures.codes
