@@ -64,7 +64,7 @@ module _ (c : Setup) (pairs : List Pair) (es : List Entry) (legal : Legal c es)
   whole_now front later is j h =
       elim (whole_at pairs [] (of 0 front) (of 0 later) (subst (StaysWhole pairs []) (ap (of 0) is ∙ of-append 0 front later) whole)) [
         | inl alone ↦
-            let one = one_holder c 0 j h.request alone.request front (legal_front front later is)
+            let one = one_holder c 0 j alone.request h.request front (legal_front front later is)
             (grants c es front later 0 0 0 alone.request (guarding 0) is alone.granted)
             (grants c es front later 0 0 j h.request (guarding 0) is h.granted)
             (alone.here ∙ sym h.here) alone.mode in

@@ -187,10 +187,10 @@ both c j k t u es l h here alone in_list mine =
     let one : u.request ≡ t.request = exclusive_only (list_at (after c es) t.latch) u.request t.request alone there in_list in
     (sym (stands_below c j es u l h.granted.stands).1 ∙ (ap (λ (q : Request). q.caller) one ∙ mine), one)
 
-pub one_holder : (c : Setup) (j k : ℕ) (t u : StandingRequest) (es : List Entry) → Legal c es → IsHolder j u es → IsHolder k t es
-    → u.latch ≡ t.latch → u.request.mode ≡ Exclusive → (j ≡ k) × (u.request ≡ t.request)
+pub one_holder : (c : Setup) (j k : ℕ) (t u : StandingRequest) (es : List Entry) → Legal c es → IsHolder j t es → IsHolder k u es
+    → t.latch ≡ u.latch → t.request.mode ≡ Exclusive → (j ≡ k) × (t.request ≡ u.request)
 one_holder c j k t u es l h g here alone =
-    both c j k t u es l h here alone (holder_in c k t es l g) (stands_below c k es t l g.granted.stands).1
+    both c j k u t es l h here alone (holder_in c k u es l g) (stands_below c k es u l g.granted.stands).1
 
 -- what no other caller's entry takes out was not purged
 pub not_purged : (k : ℕ) (t : StandingRequest) (es : List Entry)

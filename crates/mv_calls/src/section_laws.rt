@@ -14,8 +14,8 @@ ghost use Rattle.mv_calls.specs.Sections.{IsHolder, IsSection, IsGuarded, AreOwn
 pub fn holders_exclude()
     ensures holds { (c : Setup) (k : ℕ) (t : StandingRequest) (before inside : List Entry) → Legal c (before ++ inside)
         → IsSection k t before inside → IsGranted k t.latch t.request.id (after c (before ++ inside)) }
-    ensures one { (c : Setup) (j k : ℕ) (t u : StandingRequest) (es : List Entry) → Legal c es → IsHolder j u es → IsHolder k t es
-        → u.latch ≡ t.latch → u.request.mode ≡ Exclusive → (j ≡ k) × (u.request ≡ t.request) }
+    ensures one { (c : Setup) (j k : ℕ) (t u : StandingRequest) (es : List Entry) → Legal c es → IsHolder j t es → IsHolder k u es
+        → t.latch ≡ u.latch → t.request.mode ≡ Exclusive → (j ≡ k) × (t.request ≡ u.request) }
     ensures alone { (c : Setup) (k : ℕ) (t : StandingRequest) (before inside : List Entry) (e : Entry) (id : ℕ)
         → Legal c (before ++ inside ++ e ∷ []) → IsSection k t before inside → t.request.mode ≡ Exclusive → e.caller ≢ k
         → tells_grant t.latch id e.op e.reply ≡ false }

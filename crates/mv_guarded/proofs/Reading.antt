@@ -185,6 +185,6 @@ value_read c es before later latch n k x g is r = value_is_read c es latch n g b
 pub same_holder : (c : Setup) (es before later : List Entry) (latch n j k : ℕ) (asked : Mode) → GuardsVolume c es latch n
     → es ≡ before ++ later → HoldsLatch latch Exclusive j (of j before) → HoldsLatch latch asked k (of k before) → j ≡ k
 same_holder c es before later latch n j k asked g is alone h =
-    (one_holder c j k h.request alone.request before (legal_front c es latch n g before later is)
+    (one_holder c j k alone.request h.request before (legal_front c es latch n g before later is)
     (grants c es before later latch n j alone.request g is alone.granted) (grants c es before later latch n k h.request g is h.granted)
     (alone.here ∙ sym h.here) alone.mode).0

@@ -15,48 +15,48 @@ use Rattle.mv_board.specs.declared.watch.Watch.{Watch}
 use Rattle.mv_board.specs.declared.watch.Watch.TheVariants as watch
 use Rattle.mv_board.specs.Faces.{CallerFace, PeekedAt, with_watch}
 use Rattle.mv_calls.specs.Waits.{AreDistinct}
-use Rattle.mv_wait.specs.Listed.{is_listed, listed_count}
+use Rattle.mv_wait.specs.Ready.{has_ready, ready_count}
 use Rattle.mv_wait.specs.Run.{Went}
-use Rattle.mv_wait.proofs.Waits.{listed_contains, listed_new}
+use Rattle.mv_wait.proofs.Waits.{ready_contains, ready_new}
 use Rattle.mv_polled.specs.Found.{IsFoundNotReady}
 use Rattle.mv_polled.specs.Waiting.{unready, AreFoundOpen}
 
--- ---- what is listed behind a look
+-- ---- what is ready after a look
 
-listed_end : (ws : List Watch) (e x : ℕ) → (e ≡ x → ⊥) → is_listed (ws ++ watch.Ecb e ∷ []) x ≡ is_listed ws x
-listed_end [] e x differ = rw (ne_eqb e x differ) refl
-listed_end (watch.Ecb m ∷ ws) e x differ = ap (λ b. (m == x) || b) (listed_end ws e x differ)
-listed_end (watch.Element m ∷ ws) e x differ = listed_end ws e x differ
-listed_end (watch.Latch latch id ∷ ws) e x differ = listed_end ws e x differ
+ready_end : (ws : List Watch) (e x : ℕ) → (e ≡ x → ⊥) → has_ready (ws ++ watch.Ecb e ∷ []) x ≡ has_ready ws x
+ready_end [] e x differ = rw (ne_eqb e x differ) refl
+ready_end (watch.Ecb m ∷ ws) e x differ = ap (λ b. (m == x) || b) (ready_end ws e x differ)
+ready_end (watch.Element m ∷ ws) e x differ = ready_end ws e x differ
+ready_end (watch.Latch latch id ∷ ws) e x differ = ready_end ws e x differ
 
--- another block is listed as before
-pub other_look : (ws : List Watch) (e x : ℕ) (is : Bool) → (x ≡ e → ⊥) → is_listed (with_watch is (watch.Ecb e) ws) x ≡ is_listed ws x
-other_look ws e x true differ = listed_end ws e x (λ q. differ (sym q))
+-- another block is ready as before
+pub other_look : (ws : List Watch) (e x : ℕ) (is : Bool) → (x ≡ e → ⊥) → has_ready (with_watch is (watch.Ecb e) ws) x ≡ has_ready ws x
+other_look ws e x true differ = ready_end ws e x (λ q. differ (sym q))
 other_look ws e x false differ = refl
 
-not_listed : (ws : List Watch) (e : ℕ) (b : Bool) → is_listed ws e ≡ b → (Contains ws (watch.Ecb e) → ◌≡◌ {A = Bool} false true)
-    → is_listed ws e ≡ false
-not_listed ws e true is stays = absurd (false≢true (stays (listed_contains ws e is)))
-not_listed ws e false is stays = is
+not_ready : (ws : List Watch) (e : ℕ) (b : Bool) → has_ready ws e ≡ b → (Contains ws (watch.Ecb e) → ◌≡◌ {A = Bool} false true)
+    → has_ready ws e ≡ false
+not_ready ws e true is stays = absurd (false≢true (stays (ready_contains ws e is)))
+not_ready ws e false is stays = is
 
--- the block itself is listed exactly where it was seen ready
+-- the block itself is ready exactly if the look says so
 pub own_look : (ws : List Watch) (e : ℕ) (is : Bool) → (Contains ws (watch.Ecb e) → is ≡ true)
-    → is_listed (with_watch is (watch.Ecb e) ws) e ≡ is
-own_look ws e true stays = listed_new ws e
-own_look ws e false stays = not_listed ws e (is_listed ws e) refl stays
+    → has_ready (with_watch is (watch.Ecb e) ws) e ≡ is
+own_look ws e true stays = ready_new ws e
+own_look ws e false stays = not_ready ws e (has_ready ws e) refl stays
 
 -- a look takes nothing off the list
-pub listed_stays : (ws : List Watch) (e x : ℕ) (is : Bool) → is_listed ws x ≡ true → is_listed (with_watch is (watch.Ecb e) ws) x ≡ true
-listed_stays ws e x true l = go ws l where
-  go : (ws : List Watch) → is_listed ws x ≡ true → is_listed (ws ++ watch.Ecb e ∷ []) x ≡ true
+pub ready_stays : (ws : List Watch) (e x : ℕ) (is : Bool) → has_ready ws x ≡ true → has_ready (with_watch is (watch.Ecb e) ws) x ≡ true
+ready_stays ws e x true l = go ws l where
+  go : (ws : List Watch) → has_ready ws x ≡ true → has_ready (ws ++ watch.Ecb e ∷ []) x ≡ true
   go [] l = absurd (false≢true l)
-  go (watch.Ecb m ∷ ws) l = step (m == x) (is_listed ws x) (is_listed (ws ++ watch.Ecb e ∷ []) x) l (go ws) where
+  go (watch.Ecb m ∷ ws) l = step (m == x) (has_ready ws x) (has_ready (ws ++ watch.Ecb e ∷ []) x) l (go ws) where
     step : (a b c : Bool) → (a || b) ≡ true → (b ≡ true → c ≡ true) → (a || c) ≡ true
     step true b c h f = refl
     step false b c h f = f h
   go (watch.Element m ∷ ws) l = go ws l
   go (watch.Latch latch id ∷ ws) l = go ws l
-listed_stays ws e x false l = l
+ready_stays ws e x false l = l
 
 -- ---- the blocks that are not ready
 
@@ -67,7 +67,7 @@ unready_same ws e is [] differ = refl
 unready_same ws e is (x ∷ es) differ =
     ap (λ b. cond (not b) (x ∷ unready (with_watch is (watch.Ecb e) ws) es) (unready (with_watch is (watch.Ecb e) ws) es))
     (other_look ws e x is differ.0)
-    ∙ ap (λ xs. cond (not (is_listed ws x)) (x ∷ xs) xs) (unready_same ws e is es differ.1)
+    ∙ ap (λ xs. cond (not (has_ready ws x)) (x ∷ xs) xs) (unready_same ws e is es differ.1)
 
 -- and one at a block behind them adds it, where it is not ready
 pub unready_more : (ws : List Watch) (e : ℕ) (is : Bool) (es : List ℕ) → AllByRecursion (λ m. m ≡ e → ⊥) es
@@ -75,13 +75,13 @@ pub unready_more : (ws : List Watch) (e : ℕ) (is : Bool) (es : List ℕ) → A
     → unready (with_watch is (watch.Ecb e) ws) (es ++ e ∷ []) ≡ unready ws es ++ cond (not is) (e ∷ []) []
 unready_more ws e is es differ stays =
     let ready = with_watch is (watch.Ecb e) ws in
-    filter-append (λ x. not (is_listed ready x)) es (e ∷ [])
-    ∙ (ap (λ xs. xs ++ cond (not (is_listed ready e)) (e ∷ []) []) (unready_same ws e is es differ)
+    filter-append (λ x. not (has_ready ready x)) es (e ∷ [])
+    ∙ (ap (λ xs. xs ++ cond (not (has_ready ready e)) (e ∷ []) []) (unready_same ws e is es differ)
     ∙ ap (λ b. unready ws es ++ cond (not b) (e ∷ []) []) (own_look ws e is stays))
 
--- the others of a list are listed
-pub listed_others : (ws : List Watch) (es : List ℕ) → listed_count ws es + length (unready ws es) ≡ length es
-listed_others ws es = length-filter_both (is_listed ws) (λ e. not (is_listed ws e)) (λ x. refl) es
+-- the others of a list are ready
+pub ready_others : (ws : List Watch) (es : List ℕ) → ready_count ws es + length (unready ws es) ≡ length es
+ready_others ws es = length-filter_both (has_ready ws) (λ e. not (has_ready ws e)) (λ x. refl) es
 
 -- ---- blocks that stand before one in a list without repeats
 
@@ -157,16 +157,16 @@ open_still : (es : List ℕ) (e : ℕ) (is : Bool) (t u v : CallerFace) → AllB
 open_still [] e is t u v differ p all = tt
 open_still (x ∷ es) e is t u v differ p all = (
   λ none. found_still (Ecb x) (record { object = Ecb e; word = p.word; after = length u.log }) t u v
-      (all.0 (sym (other_look u.ready e x is differ.0) ∙ (sym (ap (λ ws. is_listed ws x) p.ready) ∙ none)))
+      (all.0 (sym (other_look u.ready e x is differ.0) ∙ (sym (ap (λ ws. has_ready ws x) p.ready) ∙ none)))
       p.found.met (other_block e x differ.0),
   open_still es e is t u v differ.1 p all.1,
 )
 
 found_or_not : (e : ℕ) (is : Bool) (more : List Sight) (t u v : CallerFace) → u.met ≡ t.met ++ more
     → (Contains u.ready (watch.Ecb e) → is ≡ true) → PeekedAt u (Ecb e) (watch.Ecb e) is v
-    → is_listed v.ready e ≡ false → IsFoundNotReady (Ecb e) t v
+    → has_ready v.ready e ≡ false → IsFoundNotReady (Ecb e) t v
 found_or_not e true more t u v m stays p none =
-    absurd (false≢true (sym none ∙ (ap (λ ws. is_listed ws e) p.ready ∙ own_look u.ready e true stays)))
+    absurd (false≢true (sym none ∙ (ap (λ ws. has_ready ws e) p.ready ∙ own_look u.ready e true stays)))
 found_or_not e false more t u v m stays p none = found_since (Ecb e) more t u v m (found_now (Ecb e) (watch.Ecb e) u v p)
 
 -- one block more
@@ -174,7 +174,7 @@ pub open_more : (es : List ℕ) (e : ℕ) (is : Bool) (t u v : CallerFace) → A
     → Went [] t u → (Contains u.ready (watch.Ecb e) → is ≡ true) → PeekedAt u (Ecb e) (watch.Ecb e) is v → AreFoundOpen es t u
     → AreFoundOpen (es ++ e ∷ []) t v
 open_more es e is t u v differ went stays p all =
-    all_append (λ x. is_listed v.ready x ≡ false → IsFoundNotReady (Ecb x) t v) es (e ∷ [])
+    all_append (λ x. has_ready v.ready x ≡ false → IsFoundNotReady (Ecb x) t v) es (e ∷ [])
     (open_still es e is t u v differ p all)
     (found_or_not e is went.met.0 t u v went.met.1 stays p, tt)
 
@@ -195,10 +195,10 @@ pub few_more : (xs : List ℕ) (x n : ℕ) (is : Bool) → length xs ≤ n → l
 few_more xs x n true le = let e : length (xs ++ []) ≡ length xs = ap length (append-nil xs) in omega arith
 few_more xs x n false le = let e : length (xs ++ x ∷ []) ≡ length xs + 1 = length-append xs (x ∷ []) in omega arith
 
-pub length_keys : (k : ℕ → ℕ) (ws : List Watch) (es : List ℕ) → listed_count ws es + length (map k (unready ws es)) ≡ length es
+pub length_keys : (k : ℕ → ℕ) (ws : List Watch) (es : List ℕ) → ready_count ws es + length (map k (unready ws es)) ≡ length es
 length_keys k ws es =
     let e : length (map k (unready ws es)) ≡ length (unready ws es) = simp length-map in
-    let f = listed_others ws es in omega arith
+    let f = ready_others ws es in omega arith
 
 -- what was met since later lengthens what was met since earlier
 pub met_since : (more : List Sight) (t u v : CallerFace) → u.met ≡ t.met ++ more → (rest : List Sight) × (v.met ≡ u.met ++ rest)

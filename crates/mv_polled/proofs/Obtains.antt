@@ -30,7 +30,7 @@ pub left_obtaining : (c : Setup) (q : ObtainFace) (t0 t u : CallerFace) → IsOb
     → IsLeftObtaining c q t0 t u
 left_obtaining c q t0 t u obtaining begun look stays = record {
   obtaining = obtaining_look c q.latch q.requestor q.mode q.id t0 t obtaining u (went_peek t (watch.Latch q.latch q.id) false u look);
-  unready = λ listed. false≢true (stays (subst (λ ws. Contains ws (watch.Latch q.latch q.id)) look.ready listed));
+  unready = λ is. false≢true (stays (subst (λ ws. Contains ws (watch.Latch q.latch q.id)) look.ready is));
   found = record {
     before = [];
     lists = look.lists;

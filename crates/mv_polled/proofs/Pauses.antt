@@ -35,7 +35,7 @@ pub left_pausing : (c : Setup) (p : PauseFace) (t0 t u : CallerFace) → IsPausi
     → (Contains t.ready (watch.Element p.token.element) → ◌≡◌ false true) → IsLeftPausing c p t0 t u
 left_pausing c p t0 t u pausing begun look stays = record {
   pausing = pausing_look c p.token t0 t u pausing (went_look t (Element p.token.element) look.word u look.found);
-  unready = λ listed. false≢true (stays (subst (λ ws. Contains ws (watch.Element p.token.element)) look.ready listed));
+  unready = λ is. false≢true (stays (subst (λ ws. Contains ws (watch.Element p.token.element)) look.ready is));
   found = found_now (Element p.token.element) (watch.Element p.token.element) t u look;
   met = (_, look.found.met);
   stage = begun;

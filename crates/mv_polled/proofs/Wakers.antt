@@ -12,7 +12,7 @@ use Rattle.futures.specs.declared.task.source.Source.{Source}
 use Rattle.mv_board.specs.declared.watch.Watch.{Watch}
 use Rattle.mv_board.specs.declared.watch.Watch.TheVariants as watch
 use Rattle.mv_board.specs.Faces.{BoardFace, CallerFace}
-use Rattle.mv_wait.specs.Listed.{is_listed}
+use Rattle.mv_wait.specs.Ready.{has_ready}
 use Rattle.mv_polled.specs.Futures.{MayPollWait}
 use Rattle.mv_polled.specs.Keys.{key_of}
 use Rattle.mv_polled.specs.Waiting.{WaitFace}
@@ -23,21 +23,21 @@ use Rattle.mv_polled.proofs.Listening.{Stays, still_not, either}
 
 -- the wakers of the blocks before place i, and then one for the block there
 pub wakers_more : (i : ℕ) (ready later : List Watch) (es : List ℕ) (ws : List (Option Waker)) (slot : Option Waker) (old new : Context)
-    (is : Bool) → Stays ready later → Keeps old new → i < length ws → is ≡ is_listed later (get_or es i 0)
+    (is : Bool) → Stays ready later → Keeps old new → i < length ws → is ≡ has_ready later (get_or es i 0)
     → (is ≡ false → IsSome slot ⊎ HearsAll new) → HaveWakers i ready es ws old → HaveWakers (i + 1) later es (set ws i slot) new
 wakers_more i ready later es ws slot old new is stays keep lt own here before k below none =
     either (cases_eq k i)
-    (λ e. let there : is ≡ false = own ∙ (ap (λ n. is_listed later (get_or es n 0)) (sym e) ∙ none) in
+    (λ e. let there : is ≡ false = own ∙ (ap (λ n. has_ready later (get_or es n 0)) (sym e) ∙ none) in
     subst (λ w. IsSome w ⊎ HearsAll new) (sym (ap (λ n. get_or (set ws i slot) n None) e ∙ get_or-set_same ws i slot None lt)) (here there))
     (λ ne. subst (λ w. IsSome w ⊎ HearsAll new) (sym (get_or-set_other ws i k slot None ne))
-    (either (before k (omega arith) (still_not ready later (get_or es k 0) (is_listed ready (get_or es k 0)) stays refl none))
+    (either (before k (omega arith) (still_not ready later (get_or es k 0) (has_ready ready (get_or es k 0)) stays refl none))
     (λ some. inl some) (λ all. inr (λ s. keep (Lasting.hears s) (all s)))))
 
--- blocks that are listed later need none
+-- blocks that are ready later need none
 pub wakers_still : (n : ℕ) (ready later : List Watch) (es : List ℕ) (ws : List (Option Waker)) (cx : Context) → Stays ready later
     → HaveWakers n ready es ws cx → HaveWakers n later es ws cx
 wakers_still n ready later es ws cx stays have k below none =
-    have k below (still_not ready later (get_or es k 0) (is_listed ready (get_or es k 0)) stays refl none)
+    have k below (still_not ready later (get_or es k 0) (has_ready ready (get_or es k 0)) stays refl none)
 
 -- ---- ringing
 

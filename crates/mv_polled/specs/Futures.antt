@@ -8,7 +8,7 @@ use Rattle.mv_board.specs.declared.watch.Watch.{Watch}
 use Rattle.mv_board.specs.Faces.{BoardFace, CallerFace, IsOf}
 use Rattle.mv_calls.specs.declared.outcomes.Given.{Given}
 use Rattle.mv_pause.specs.declared.pausing.PauseRefusal.{PauseRefusal}
-use Rattle.mv_wait.specs.Listed.{is_listed}
+use Rattle.mv_wait.specs.Ready.{has_ready}
 use Rattle.mv_wait.specs.declared.waiting.WaitRefusal.{WaitRefusal}
 use Rattle.mv_polled.specs.Pausing.{PauseFace, IsPauseAt, IsPaused}
 use Rattle.mv_polled.specs.Waiting.{WaitFace, IsWaitAt, IsWaited}
@@ -24,9 +24,9 @@ pub record MayPollWait (b : BoardFace) (t : CallerFace) (w : WaitFace) (sources 
   pub stage : (t0 : CallerFace) × IsWaitAt b.config w t0 t
   pub each : length sources ≡ length w.ecbs
 
--- s is the source of a block whose watch is not listed
+-- s is the source of a block that is not ready
 abbrev pub NeedsBlock : List Watch → List ℕ → List Source → ℕ → Type 0
-NeedsBlock ready (e ∷ es) (x ∷ xs) s = ((is_listed ready e ≡ false) × (s ≡ x.id)) ⊎ NeedsBlock ready es xs s
+NeedsBlock ready (e ∷ es) (x ∷ xs) s = ((has_ready ready e ≡ false) × (s ≡ x.id)) ⊎ NeedsBlock ready es xs s
 NeedsBlock ready es xs s = ⊥
 
 -- An answer that the wait may have from its present stage: some continuation of it, which need not be this task's, ends with this

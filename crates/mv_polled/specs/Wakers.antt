@@ -5,7 +5,7 @@ use Rattle.futures.specs.declared.task.context.Context.{Context}
 use Rattle.futures.specs.declared.task.waker.Waker.{Waker}
 use Rattle.mv_board.specs.declared.watch.Watch.{Watch}
 use Rattle.mv_board.specs.declared.watch.Watch.TheVariants as watch
-use Rattle.mv_wait.specs.Listed.{is_listed}
+use Rattle.mv_wait.specs.Ready.{has_ready}
 use Rattle.mv_polled.specs.Keys.{key_of}
 
 -- a place for the waker of each block, all of them empty
@@ -16,11 +16,11 @@ no_wakers es = map (λ e. None) es
 abbrev pub HearsAll : Context → Type 0
 HearsAll cx = (s : ℕ) → Hears cx s
 
--- Each of the first n blocks whose watch is not listed has a waker at its place, or the poll has asked for another poll, as it
+-- Each of the first n blocks that is not ready has a waker at its place, or the poll has asked for another poll, as it
 -- does if there is no memory for a waker.
 abbrev pub HaveWakers : ℕ → List Watch → List ℕ → List (Option Waker) → Context → Type 0
 HaveWakers n ready es wakers cx =
-    (k : ℕ) → k < n → is_listed ready (get_or es k 0) ≡ false → IsSome (get_or wakers k None) ⊎ HearsAll cx
+    (k : ℕ) → k < n → has_ready ready (get_or es k 0) ≡ false → IsSome (get_or wakers k None) ⊎ HearsAll cx
 
 -- what a ring leaves of the waker for a key: nothing if that key is rung, otherwise the waker
 abbrev pub waker_left : ℕ → ℕ → Option Waker → Option Waker

@@ -3,12 +3,12 @@
 ghost use Rattle.std.specs.Prelude.{◌≡◌, ℕ, false, ◌<◌, ◌≤◌, [], ◌∷◌, ◌++◌, if◌then◌else◌, map, length, vec_capacity, vec_len};
 ghost use Rattle.std.specs.Prelude.{IfOk, IsSome, ◌⊎◌, ⊤};
 ghost use Rattle.futures.specs.Task.{Hears, IsArmed, Keeps};
-ghost use Rattle.mv_wait.specs.Prelude.{CallerFace, IsOf, IsSame, AreDistinct, Went, AreOwn, listed_count};
+ghost use Rattle.mv_wait.specs.Prelude.{CallerFace, IsOf, IsSame, AreDistinct, Went, AreOwn, ready_count};
 ghost use Rattle.mv_board.specs.declared.watch.Watch.TheVariants as watch;
 ghost use Rattle.mv_polled.specs.Futures.{NeedsBlock};
 ghost use Rattle.mv_polled.specs.Keys.{key_of};
 ghost use Rattle.mv_polled.specs.Turn.{MatchTurn, Begun, Over};
-ghost use Rattle.mv_polled.specs.Waiting.{new_wait, unready, AreFoundOpen, StaysListed, IsWaitAt, IsWaiting, IsWaited, IsLeftWaiting};
+ghost use Rattle.mv_polled.specs.Waiting.{new_wait, unready, AreFoundOpen, StaysReady, IsWaitAt, IsWaiting, IsWaited, IsLeftWaiting};
 ghost use Rattle.mv_polled.specs.Wakers.{no_wakers, HearsAll, HaveWakers, AreRung};
 
 use crate::keys::{key, ring_one};
@@ -198,7 +198,7 @@ impl WaitCall {
         ensures task { IsSame task.old task.new }
         ensures call { (self.new.count ≡ self.old.count) × (self.new.ecbs ≡ self.old.ecbs) × (self.new.room ≡ self.old.room) }
         ensures wakers { self.new.wakers ≡ self.old.wakers }
-        ensures stays { MatchTurn result (λ _. ⊤) (StaysListed task.old task.new) }
+        ensures stays { MatchTurn result (λ _. ⊤) (StaysReady task.old task.new) }
         ensures turn { (t0 : CallerFace) → IsWaiting station.now.config self.old.count self.old.ecbs t0 task.old → MatchTurn result
             (λ r. IsWaited station.now.config self.new r t0 task.new)
             (IsLeftWaiting station.now.config self.new t0 task.old task.new) }
@@ -258,7 +258,7 @@ fn look_at<R: Wait>(station: &Station, rt: &R, task: &mut Task, ecbs: &[u32], ke
     requires distinct { AreDistinct ecbs.now }
     requires room { length ecbs.now ≤ vec_capacity keys.old }
     ensures went { Went [] task.old task.new }
-    ensures stays { StaysListed task.old task.new }
+    ensures stays { StaysReady task.old task.new }
     ensures found { AreFoundOpen ecbs.now task.old task.new }
     ensures keys { keys.new.items ≡ map (λ e. key_of (watch.Ecb e)) (unready task.new.ready ecbs.now) }
     ensures room { vec_capacity keys.new ≡ vec_capacity keys.old }
@@ -336,9 +336,9 @@ impl WaitCall {
         ensures same { self.new ≡ record self.old { wakers = self.new.wakers } }
         ensures left { HaveWakers (length self.old.ecbs) task.new.ready self.old.ecbs self.new.wakers cx.new }
         ensures went { Went [] task.old task.new }
-        ensures stays { StaysListed task.old task.new }
+        ensures stays { StaysReady task.old task.new }
         ensures heard { (s : ℕ) → NeedsBlock task.new.ready self.old.ecbs sources.now s → Hears cx.new s }
-        ensures armed { listed_count task.new.ready self.old.ecbs < length self.old.ecbs → IsArmed cx.new }
+        ensures armed { ready_count task.new.ready self.old.ecbs < length self.old.ecbs → IsArmed cx.new }
         ensures kept { Keeps cx.old cx.new }
     {
         register_all(station, rt, task, &self.ecbs, sources, &mut self.wakers, cx);
@@ -382,9 +382,9 @@ fn register_all<R: Wait>(
     ensures left { HaveWakers (length ecbs.now) task.new.ready ecbs.now wakers.new cx.new }
     ensures size { length wakers.new ≡ length ecbs.now }
     ensures went { Went [] task.old task.new }
-    ensures stays { StaysListed task.old task.new }
+    ensures stays { StaysReady task.old task.new }
     ensures heard { (s : ℕ) → NeedsBlock task.new.ready ecbs.now sources.now s → Hears cx.new s }
-    ensures armed { listed_count task.new.ready ecbs.now < length ecbs.now → IsArmed cx.new }
+    ensures armed { ready_count task.new.ready ecbs.now < length ecbs.now → IsArmed cx.new }
     ensures kept { Keeps cx.old cx.new }
 {
     for i in 0..ecbs.len() {

@@ -19,7 +19,7 @@ pub mod Peeks
 pub mod Waits
 pub mod Doubled
 pub mod Parts
-pub mod Unseen
+pub mod Unready
 pub mod Unrefusing
 -- a wait for one block, as the programs above use it
 pub mod OneBlock

@@ -33,13 +33,13 @@ may_still c t u (watch.Ecb n) z m = (m.0, m.1 ∙ sym z.same.number)
 may_still c t u (watch.Element n) z m = (m.0, m.1 ∙ sym z.same.number)
 may_still c t u (watch.Latch latch id) z m = subst (HasMade latch id) (sym (went_log t u z)) m
 
-listed_last : (ws all : List Watch) (w : Watch) → all ≡ ws ++ w ∷ [] → Contains all w
-listed_last ws all w e = subst (λ xs. Contains xs w) (sym e) (Contains-append_right ws (w ∷ []) w (0, omega arith, refl))
+ready_last : (ws all : List Watch) (w : Watch) → all ≡ ws ++ w ∷ [] → Contains all w
+ready_last ws all w e = subst (λ xs. Contains xs w) (sym e) (Contains-append_right ws (w ∷ []) w (0, omega arith, refl))
 
 pub ready_then : (t : CallerFace) (w : Watch) (u : CallerFace) → Peeks t w true u → Contains u.ready w
-ready_then t (watch.Ecb n) u p = listed_last t.ready u.ready (watch.Ecb n) p.ready
-ready_then t (watch.Element n) u p = listed_last t.ready u.ready (watch.Element n) p.ready
-ready_then t (watch.Latch latch id) u p = listed_last t.ready u.ready (watch.Latch latch id) p.ready
+ready_then t (watch.Ecb n) u p = ready_last t.ready u.ready (watch.Ecb n) p.ready
+ready_then t (watch.Element n) u p = ready_last t.ready u.ready (watch.Element n) p.ready
+ready_then t (watch.Latch latch id) u p = ready_last t.ready u.ready (watch.Latch latch id) p.ready
 
 -- one of the callers of a new board
 pub fresh_at : (b : BoardFace) (k : ℕ) (xs : List CallerFace) (x : CallerFace) (ys : List CallerFace) → AreFresh b k (xs ++ x ∷ ys)

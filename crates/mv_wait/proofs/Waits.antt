@@ -28,7 +28,7 @@ use Rattle.mv_calls.specs.Waits.{AreDistinct, arm_all, armed, settle_all, settle
 use Rattle.mv_calls.specs.Program.{Program, on_ecb}
 use Rattle.mv_wait.specs.Run.{Runs}
 use Rattle.mv_calls.proofs.Making.{kept_from-append, waits_from-append}
-use Rattle.mv_wait.specs.Listed.{is_block, is_listed, listed_count}
+use Rattle.mv_wait.specs.Ready.{is_block, has_ready, ready_count}
 use Rattle.mv_wait.specs.Waiting.{IsArmedFor, ArePlain, IsComplete, IsBlockSettled, Waited, settle_reply}
 use Rattle.mv_calls.specs.declared.outcomes.WaitSlot.{WaitSlot}
 use Rattle.mv_calls.specs.declared.outcomes.WaitSlot.TheVariants as slot
@@ -41,49 +41,49 @@ distinct_later zero es d = d
 distinct_later (suc i) [] d = tt
 distinct_later (suc i) (e ∷ es) d = distinct_later i es d.1
 
--- ---- listed watches
+-- ---- ready blocks
 
 block_watch : (n : ℕ) (w : Watch) → is_block n w ≡ true → w ≡ watch.Ecb n
 block_watch n (watch.Ecb m) e = ap (λ j. watch.Ecb j) (eqb-true m n e)
 block_watch n (watch.Element m) e = absurd (false≢true e)
 block_watch n (watch.Latch latch id) e = absurd (false≢true e)
 
-pub listed_contains : (ws : List Watch) (n : ℕ) → is_listed ws n ≡ true → Contains ws (watch.Ecb n)
-listed_contains ws n e =
+pub ready_contains : (ws : List Watch) (n : ℕ) → has_ready ws n ≡ true → Contains ws (watch.Ecb n)
+ready_contains ws n e =
     let is : Found (is_block n) ws = found (is_block n) ws e in subst (Contains ws) (block_watch n is.0 is.2) is.1
 
--- a watch more keeps what is listed, and lists its own block
-pub listed_still : (ws : List Watch) (w : Watch) (n : ℕ) → is_listed ws n ≡ true → is_listed (ws ++ w ∷ []) n ≡ true
-listed_still ws w n e = list_any-append (is_block n) ws (w ∷ []) ∙ or_left (is_listed ws n) (is_listed (w ∷ []) n) e
+-- with a watch more, the same blocks are ready, and its own
+pub ready_still : (ws : List Watch) (w : Watch) (n : ℕ) → has_ready ws n ≡ true → has_ready (ws ++ w ∷ []) n ≡ true
+ready_still ws w n e = list_any-append (is_block n) ws (w ∷ []) ∙ or_left (has_ready ws n) (has_ready (w ∷ []) n) e
 
-pub listed_new : (ws : List Watch) (n : ℕ) → is_listed (ws ++ watch.Ecb n ∷ []) n ≡ true
-listed_new ws n = finds (is_block n) (watch.Ecb n) (ws ++ watch.Ecb n ∷ []) (Contains-push ws (watch.Ecb n)) (eq-eqb n n refl)
+pub ready_new : (ws : List Watch) (n : ℕ) → has_ready (ws ++ watch.Ecb n ∷ []) n ≡ true
+ready_new ws n = finds (is_block n) (watch.Ecb n) (ws ++ watch.Ecb n ∷ []) (Contains-push ws (watch.Ecb n)) (eq-eqb n n refl)
 
-pub count_one : (ws : List Watch) (e : ℕ) (es : List ℕ) → listed_count ws (e ∷ es) ≡ cond (is_listed ws e) 1 0 + listed_count ws es
-count_one ws e es = go (is_listed ws e) refl where
-  go : (b : Bool) → is_listed ws e ≡ b → listed_count ws (e ∷ es) ≡ cond b 1 0 + listed_count ws es
+pub count_one : (ws : List Watch) (e : ℕ) (es : List ℕ) → ready_count ws (e ∷ es) ≡ cond (has_ready ws e) 1 0 + ready_count ws es
+count_one ws e es = go (has_ready ws e) refl where
+  go : (b : Bool) → has_ready ws e ≡ b → ready_count ws (e ∷ es) ≡ cond b 1 0 + ready_count ws es
   go true is = rw is (omega arith)
   go false is = rw is (omega arith)
 
 -- ---- an event on a block takes its own watch off, and no other block's
-off_block : (ws : List Watch) (m e n : ℕ) (op : Op) → n ≢ e → (b : Bool) → (m == e) ≡ b → is_listed (off (Ecb e) op ws) n ≡ is_listed ws n
-    → is_listed (cond (not b) (watch.Ecb m ∷ off (Ecb e) op ws) (off (Ecb e) op ws)) n ≡ ((m == n) || is_listed ws n)
-off_block ws m e n op differ true is same = same ∙ sym (ap (λ b. b || is_listed ws n) (ne_eqb m n (λ q. differ (sym q ∙ eqb-true m e is))))
+off_block : (ws : List Watch) (m e n : ℕ) (op : Op) → n ≢ e → (b : Bool) → (m == e) ≡ b → has_ready (off (Ecb e) op ws) n ≡ has_ready ws n
+    → has_ready (cond (not b) (watch.Ecb m ∷ off (Ecb e) op ws) (off (Ecb e) op ws)) n ≡ ((m == n) || has_ready ws n)
+off_block ws m e n op differ true is same = same ∙ sym (ap (λ b. b || has_ready ws n) (ne_eqb m n (λ q. differ (sym q ∙ eqb-true m e is))))
 off_block ws m e n op differ false is same = ap (λ b. (m == n) || b) same
 
-off_other : (ws : List Watch) (e n : ℕ) (op : Op) → n ≢ e → is_listed (off (Ecb e) op ws) n ≡ is_listed ws n
+off_other : (ws : List Watch) (e n : ℕ) (op : Op) → n ≢ e → has_ready (off (Ecb e) op ws) n ≡ has_ready ws n
 off_other [] e n op differ = refl
 off_other (watch.Ecb m ∷ ws) e n op differ = off_block ws m e n op differ (m == e) refl (off_other ws e n op differ)
 off_other (watch.Element m ∷ ws) e n op differ = off_other ws e n op differ
 off_other (watch.Latch latch id ∷ ws) e n op differ = off_other ws e n op differ
 
 pub off_counts : (ws : List Watch) (e : ℕ) (op : Op) (es : List ℕ) → AllByRecursion (λ m. m ≡ e → ⊥) es
-    → listed_count (off (Ecb e) op ws) es ≡ listed_count ws es
+    → ready_count (off (Ecb e) op ws) es ≡ ready_count ws es
 off_counts ws e op [] all = refl
 off_counts ws e op (x ∷ es) all =
     count_one (off (Ecb e) op ws) x es
-    ∙ (ap (λ b. cond b 1 0 + listed_count (off (Ecb e) op ws) es) (off_other ws e x op all.0)
-    ∙ (ap (λ n. cond (is_listed ws x) 1 0 + n) (off_counts ws e op es all.1) ∙ sym (count_one ws x es)))
+    ∙ (ap (λ b. cond b 1 0 + ready_count (off (Ecb e) op ws) es) (off_other ws e x op all.0)
+    ∙ (ap (λ n. cond (has_ready ws x) 1 0 + n) (off_counts ws e op es all.1) ∙ sym (count_one ws x es)))
 
 -- ---- what is armed
 
@@ -223,19 +223,19 @@ pub slots_more : (i : ℕ) (out : List WaitSlot) (s : WaitSlot) → i < length o
     → take (i + 1) (set out i s) ≡ take i out ++ s ∷ []
 slots_more i out s lt = take_more_set out i s lt
 
-listed_complete : (b : Bool) (s : WaitSlot) → (b ≡ true → IsComplete s) → cond {A = ℕ} b 1 0 ≤ complete_count (s ∷ [])
-listed_complete true (slot.Complete code) f = omega arith
-listed_complete true slot.Open f = let w = f refl in absurd (cc w.1)
-listed_complete false s f = omega arith
+ready_complete : (b : Bool) (s : WaitSlot) → (b ≡ true → IsComplete s) → cond {A = ℕ} b 1 0 ≤ complete_count (s ∷ [])
+ready_complete true (slot.Complete code) f = omega arith
+ready_complete true slot.Open f = let w = f refl in absurd (cc w.1)
+ready_complete false s f = omega arith
 
--- what is listed of those behind it, and what was found complete, are still enough
+-- what is ready of those after it, and what was found complete, are still enough
 pub enough_still : (count i e : ℕ) (es : List ℕ) (ready : List Watch) (xs : List WaitSlot) (s : WaitSlot)
     → AllByRecursion (λ m. m ≡ e → ⊥) es
-    → (is_listed ready e ≡ true → IsComplete s) → count ≤ complete_count xs + listed_count ready (e ∷ es)
-    → count ≤ complete_count (xs ++ s ∷ []) + listed_count (off (Ecb e) (op_on.Ecb Settle) ready) es
+    → (has_ready ready e ≡ true → IsComplete s) → count ≤ complete_count xs + ready_count ready (e ∷ es)
+    → count ≤ complete_count (xs ++ s ∷ []) + ready_count (off (Ecb e) (op_on.Ecb Settle) ready) es
 enough_still count i e es ready xs s differ complete le =
     let a = count_one ready e es in
     let b = off_counts ready e (op_on.Ecb Settle) es differ in
     let c = complete_last xs s in
-    let d = listed_complete (is_listed ready e) s complete in
+    let d = ready_complete (has_ready ready e) s complete in
     omega arith

@@ -1,5 +1,5 @@
 //! Waits for events. Clauses cite `Waits.antt` of mv_calls, and `specs/Run.antt`, `specs/Answers.antt`, `specs/Waiting.antt` and
-//! `specs/Listed.antt`.
+//! `specs/Ready.antt`.
 
 ghost use Rattle.std.specs.Prelude.{◌≡◌, ◌<◌, ◌≤◌, ◌*◌, ◌^◌, ◌==◌, not, [], ◌∷◌, true, length, take, option_map, Some, None};
 ghost use Rattle.std.specs.Prelude.{IfOk, IfErr, IfSome, MatchResult};
@@ -8,7 +8,7 @@ ghost use Rattle.mv_calls.specs.Prelude.{owner_of, kept_of, IsAtRest, wait, wait
 ghost use Rattle.mv_calls.specs.Prelude.{AreDistinct, Doubled, NotOwnerAt};
 ghost use Rattle.mv_board.specs.Faces.{IsOf};
 ghost use Rattle.mv_wait.specs.Answers.{wait_answer, wait_refused};
-ghost use Rattle.mv_wait.specs.Listed.{is_listed, listed_count, AreSeenBut};
+ghost use Rattle.mv_wait.specs.Ready.{has_ready, ready_count, AreReadyBut};
 ghost use Rattle.mv_wait.specs.Run.{Went, Serves, MayCall};
 ghost use Rattle.mv_wait.specs.Waiting.{IsArmed, IsArmedFor, ArePlain, AreOwn, AreOwnUpTo, ArmsAll, SettlesEnough, IsBlockSettled};
 ghost use Rattle.mv_wait.specs.Waiting.{IsComplete, NamesSource, HasLowCode};
@@ -50,10 +50,10 @@ impl Station {
     /// complete: not at all if they already are, and for ever if no task posts them. With a count of 0 it does not wait, and only
     /// reports.
     ///
-    /// Once the wait has seen a block complete, it does not look at that block again. Each time it looks, it stops as soon as it
-    /// has found one more open block than may stay open (the length of the list less `count`), since then the wait is not over.
-    /// So a wait for all of its blocks looks once at each block, and once more for each time that it looked and the wait was not
-    /// over.
+    /// A block is ready once the wait has seen it complete; the wait does not look at it again. Each time it looks, it stops as
+    /// soon as it has found one more open block than may stay open (the length of the list less `count`), since then the wait is
+    /// not over. So a wait for all of its blocks looks once at each block, and once more for each time that it looked and the wait
+    /// was not over.
     ///
     /// # Errors
     ///
@@ -151,7 +151,7 @@ impl Station {
         Ok(())
     }
 
-    /// Ends a wait that `begin_wait` began, once at least `count` of its blocks were seen complete: settles each block.
+    /// Ends a wait that `begin_wait` began, once at least `count` of its blocks are ready: settles each block.
     ///
     /// `out` has a slot for each block. It makes one event a block, which must be left.
     ///
@@ -180,7 +180,7 @@ impl Station {
         requires own { AreOwn self.now.config task.old.number ecbs.now }
         requires plain { ArePlain task.old ecbs.now }
         requires distinct { AreDistinct ecbs.now }
-        requires listed { count ≤ listed_count task.old.ready ecbs.now }
+        requires ready { count ≤ ready_count task.old.ready ecbs.now }
         requires out { length out.old ≡ length ecbs.now }
         requires left { length ecbs.now ≤ task.old.left }
         ensures settled { SettlesEnough count ecbs.now out.new task.old task.new }
@@ -236,8 +236,8 @@ impl Station {
         }
     }
 
-    // Parks until `count` of the blocks are complete. The first places of `places` have the blocks that were not seen complete
-    // yet. If one more of these is open than may stay open, the wait is not over, whatever the others are.
+    // Parks until `count` of the blocks are complete. The first places of `places` have the blocks that are not ready yet. If one
+    // more of these is open than may stay open, the wait is not over, whatever the others are.
     #[inline(always)]
     fn await_complete<R: Wait + Clock>(
         &self,
@@ -254,55 +254,55 @@ impl Station {
         requires count { count ≤ length ecbs.now }
         requires places { length places.old ≡ length self.now.config.owners }
         ensures went { Went [] caller.old caller.new }
-        ensures listed { count ≤ listed_count caller.new.ready ecbs.now }
+        ensures ready { count ≤ ready_count caller.new.ready ecbs.now }
         ensures places { length places.new ≡ length places.old }
     {
         let spare = ecbs.len() - count as usize;
-        let mut unseen = ecbs.len();
+        let mut unready = ecbs.len();
         put_first(places, ecbs);
         backoff.reset();
         for _ in rt.forever() {
-            unseen = self.look_at_unseen(rt, caller, places, unseen, spare, ecbs);
-            if unseen <= spare {
+            unready = self.look_at_unready(rt, caller, places, unready, spare, ecbs);
+            if unready <= spare {
                 return;
             }
             backoff.snooze(rt);
         }
     }
 
-    // Looks at the blocks that were not seen complete, which are the first `unseen` ones of `places`, until one more than `spare`
+    // Looks at the blocks that are not ready, which are the first `unready` ones of `places`, until one more than `spare`
     // are found open, or at most `spare` are left. A block that is complete is replaced by the last of them. Returns how many are
     // left.
     #[inline(always)]
-    fn look_at_unseen<R: Wait>(
+    fn look_at_unready<R: Wait>(
         &self,
         rt: &R,
         caller: &mut Caller,
         places: &mut [u32],
-        mut unseen: usize,
+        mut unready: usize,
         spare: usize,
         ecbs: &[u32],
     ) -> usize
         requires task { IsOf self.now caller.old }
-        requires size { unseen ≤ length places.old }
-        requires own { AreOwnUpTo self.now.config caller.old.number places.old unseen }
-        requires seen { AreSeenBut places.old unseen caller.old.ready ecbs.now }
+        requires size { unready ≤ length places.old }
+        requires own { AreOwnUpTo self.now.config caller.old.number places.old unready }
+        requires ready { AreReadyBut places.old unready caller.old.ready ecbs.now }
         ensures went { Went [] caller.old caller.new }
         ensures places { length places.new ≡ length places.old }
-        ensures size { result ≤ unseen }
+        ensures size { result ≤ unready }
         ensures own { AreOwnUpTo self.now.config caller.new.number places.new result }
-        ensures seen { AreSeenBut places.new result caller.new.ready ecbs.now }
+        ensures ready { AreReadyBut places.new result caller.new.ready ecbs.now }
     {
         let mut open = 0;
-        while open <= spare && spare < unseen {
+        while open <= spare && spare < unready {
             if self.board.peek(rt, caller, Watch::Ecb(places[open])) {
-                unseen -= 1;
-                places[open] = places[unseen];
+                unready -= 1;
+                places[open] = places[unready];
             } else {
                 open += 1;
             }
         }
-        unseen
+        unready
     }
 
     // Settles one block.
@@ -314,7 +314,7 @@ impl Station {
         requires left { 0 < task.old.left }
         ensures settled { IsBlockSettled ecb task.old result task.new }
         ensures code { HasLowCode result }
-        ensures complete { is_listed task.old.ready ecb ≡ true → IsComplete result }
+        ensures complete { has_ready task.old.ready ecb ≡ true → IsComplete result }
     {
         let reply = self.event(rt, task, Object::Ecb(ecb), Op::Ecb(EcbOp::Settle));
         slot(reply)

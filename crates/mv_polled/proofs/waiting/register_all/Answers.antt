@@ -3,11 +3,11 @@ use Rattle.std.proofs.Math.ListN.{length-set, length-take}
 use Rattle.std.proofs.lemmas.List.{take_more}
 use Rattle.futures.specs.Task.{Lasting, Hears, IsArmed}
 use Rattle.mv_machine.specs.declared.entry.Object.TheVariants.{Ecb}
-use Rattle.mv_wait.specs.Listed.{is_listed, listed_count}
+use Rattle.mv_wait.specs.Ready.{has_ready, ready_count}
 use Rattle.mv_wait.proofs.Runs.{went_then, went_look}
 use Rattle.mv_polled.specs.Futures.{NeedsBlock}
 use Rattle.mv_polled.proofs.Listening.{Stays, needs_still, needs_last, count_more, armed_more, either}
-use Rattle.mv_polled.proofs.Looks.{listed_stays, own_look}
+use Rattle.mv_polled.proofs.Looks.{ready_stays, own_look}
 use Rattle.mv_polled.proofs.Wakers.{wakers_more}
 use Rattle.mv_polled.proofs.waiting.register_all.Goals as goal
 
@@ -28,16 +28,16 @@ loop-i-preserved g c =
     let same = c.requires.sources in
     let keep = c.listen.ensures.kept in
     let stays : Stays u.ready v.ready =
-    λ n l. subst (λ ws. is_listed ws n ≡ true) (sym look.ready) (listed_stays u.ready e n is l) in
+    λ n l. subst (λ ws. has_ready ws n ≡ true) (sym look.ready) (ready_stays u.ready e n is l) in
     let front : take (i + 1) es ≡ take i es ++ e ∷ [] = take_more es i 0 below in
     let there : take (i + 1) xs ≡ take i xs ++ x ∷ [] =
     take_more xs i x (omega arith) ∙ ap (λ y. take i xs ++ y ∷ []) (sym c.in-Some.ensures.lookup.1) in
     let sizes : length (take i es) ≡ length (take i xs) =
     length-take i es ∙ (ap (min i) (sym same) ∙ sym (length-take i xs)) in
-    let own : is ≡ is_listed v.ready e =
-    sym (ap (λ ws. is_listed ws e) look.ready ∙ own_look u.ready e is c.peek-is_ready.ensures.stays) in
-    let more : listed_count u.ready (take i es) + cond is 1 0 ≤ listed_count v.ready (take (i + 1) es) =
-    subst (λ ys. listed_count u.ready (take i es) + cond is 1 0 ≤ listed_count v.ready ys) (sym front)
+    let own : is ≡ has_ready v.ready e =
+    sym (ap (λ ws. has_ready ws e) look.ready ∙ own_look u.ready e is c.peek-is_ready.ensures.stays) in
+    let more : ready_count u.ready (take i es) + cond is 1 0 ≤ ready_count v.ready (take (i + 1) es) =
+    subst (λ ys. ready_count u.ready (take i es) + cond is 1 0 ≤ ready_count v.ready ys) (sym front)
     (count_more u.ready v.ready (take i es) e is stays own) in record {
       went = went_then [] [] t u v since.went (went_look u (Ecb e) look.word v look.found);
       stays = λ n l. stays n (since.stays n l);
@@ -49,8 +49,8 @@ loop-i-preserved g c =
           (subst (λ ys. NeedsBlock v.ready ys (take (i + 1) xs) s) front n)))
           (λ m. keep (Lasting.hears s) (since.heard s (needs_still u.ready v.ready (take i es) (take i xs) s stays m)))
           (λ p. subst (λ z. Hears c.listen.new.cx z) (sym p.1) (c.listen.ensures.heard (own ∙ p.0)));
-      armed = armed_more (IsArmed c.loop-i.cx) (IsArmed c.listen.new.cx) is (listed_count u.ready (take i es)) i
-          (listed_count v.ready (take (i + 1) es)) more since.armed (keep Lasting.armed) c.listen.ensures.armed;
+      armed = armed_more (IsArmed c.loop-i.cx) (IsArmed c.listen.new.cx) is (ready_count u.ready (take i es)) i
+          (ready_count v.ready (take (i + 1) es)) more since.armed (keep Lasting.armed) c.listen.ensures.armed;
       kept = λ fact h. keep fact (since.kept fact h);
       size = length-set c.loop-i.wakers i c.listen.new.slot ∙ since.size;
     }

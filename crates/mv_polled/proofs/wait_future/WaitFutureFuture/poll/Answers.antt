@@ -1,7 +1,7 @@
 use Rattle.std.proofs.Common.{◌<◌, ◌≤◌, length, refl, sym, ap, ◌∙◌, subst, arith}
 use Rattle.mv_board.specs.Faces.{CallerFace}
 use Rattle.mv_calls.specs.Keeping.{kept_of}
-use Rattle.mv_wait.specs.Listed.{listed_count}
+use Rattle.mv_wait.specs.Ready.{ready_count}
 use Rattle.mv_wait.proofs.Parts.{still_of}
 use Rattle.mv_wait.proofs.Runs.{same_then}
 use Rattle.mv_polled.specs.Futures.{NeedsBlock}
@@ -83,9 +83,9 @@ returns-in-Pending-clause-registered g c =
     let count = c.go_on.ensures.call.0 ∙ ap (λ (f : WaitFace). f.count) same in
     let most : w.count ≤ length w.ecbs =
     accepted_count c.args.self.now.station.now.config w.count w.ecbs (kept_of at.0.number at.0.log) left.waiting.accepted in
-    let few : listed_count v.ready w.ecbs < w.count =
-    subst (λ n. listed_count v.ready w.ecbs < n) count
-    (subst (λ es. listed_count v.ready es < c.go_on.new.self.count) blocks later.few) in
+    let few : ready_count v.ready w.ecbs < w.count =
+    subst (λ n. ready_count v.ready w.ecbs < n) count
+    (subst (λ es. ready_count v.ready es < c.go_on.new.self.count) blocks later.few) in
     let before = count_still m.ready v.ready w.ecbs stays in (
       c.register.ensures.armed (omega arith),
       λ x n. c.register.ensures.heard x

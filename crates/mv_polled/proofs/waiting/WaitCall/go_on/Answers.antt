@@ -1,7 +1,7 @@
 use Rattle.std.proofs.Common.{◌≡◌, ℕ, ◌+◌, ◌≤◌, ◌++◌, [], Ok, map, length, take, drop, refl, sym, ap, ◌∙◌, subst, arith}
 use Rattle.mv_board.specs.declared.watch.Watch.TheVariants as watch
 use Rattle.mv_calls.specs.Program.{Wrong}
-use Rattle.mv_wait.specs.Listed.{listed_count}
+use Rattle.mv_wait.specs.Ready.{ready_count}
 use Rattle.mv_wait.specs.Waiting.{ArePlain, SettlesEnough}
 use Rattle.mv_wait.proofs.Parts.{plain_still, given_back}
 use Rattle.mv_wait.proofs.Runs.{same_then, went_log}
@@ -23,9 +23,9 @@ put_down : (g : _) (c : After-look_at g)
 put_down g c =
     c.look_at.ensures.keys ∙ ap (λ xs. map block_key (unready c.look_at.new.task.ready xs)) c.deref.ensures.value
 
--- a block is listed, or its key was put down
+-- a block is ready, or its key was put down
 all_seen : (g : _) (c : After-look_at g)
-    → listed_count c.look_at.new.task.ready c.self.inside.ecbs.items + c.look_at.new.keys.len ≡ c.self.inside.ecbs.len
+    → ready_count c.look_at.new.task.ready c.self.inside.ecbs.items + c.look_at.new.keys.len ≡ c.self.inside.ecbs.len
 all_seen g c =
     let keys = ap length (put_down g c) in
     let all = length_keys block_key c.look_at.new.task.ready c.self.inside.ecbs.items in
@@ -63,12 +63,12 @@ end_wait-requires-clause-plain g c =
     subst (ArePlain u) (sym (c.deref-2.ensures.value ∙ ap (λ (f : WaitFace). f.ecbs) c.self.view_is))
     (plain_still t u c.args.self.now.ecbs looks.same.number (went_log t u looks) c.requires.waiting.1.plain)
 
-pub end_wait-requires-clause-listed : goal.end_wait-requires-clause-listed
-end_wait-requires-clause-listed g c =
-    let all = all_seen g (goal.at.end_wait-requires-clause-listed g c).After-look_at in
+pub end_wait-requires-clause-ready : goal.end_wait-requires-clause-ready
+end_wait-requires-clause-ready g c =
+    let all = all_seen g (goal.at.end_wait-requires-clause-ready g c).After-look_at in
     let more = c.if-len-self.false in
-    let enough : c.self.inside.count ≤ listed_count c.look_at.new.task.ready c.self.inside.ecbs.items = omega arith in
-    subst (λ xs. c.self.inside.count ≤ listed_count c.look_at.new.task.ready xs) (sym c.deref-2.ensures.value) enough
+    let enough : c.self.inside.count ≤ ready_count c.look_at.new.task.ready c.self.inside.ecbs.items = omega arith in
+    subst (λ xs. c.self.inside.count ≤ ready_count c.look_at.new.task.ready xs) (sym c.deref-2.ensures.value) enough
 
 pub returns-clause-task : goal.returns-clause-task
 returns-clause-task g c =

@@ -9,7 +9,7 @@ use Rattle.mv_machine.proofs.Lists.{all_push}
 use Rattle.mv_calls.specs.Keeping.{kept_of}
 use Rattle.mv_calls.specs.Program.{Wrong}
 use Rattle.mv_calls.specs.Waits.{settle_all, complete_count, AreDistinct}
-use Rattle.mv_wait.specs.Listed.{listed_count}
+use Rattle.mv_wait.specs.Ready.{ready_count}
 use Rattle.mv_wait.specs.Run.{Runs}
 use Rattle.mv_wait.specs.Waiting.{IsArmedFor, settle_reply, HasLowCode}
 use Rattle.mv_wait.proofs.Parts.{still_of, own_one, one_of}
@@ -24,7 +24,7 @@ loop-i-init g c = record {
       (runs_none (settle_all c.args.ecbs.now found f) c.args.task.now);
   waits = c.requires.waits;
   plain = c.requires.plain;
-  enough = (let e = c.requires.listed in omega arith);
+  enough = (let e = c.requires.ready in omega arith);
   size = c.requires.out;
   codes = tt;
 }
@@ -66,8 +66,8 @@ loop-i-preserved g c =
     let h = c.settle.ensures.settled.1 in
     let more : take (i + 1) (set out i s) ≡ take i out ++ s ∷ [] = slots_more i out s (omega arith) in
     let waits : IsArmedFor (e ∷ drop (i + 1) es) t.log = subst (λ ns. IsArmedFor ns t.log) parts since.waits in
-    let enough : c.args.count ≤ complete_count (take i out) + listed_count t.ready (e ∷ drop (i + 1) es) =
-    subst (λ ns. c.args.count ≤ complete_count (take i out) + listed_count t.ready ns) parts since.enough in record {
+    let enough : c.args.count ≤ complete_count (take i out) + ready_count t.ready (e ∷ drop (i + 1) es) =
+    subst (λ ns. c.args.count ≤ complete_count (take i out) + ready_count t.ready ns) parts since.enough in record {
       runs = λ found f.
           runs_then i 1 (settle_all es found f) (settle_all (drop i es) (found ++ take i out) f)
           (settle_all (drop (i + 1) es) (found ++ take (i + 1) (set out i s)) f)
@@ -81,8 +81,8 @@ loop-i-preserved g c =
       waits = subst (IsArmedFor (drop (i + 1) es)) (sym h.logged)
           (settled_less (drop (i + 1) es) t.log t.number e place (reply_of.Ecb (settle_reply s)) distinct.0 waits);
       plain = event_keeps t u e place Settle (reply_of.Ecb (settle_reply s)) es h (λ q. refl) since.plain;
-      enough = subst (λ xs. c.args.count ≤ complete_count xs + listed_count u.ready (drop (i + 1) es)) (sym more)
-          (subst (λ ws. c.args.count ≤ complete_count (take i out ++ s ∷ []) + listed_count ws (drop (i + 1) es))
+      enough = subst (λ xs. c.args.count ≤ complete_count xs + ready_count u.ready (drop (i + 1) es)) (sym more)
+          (subst (λ ws. c.args.count ≤ complete_count (take i out ++ s ∷ []) + ready_count ws (drop (i + 1) es))
           (sym h.ready)
           (enough_still c.args.count i e (drop (i + 1) es) t.ready (take i out) s distinct.0 c.settle.ensures.complete enough));
       size = length-set out i s ∙ size;
@@ -107,8 +107,8 @@ returns g c =
             (subst (λ ns. Runs i (settle_all es found f) (settle_all ns (found ++ take i out) f) c.args.task.now c.loop-i.task)
             none (since.runs found f)));
         enough = subst (λ xs. c.args.count ≤ complete_count xs) all
-            (let e : c.args.count ≤ complete_count (take i out) + listed_count c.loop-i.task.ready [] =
-            subst (λ ns. c.args.count ≤ complete_count (take i out) + listed_count c.loop-i.task.ready ns) none
+            (let e : c.args.count ≤ complete_count (take i out) + ready_count c.loop-i.task.ready [] =
+            subst (λ ns. c.args.count ≤ complete_count (take i out) + ready_count c.loop-i.task.ready ns) none
             since.enough in omega arith);
       };
       rest = none_is_rest c.loop-i.task.log (subst (λ ns. IsArmedFor ns c.loop-i.task.log) none since.waits);

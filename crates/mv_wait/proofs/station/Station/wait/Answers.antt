@@ -80,8 +80,8 @@ end_wait-requires-clause-own g c =
 pub end_wait-requires-clause-distinct : goal.end_wait-requires-clause-distinct
 end_wait-requires-clause-distinct g c = c.in_default.ensures.armed.distinct
 
-pub end_wait-requires-clause-listed : goal.end_wait-requires-clause-listed
-end_wait-requires-clause-listed g c = c.await_complete.ensures.listed
+pub end_wait-requires-clause-ready : goal.end_wait-requires-clause-ready
+end_wait-requires-clause-ready g c = c.await_complete.ensures.ready
 
 pub end_wait-requires-clause-plain : goal.end_wait-requires-clause-plain
 end_wait-requires-clause-plain g c =

@@ -1,4 +1,4 @@
--- Blocks that a wait has not seen complete, in the places where it keeps them.
+-- Blocks that are not ready, in the places where it keeps them.
 use Rattle.std.proofs.Common.{◌≡◌, ◌≢◌, ℕ, suc, ◌+◌, ◌-◌, ◌<◌, ◌≤◌, ◌==◌, ◌⊎◌, inl, inr, Bool, true, false, List, [], ◌∷◌, ◌++◌}
 use Rattle.std.proofs.Common.{length, get_or, set, take, cond, refl, sym, ap, ◌∙◌, subst, arith}
 use Rattle.std.proofs.lemmas.Bool.{ne_eqb, eq-eqb, eqb-true, eqb-false}
@@ -8,10 +8,10 @@ use Rattle.mv_machine.specs.Setup.{Setup, owner_of}
 use Rattle.mv_board.specs.declared.watch.Watch.{Watch}
 use Rattle.mv_board.specs.declared.watch.Watch.TheVariants as watch
 use Rattle.mv_calls.specs.Waits.{AreDistinct}
-use Rattle.mv_wait.specs.Listed.{is_listed, listed_count, AreSeenBut}
+use Rattle.mv_wait.specs.Ready.{has_ready, ready_count, AreReadyBut}
 use Rattle.mv_wait.specs.Waiting.{AreOwn, AreOwnUpTo}
 use Rattle.mv_wait.proofs.Parts.{one_of}
-use Rattle.mv_wait.proofs.Waits.{listed_still, listed_new, count_one}
+use Rattle.mv_wait.proofs.Waits.{ready_still, ready_new, count_one}
 
 -- it is one of the first m
 abbrev pub IsAmong : (ℕ → ℕ) → ℕ → ℕ → Type 0
@@ -36,38 +36,38 @@ abbrev put : (ℕ → ℕ) → ℕ → ℕ → ℕ → ℕ
 put f j m i = cond (i == j) (f (m - 1)) (f i)
 
 all_still : (ws : List Watch) (f : ℕ → ℕ) (m j e : ℕ) (es : List ℕ) → j < m → f j ≡ e → AllByRecursion (λ x. x ≡ e → ⊥) es
-    → AllByRecursion (λ x. (is_listed ws x ≡ true) ⊎ IsAmong f m x) es
-    → AllByRecursion (λ x. (is_listed ws x ≡ true) ⊎ IsAmong (put f j m) (m - 1) x) es
+    → AllByRecursion (λ x. (has_ready ws x ≡ true) ⊎ IsAmong f m x) es
+    → AllByRecursion (λ x. (has_ready ws x ≡ true) ⊎ IsAmong (put f j m) (m - 1) x) es
 all_still ws f m j e [] lt at differ all = tt
 all_still ws f m j e (x ∷ es) lt at differ all = (one all.0, all_still ws f m j e es lt at differ.1 all.1) where
-  one : (is_listed ws x ≡ true) ⊎ IsAmong f m x → (is_listed ws x ≡ true) ⊎ IsAmong (put f j m) (m - 1) x
+  one : (has_ready ws x ≡ true) ⊎ IsAmong f m x → (has_ready ws x ≡ true) ⊎ IsAmong (put f j m) (m - 1) x
   one (inl is) = inl is
   one (inr a) = inr (still_among f (put f j m) m j e x lt at
       (ap (λ b. cond b (f (m - 1)) (f j)) (eq-eqb j j refl))
       (λ i other. ap (λ b. cond b (f (m - 1)) (f i)) (ne_eqb i j other)) differ.0 a)
 
--- distinct blocks of which each is listed or among m are no more than those that are listed, and m
+-- distinct blocks of which each is ready or among m are no more than those that are ready, and m
 pub few : (ws : List Watch) (es : List ℕ) (f : ℕ → ℕ) (m : ℕ) → AreDistinct es
-    → AllByRecursion (λ e. (is_listed ws e ≡ true) ⊎ IsAmong f m e) es → length es ≤ listed_count ws es + m
+    → AllByRecursion (λ e. (has_ready ws e ≡ true) ⊎ IsAmong f m e) es → length es ≤ ready_count ws es + m
 few ws [] f m d all = omega arith
 few ws (e ∷ es) f m d all = one (λ g n there. few ws es g n d.1 there) all.0 where
-  count : listed_count ws (e ∷ es) ≡ cond (is_listed ws e) 1 0 + listed_count ws es
+  count : ready_count ws (e ∷ es) ≡ cond (has_ready ws e) 1 0 + ready_count ws es
   count = count_one ws e es
 
-  one : ((g : ℕ → ℕ) (n : ℕ) → AllByRecursion (λ x. (is_listed ws x ≡ true) ⊎ IsAmong g n x) es → length es ≤ listed_count ws es + n)
-      → (is_listed ws e ≡ true) ⊎ IsAmong f m e → length (e ∷ es) ≤ listed_count ws (e ∷ es) + m
+  one : ((g : ℕ → ℕ) (n : ℕ) → AllByRecursion (λ x. (has_ready ws x ≡ true) ⊎ IsAmong g n x) es → length es ≤ ready_count ws es + n)
+      → (has_ready ws e ≡ true) ⊎ IsAmong f m e → length (e ∷ es) ≤ ready_count ws (e ∷ es) + m
   one rest (inl is) =
       let more = rest f m all.1 in
-      let first : cond {A = ℕ} (is_listed ws e) 1 0 ≡ 1 = ap (λ b. cond {A = ℕ} b 1 0) is in omega (arith, count)
+      let first : cond {A = ℕ} (has_ready ws e) 1 0 ≡ 1 = ap (λ b. cond {A = ℕ} b 1 0) is in omega (arith, count)
   one rest (inr (j, lt, at)) =
       let more = rest (put f j m) (m - 1) (all_still ws f m j e es lt at d.0 all.1) in omega (arith, count)
 
-none_listed : (es : List ℕ) → listed_count [] es ≡ 0
-none_listed [] = refl
-none_listed (e ∷ es) = none_listed es
+none_ready : (es : List ℕ) → ready_count [] es ≡ 0
+none_ready [] = refl
+none_ready (e ∷ es) = none_ready es
 
 each_below : (m : ℕ) (es : List ℕ) → AllByRecursion (λ e. e < m) es
-    → AllByRecursion (λ e. (is_listed [] e ≡ true) ⊎ IsAmong (λ j. j) m e) es
+    → AllByRecursion (λ e. (has_ready [] e ≡ true) ⊎ IsAmong (λ j. j) m e) es
 each_below m [] all = tt
 each_below m (e ∷ es) all = (inr (e, all.0, refl), each_below m es all.1)
 
@@ -79,14 +79,14 @@ there c k (e ∷ es) own = (own.0.0, there c k es own.1)
 pub within : (c : Setup) (k : ℕ) (es : List ℕ) → AreDistinct es → AreOwn c k es → length es ≤ length c.owners
 within c k es d own =
     let some = few [] es (λ j. j) (length c.owners) d (each_below (length c.owners) es (there c k es own)) in
-    let none = none_listed es in omega arith
+    let none = none_ready es in omega arith
 
--- where those that were not seen complete are at most so many, the others are listed
-pub listed_rest : (ws : List Watch) (es places : List ℕ) (m spare count : ℕ) → AreDistinct es → AreSeenBut places m ws es → m ≤ spare
-    → spare + count ≡ length es → count ≤ listed_count ws es
-listed_rest ws es places m spare count d seen le size = let some = few ws es (λ j. get_or places j 0) m d seen in omega arith
+-- if at most this many are not ready, the others are
+pub ready_rest : (ws : List Watch) (es places : List ℕ) (m spare count : ℕ) → AreDistinct es → AreReadyBut places m ws es → m ≤ spare
+    → spare + count ≡ length es → count ≤ ready_count ws es
+ready_rest ws es places m spare count d seen le size = let some = few ws es (λ j. get_or places j 0) m d seen in omega arith
 
--- ---- at first none was seen
+-- ---- at first none is ready
 
 first_there : (es places : List ℕ) (p : ℕ) → take (length es) places ≡ es → p < length es → get_or places p 0 ≡ get_or es p 0
 first_there es places p is lt = sym (get_or-take (length es) places p 0 lt) ∙ ap (λ xs. get_or xs p 0) is
@@ -98,7 +98,7 @@ own_first c k es places is own j lt =
     (one_of (λ e. (e < length c.owners) × (owner_of c e ≡ k)) es j 0 own lt)
 
 all_among : (ws : List Watch) (f : ℕ → ℕ) (k m : ℕ) (es : List ℕ) → ((p : ℕ) → p < length es → f (k + p) ≡ get_or es p 0)
-    → k + length es ≤ m → AllByRecursion (λ e. (is_listed ws e ≡ true) ⊎ IsAmong f m e) es
+    → k + length es ≤ m → AllByRecursion (λ e. (has_ready ws e ≡ true) ⊎ IsAmong f m e) es
 all_among ws f k m [] at le = tt
 all_among ws f k m (e ∷ es) at le = (
   inr (k, omega arith, ap f (let q : k ≡ k + 0 = omega arith in q) ∙ at 0 (omega arith)),
@@ -106,8 +106,8 @@ all_among ws f k m (e ∷ es) at le = (
       (λ p lt. ap f (let q : k + 1 + p ≡ k + suc p = omega arith in q) ∙ at (suc p) (omega arith)) (omega arith),
 )
 
-pub none_seen : (ws : List Watch) (es places : List ℕ) → take (length es) places ≡ es → AreSeenBut places (length es) ws es
-none_seen ws es places is = all_among ws (λ j. get_or places j 0) 0 (length es) es
+pub all_unready : (ws : List Watch) (es places : List ℕ) → take (length es) places ≡ es → AreReadyBut places (length es) ws es
+all_unready ws es places is = all_among ws (λ j. get_or places j 0) 0 (length es) es
     (λ p lt. ap (λ n. get_or places n 0) (let q : 0 + p ≡ p = omega arith in q) ∙ first_there es places p is lt) (omega arith)
 
 -- ---- one that is complete leaves its place to the last
@@ -136,16 +136,16 @@ module _ (places : List ℕ) (m j : ℕ) (lt : j < m) (size : m ≤ length place
     go false is =
         subst (λ x. (x < length c.owners) × (owner_of c x ≡ k)) (sym (others i (eqb-false i j is))) (own i (omega (arith, below)))
 
-  pub seen_more : (ws : List Watch) (es : List ℕ) → AreSeenBut places m ws es → AreSeenBut after (m - 1) (ws ++ watch.Ecb e ∷ []) es
-  seen_more ws [] all = tt
-  seen_more ws (x ∷ es) all = (one all.0, seen_more ws es all.1) where
+  pub ready_more : (ws : List Watch) (es : List ℕ) → AreReadyBut places m ws es → AreReadyBut after (m - 1) (ws ++ watch.Ecb e ∷ []) es
+  ready_more ws [] all = tt
+  ready_more ws (x ∷ es) all = (one all.0, ready_more ws es all.1) where
     another : (b : Bool) → (x == e) ≡ b → IsAmong (λ i. get_or places i 0) m x
-        → (is_listed (ws ++ watch.Ecb e ∷ []) x ≡ true) ⊎ IsAmong (λ i. get_or after i 0) (m - 1) x
-    another true is a = inl (subst (λ n. is_listed (ws ++ watch.Ecb e ∷ []) n ≡ true) (sym (eqb-true x e is)) (listed_new ws e))
+        → (has_ready (ws ++ watch.Ecb e ∷ []) x ≡ true) ⊎ IsAmong (λ i. get_or after i 0) (m - 1) x
+    another true is a = inl (subst (λ n. has_ready (ws ++ watch.Ecb e ∷ []) n ≡ true) (sym (eqb-true x e is)) (ready_new ws e))
     another false is a = inr (still_among (λ i. get_or places i 0) (λ i. get_or after i 0) m j e x lt refl moved others
         (eqb-false x e is) a)
 
-    one : (is_listed ws x ≡ true) ⊎ IsAmong (λ i. get_or places i 0) m x
-        → (is_listed (ws ++ watch.Ecb e ∷ []) x ≡ true) ⊎ IsAmong (λ i. get_or after i 0) (m - 1) x
-    one (inl is) = inl (listed_still ws (watch.Ecb e) x is)
+    one : (has_ready ws x ≡ true) ⊎ IsAmong (λ i. get_or places i 0) m x
+        → (has_ready (ws ++ watch.Ecb e ∷ []) x ≡ true) ⊎ IsAmong (λ i. get_or after i 0) (m - 1) x
+    one (inl is) = inl (ready_still ws (watch.Ecb e) x is)
     one (inr a) = another (x == e) refl a
