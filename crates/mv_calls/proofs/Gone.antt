@@ -30,7 +30,7 @@ use Rattle.mv_machine.proofs.Standing.{stood}
 use Rattle.mv_machine.proofs.StandingRuns.{stands}
 use Rattle.mv_machine.specs.Leaving.{WasPurged}
 use Rattle.mv_machine.proofs.Grants.{in_granted}
-use Rattle.mv_calls.proofs.Purged.{place_up, risen, same_standing, stands_below, stands_or_purged}
+use Rattle.mv_calls.proofs.Removals.{place_up, risen, same_standing, stands_below, stands_or_purged}
 use Rattle.mv_machine.proofs.Replies.{latch_reply_is}
 
 -- the request of this number that is in the list is the one that stands

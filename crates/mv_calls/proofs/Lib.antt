@@ -26,7 +26,7 @@ pub mod OwnReplies
 -- quotas_hold, wakes_are_in_range
 pub mod Wakes
 -- requests_leave_by_purges, requests_stay, latches_answer, requests_at_rest
-pub mod Purged
+pub mod Removals
 pub mod Gone
 pub mod LatchReplies
 pub mod Queues

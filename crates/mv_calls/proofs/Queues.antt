@@ -43,8 +43,8 @@ use Rattle.mv_calls.specs.Rest.{OpenWaits, IsAtRest, no_waits, waits_after, wait
 use Rattle.mv_machine.specs.Leaving.{WasPurged, is_early_confirm, HasNoEarlyConfirm}
 use Rattle.mv_machine.proofs.Grants.{in_granted}
 use Rattle.mv_calls.proofs.Gone.{one_request, its_own, confirm_finds_granted, confirm_gone}
-use Rattle.mv_calls.proofs.Purged.{standing_own, standing_other, stands_below, stands_or_purged}
-use Rattle.mv_calls.proofs.Purged.{stood_at_confirm, stood_at_release}
+use Rattle.mv_calls.proofs.Removals.{standing_own, standing_other, stands_below, stands_or_purged}
+use Rattle.mv_calls.proofs.Removals.{stood_at_confirm, stood_at_release}
 
 -- ---- tables of two numbers
 abbrev Table : Type 0

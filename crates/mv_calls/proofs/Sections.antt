@@ -43,7 +43,7 @@ use Rattle.mv_machine.proofs.Places.{of_mine, of_other}
 use Rattle.mv_machine.proofs.StandingRuns.{names_of}
 use Rattle.mv_calls.specs.Sections.{tells_grant, IsHolder, IsSection, HoldsAlone, IsGuarded, AreOwn, is_write}
 use Rattle.mv_calls.proofs.Gone.{granted_or_purged, its_own, one_request}
-use Rattle.mv_calls.proofs.Purged.{stands_below}
+use Rattle.mv_calls.proofs.Removals.{stands_below}
 use Rattle.mv_calls.proofs.Queues.{granted_at_once}
 
 -- ---- who is told so holds the latch

@@ -26,7 +26,7 @@ use Rattle.mv_machine.proofs.Lists.{all_front, all_back}
 use Rattle.mv_machine.proofs.Objects.{of-append}
 use Rattle.mv_machine.proofs.Standing.{stood}
 use Rattle.mv_machine.proofs.StandingRuns.{stands}
-use Rattle.mv_calls.proofs.Purged.{standing_from-append}
+use Rattle.mv_calls.proofs.Removals.{standing_from-append}
 use Rattle.mv_calls.proofs.Uses.{listed_is_fair}
 use Rattle.mv_ordered.proofs.Logs.{still_stood}
 use Rattle.mv_ordered.specs.WaitChain.{HoldsAt}

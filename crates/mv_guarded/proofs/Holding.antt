@@ -32,7 +32,7 @@ use Rattle.mv_calls.specs.Program.{Done, Call, on_volume}
 use Rattle.mv_calls.specs.Refusal.{Refusal}
 use Rattle.mv_calls.specs.Sections.{tells_grant, is_write}
 use Rattle.mv_calls.specs.Waits.{read_volume, write_volume, the_value, stored}
-use Rattle.mv_calls.proofs.Purged.{standing_from-append}
+use Rattle.mv_calls.proofs.Removals.{standing_from-append}
 use Rattle.mv_wait.specs.Run.{IsServed}
 use Rattle.mv_latchset.specs.Answers.{obtain_answer}
 use Rattle.mv_latchset.specs.declared.obtaining.Obtained.{Obtained}

@@ -31,7 +31,7 @@ use Rattle.mv_calls.specs.Program.{Program, Do, Done, Early, Wrong, Call, Heard,
 use Rattle.mv_calls.specs.Refusal.{Refusal}
 use Rattle.mv_calls.specs.Refusal as refusal
 use Rattle.mv_calls.specs.Waits.{refused_if}
-use Rattle.mv_calls.proofs.Purged.{standing_from-append}
+use Rattle.mv_calls.proofs.Removals.{standing_from-append}
 use Rattle.mv_calls.proofs.TableFacts.{both_none}
 use Rattle.mv_ordered.specs.LatchOrder.{AreBelow, KeepsOrder, MayObtain, begins_wait, HasLockDiscipline}
 use Rattle.mv_ordered.specs.WaitChain.{KeepsLockDiscipline}

@@ -24,7 +24,7 @@ use Rattle.mv_machine.proofs.Histories.{by_last, with_at-same, with_at-other}
 use Rattle.mv_machine.proofs.Lists.{all_at, all_front, all_back}
 use Rattle.mv_calls.specs.Rest.{OpenWaits, no_waits, queued_with, waits_after, open_waits}
 use Rattle.mv_calls.proofs.Making.{waits_from-append}
-use Rattle.mv_calls.proofs.Purged.{standing_from-append, stood_at_confirm, stood_at_release}
+use Rattle.mv_calls.proofs.Removals.{standing_from-append, stood_at_confirm, stood_at_release}
 use Rattle.mv_ordered.specs.LatchOrder.{AreBelow, KeepsOrder, ObtainsInRisingOrder, begins_wait, WaitsWithoutLatches}
 
 -- ---- tables of marks

@@ -1,6 +1,6 @@
 -- Its clauses are lemmas of Gone and Purged.
 use Rattle.mv_calls.proofs.Gone.{gone_exactly, confirm_gone, release_gone}
-use Rattle.mv_calls.proofs.Purged.{stands_or_purged}
+use Rattle.mv_calls.proofs.Removals.{stands_or_purged}
 use Rattle.mv_calls.proofs.latch_laws.requests_leave_by_purges.Goals as goal
 
 pub returns-clause-listed : goal.returns-clause-listed
