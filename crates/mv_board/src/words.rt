@@ -1,7 +1,8 @@
 //! The words of the table, and how an operation changes one: `specs/Words.antt` and `specs/Steps.antt`.
 
 ghost use Rattle.std.specs.Prelude.{◌≡◌, ℕ, Some};
-ghost use Rattle.mv_machine.specs.Prelude.{extra as extra_of, HasOpFields, unpack as unpack_of, WordState as AnyState};
+ghost use Rattle.mv_machine.specs.Prelude.{extra as extra_of, HasOpFields, unpack as unpack_of};
+ghost use Rattle.mv_machine.specs.declared.packing.WordState.{WordState as AnyState};
 ghost use Rattle.mv_board.specs.Steps.{is_ready as ready_in};
 ghost use Rattle.mv_board.specs.Words.{word_number as number_of, changed, fits as fits_place};
 ghost use Rattle.mv_board.specs.Words.{number_in as number_in_word, test_of as test_on};

@@ -13,7 +13,9 @@ pub use Rattle.mv_machine.specs.Setup.{Setup, element_owner, owner_of}
 -- ---- entries, histories, and what they say of a task
 pub use Rattle.mv_machine.specs.declared.entry.Entry.{Entry}
 pub use Rattle.mv_machine.specs.declared.entry.Object.{Object}
+pub use Rattle.mv_machine.specs.declared.entry.Object.TheVariants.{Ecb, Element, Volume, Latches}
 pub use Rattle.mv_machine.specs.declared.entry.Op.{Op}
+pub use Rattle.mv_machine.specs.declared.entry.VolumeOp.{VolumeOp}
 pub use Rattle.mv_machine.specs.Kept.{StandingRequest, allowed, is_for, is_named, is_posting, less, standing, stands_after}
 pub use Rattle.mv_machine.specs.Legal.{Legal, after, of, same_object}
 pub use Rattle.mv_machine.specs.Merge.{merged}

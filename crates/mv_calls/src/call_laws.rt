@@ -1,12 +1,13 @@
 //! Laws of a log's last event, and of how many events calls may need: by specs/Behind.antt, specs/Exits.antt, and the machine's
 //! specs/Replies.antt.
 ghost use Rattle.std.specs.Prelude.{◌≡◌, ◌<◌, ◌≤◌, ◌+◌, ◌++◌, ◌∷◌, ℕ, suc, true, List, [], length};
-ghost use Rattle.mv_machine.specs.Prelude.{EcbOp, ecb_step, ElementOp, element_step, LatchOp, Wake, latch_step, Entry, Ecb, Element};
-ghost use Rattle.mv_machine.specs.Prelude.{Volume, Latches, VolumeOp, IsValid, IsNext, Legal, after, events_limit, highest_generation};
+ghost use Rattle.mv_machine.specs.Prelude.{EcbOp, ecb_step, ElementOp, element_step, LatchOp, Wake, latch_step};
+ghost use Rattle.mv_machine.specs.Prelude.{IsValid, IsNext, Legal, after, events_limit, highest_generation};
 ghost use Rattle.mv_machine.specs.Prelude.{IsPossible, reach, total, IsOfKind, HasPlaceAsNumber, NamesUpTo, NamesLowCode, Setup};
 ghost use Rattle.mv_machine.specs.Prelude.{is_exit_of, targets_of, System, volume_step, told};
 ghost use Rattle.mv_machine.specs.declared.entry.Op.TheVariants as op_on;
 ghost use Rattle.mv_machine.specs.declared.entry.Reply.TheVariants as reply_of;
+ghost use Rattle.mv_calls.specs.Prelude.{Entry, Ecb, Element, Volume, Latches, VolumeOp};
 ghost use Rattle.mv_calls.specs.Prelude.{IsBehind, Kept, told_by, HaveTheirWakes, post, Heard, Says, entries};
 ghost use Rattle.mv_calls.specs.Exits.{NamesOwnExit, NameOwnExits, HaveFairWakes};
 ghost use Rattle.mv_calls.specs.Services.{Service, program, most_events, HasItsTable};

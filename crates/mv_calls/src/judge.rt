@@ -3,8 +3,8 @@
 
 ghost use Rattle.std.specs.Prelude.{◌≡◌, ◌<◌, ◌≤◌, ◌-◌, ◌^◌, ◌↔◌, List, [], Some, length, IfOk, IsTrue};
 ghost use Rattle.std.specs.Prelude.{MatchBool, MatchOption};
-ghost use Rattle.mv_machine.specs.Prelude.{Entry as AnyEntry, highest_place, Setup as AnySetup, after, system_of, wakes_of, IsOpenedWith};
-ghost use Rattle.mv_machine.specs.Prelude.{place_of, last_wakes};
+ghost use Rattle.mv_machine.specs.Prelude.{highest_place, Setup as AnySetup, after, system_of, wakes_of, IsOpenedWith, place_of, last_wakes};
+ghost use Rattle.mv_machine.specs.declared.entry.Entry.{Entry as AnyEntry};
 ghost use Rattle.mv_calls.specs.Judge.{HasJudged, IsJudgedNext, IsUnfitNext};
 
 use crate::counters::CallCounters;

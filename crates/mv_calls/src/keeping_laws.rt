@@ -5,10 +5,9 @@ ghost use Rattle.mv_ecb.specs.declared.operation.EcbOp.TheVariants as ecb_op;
 ghost use Rattle.mv_ecb.specs.Word.{Waiting};
 ghost use Rattle.mv_element.specs.declared.operation.ElementOp.TheVariants as element_op;
 ghost use Rattle.mv_element.specs.declared.operation.ElementReply.TheVariants.{Opened, Closed};
-ghost use Rattle.mv_machine.specs.Prelude.{Entry, Ecb, Element, standing, Legal, after, of, OnElement, OnEcb};
-ghost use Rattle.mv_machine.specs.Prelude.{Setup, owner_of, element_owner};
+ghost use Rattle.mv_machine.specs.Prelude.{standing, Legal, after, of, OnElement, OnEcb, Setup, owner_of, element_owner};
 ghost use Rattle.mv_machine.specs.declared.entry.Op.TheVariants as op_on;
-ghost use Rattle.mv_calls.specs.Prelude.{IsEvent, kept_of, IsAtRest, open_waits};
+ghost use Rattle.mv_calls.specs.Prelude.{Entry, Ecb, Element, IsEvent, kept_of, IsAtRest, open_waits};
 ghost use Rattle.mv_calls.specs.Known.{BlockAgrees, ElementAgrees, IsExtendedOrComplete, IsPlain, IsPauseReply, IsResumeReply};
 ghost use Rattle.mv_calls.specs.Known.{IsNotBusy, IsArmReply, IsSettleReply, IsUnpaused};
 

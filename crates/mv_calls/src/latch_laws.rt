@@ -2,8 +2,8 @@
 //! machine's specs/Waking.antt, specs/Leaving.antt and specs/Replies.antt, and by specs/Behind.antt and specs/Rest.antt.
 ghost use Rattle.std.specs.Prelude.{◌≡◌, ◌↔◌, ◌⊎◌, ◌≤◌, ◌++◌, ◌∷◌, ℕ, true, Bool, List, []};
 ghost use Rattle.std.specs.List.{Contains};
-ghost use Rattle.mv_machine.specs.Prelude.{LatchOp, Wake, Request, granted, count_in, list_of, wakes, of_caller, posted_of, Entry};
-ghost use Rattle.mv_machine.specs.Prelude.{Latches, StandingRequest, standing, NoneTakesOut, WasPurged, HasNoEarlyConfirm, Legal, after};
+ghost use Rattle.mv_machine.specs.Prelude.{LatchOp, Wake, Request, granted, count_in, list_of, wakes, of_caller, posted_of};
+ghost use Rattle.mv_machine.specs.Prelude.{StandingRequest, standing, NoneTakesOut, WasPurged, HasNoEarlyConfirm, Legal, after};
 ghost use Rattle.mv_machine.specs.Prelude.{of, IsGranted, IsGone, IsPossible, OnLatch, IsLatchReply, CountsWakes, Setup, IsFair};
 ghost use Rattle.mv_machine.specs.Prelude.{AreFairWakes};
 ghost use Rattle.mv_latch.specs.declared.operation.LatchOp.TheVariants.{Confirm, Release};
@@ -11,7 +11,7 @@ ghost use Rattle.mv_latch.specs.declared.operation.LatchReply.TheVariants.{Grant
 ghost use Rattle.mv_latch.specs.declared.request.LatchForm.TheVariants.{Waiting};
 ghost use Rattle.mv_machine.specs.declared.entry.Op.TheVariants as op_on;
 ghost use Rattle.mv_machine.specs.declared.entry.Reply.TheVariants as reply_of;
-ghost use Rattle.mv_calls.specs.Prelude.{IsEvent, IsAtRest, open_waits};
+ghost use Rattle.mv_calls.specs.Prelude.{Entry, Latches, IsEvent, IsAtRest, open_waits};
 
 /// Shows the ranges of the wakes of an event after a legal list, and so of the wakes that a caller is shown. Each wake is for a
 /// caller and has code 0 or 1, and its block, if it has one, exists and is that caller's. At most as many wakes post a block as

@@ -3,8 +3,8 @@
 ghost use Rattle.std.specs.Prelude.{◌≡◌, ◌≢◌, ◌++◌, ◌∷◌, ℕ, Bool, List, [], false};
 ghost use Rattle.std.specs.List.{AllByRecursion};
 ghost use Rattle.mv_latch.specs.declared.request.Mode.TheVariants.{Exclusive, Shared};
-ghost use Rattle.mv_machine.specs.Prelude.{Entry, Object, Volume, Op, StandingRequest, WasPurged, takes_out, Legal, after, IsGranted};
-ghost use Rattle.mv_machine.specs.Prelude.{Setup};
+ghost use Rattle.mv_machine.specs.Prelude.{StandingRequest, WasPurged, takes_out, Legal, after, IsGranted, Setup};
+ghost use Rattle.mv_calls.specs.Prelude.{Entry, Object, Volume, Op};
 ghost use Rattle.mv_calls.specs.Sections.{IsHolder, IsSection, IsGuarded, AreOwn, is_write, tells_grant};
 
 /// Shows mutual exclusion. A caller whose own entries show a granted request holds the latch, unless another caller purged the

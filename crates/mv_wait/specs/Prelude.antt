@@ -68,4 +68,3 @@ pub use Rattle.mv_wait.specs.Ready.{ready_count}
 pub use Rattle.mv_wait.specs.OneBlock.{WaitedFor}
 pub use Rattle.mv_wait.specs.Run.{IsServed, MayCall, Serves, Went, keeps}
 pub use Rattle.mv_wait.specs.Waiting.{AreOwn}
-pub use Rattle.mv_wait.specs.declared.waiting.WaitRefusal.{WaitRefusal}
