@@ -48,27 +48,6 @@ work_all-requires-clause-exist g c κs within =
     ap length c.deref_mut.ensures.value ∙ sym (length-map c.in_ok-seats.seats.items (λ (s : Seat g.row.W-Room.Denot). s.task))
     ∙ ap length c.in_ok-seats.ensures.tasks ∙ c.requires.all in omega arith
 
--- both lists have room for all that come back
-pub parted-requires-clause-tasks : goal.parted-requires-clause-tasks
-parted-requires-clause-tasks g c =
-    let count : length c.work_all.new.seats ≡ length c.in_ok-seats.seats.items =
-    c.work_all.ensures.count ∙ ap length c.deref_mut.ensures.value in
-    let back =
-    ap length (given_back c.in_ok-seats.seats.len c.work_all.new.seats c.in_ok-seats.seats.items count c.in_ok-seats.seats.ok.0) in
-    let all = ap length c.in_ok-seats.ensures.tasks in
-    let same = length-map c.in_ok-seats.seats.items (λ (s : Seat g.row.W-Room.Denot). s.task) in
-    (c.in_ok-tasks_back.ensures.items, omega arith)
-
-pub parted-requires-clause-rooms : goal.parted-requires-clause-rooms
-parted-requires-clause-rooms g c =
-    let count : length c.work_all.new.seats ≡ length c.in_ok-seats.seats.items =
-    c.work_all.ensures.count ∙ ap length c.deref_mut.ensures.value in
-    let back =
-    ap length (given_back c.in_ok-seats.seats.len c.work_all.new.seats c.in_ok-seats.seats.items count c.in_ok-seats.seats.ok.0) in
-    let all = ap length c.in_ok-seats.ensures.rooms in
-    let same = length-map c.in_ok-seats.seats.items (λ (s : Seat g.row.W-Room.Denot). s.room) in
-    (c.in_ok-rooms_back.ensures.items, omega arith)
-
 pub returns-clause-all : goal.returns-clause-all
 returns-clause-all g c =
     let new = c.work_all.new.seats in
