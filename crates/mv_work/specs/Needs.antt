@@ -1,5 +1,5 @@
 -- What a task waits for, as a call, and the answer to it.
-use Rattle.std.specs.Prelude.{◌≡◌, ℕ, ◌*◌, List, [], ◌∷◌, Some, length}
+use Rattle.std.specs.Prelude.{◌≡◌, ℕ, ◌*◌, List, [], ◌∷◌, length}
 use Rattle.mv_latch.specs.declared.request.LatchForm.TheVariants.{Waiting}
 use Rattle.mv_machine.specs.Setup.{Setup}
 use Rattle.mv_calls.specs.LatchCalls.{obtain}
@@ -8,6 +8,7 @@ use Rattle.mv_calls.specs.Pauses.{pause}
 use Rattle.mv_calls.specs.Program.{Call, accepted, finished, wrong}
 use Rattle.mv_calls.specs.Waits.{wait}
 use Rattle.mv_calls.specs.declared.outcomes.WaitSlot.{WaitSlot}
+use Rattle.mv_calls.specs.declared.outcomes.WaitSlot.TheVariants.{Complete}
 use Rattle.mv_plan.specs.SpoolTasks.{granted_as}
 use Rattle.mv_work.specs.declared.need.Blocks.{Blocks}
 use Rattle.mv_work.specs.declared.need.Need.{Need}
@@ -48,7 +49,7 @@ need_events (need.Latch latch requestor mode) = 2
 -- the answer, as the program of the task reads it
 abbrev pub answer_of : Got → Answer
 answer_of (got.Slots found) = Slots found.items
-answer_of (got.Code code) = Slots (Some code ∷ [])
+answer_of (got.Code code) = Slots (Complete code ∷ [])
 answer_of (got.Given given) = Gave given
 answer_of (got.Granted token) = Holds token.id
 

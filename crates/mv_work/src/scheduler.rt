@@ -13,7 +13,8 @@
 //! Before it waits for an idle initiator, it sets the exit of `done(job)`, which posts the job's end. If the deck has no job, `begin`
 //! leads to `Dismissal(0)`.
 
-ghost use Rattle.std.specs.Prelude.{◌≡◌, ◌<◌, ◌≤◌, ◌+◌, ◌*◌, ◌-◌, [], ◌∷◌, length, MatchResult, Some};
+ghost use Rattle.std.specs.Prelude.{◌≡◌, ◌<◌, ◌≤◌, ◌+◌, ◌*◌, ◌-◌, [], ◌∷◌, length, MatchResult};
+ghost use Rattle.mv_calls.specs.declared.outcomes.WaitSlot.TheVariants.{Complete};
 ghost use Rattle.mv_wait.specs.Prelude.{release_limit, Done, Wrong, CallerFace, IsFresh, MayCall};
 ghost use Rattle.mv_plan.specs.Prelude.{job_at, scheduler, ends_awaited, hand_over as handed};
 ghost use Rattle.mv_work.specs.Needs.{Slots, answer_of};
@@ -245,7 +246,7 @@ impl<G: Gate> Spool<'_, G> {
     ) -> Result<Next<SchedulerStage>, Lost>
         requires index { index < self.now.initiators }
         requires task { MayCall self.now.board (scheduler_due self.now (stage.Dismissal index)) task.old }
-        ensures { SchedulerComes self.now (scheduler_left self.now (stage.Dismissal index) (Slots (Some generation ∷ [])))
+        ensures { SchedulerComes self.now (scheduler_left self.now (stage.Dismissal index) (Slots (Complete generation ∷ [])))
             task.old result task.new }
     {
         // Reading a field makes the facts of the spool known here.

@@ -5,7 +5,8 @@
 //!   begin ──> the end of job 0 ── keep it ──> the end of job 1 ── keep it ──> ... ──> done
 //! ```
 
-ghost use Rattle.std.specs.Prelude.{◌≡◌, ◌<◌, ◌≤◌, ◌-◌, ◌*◌, [], ◌∷◌, length, vec_capacity, Some};
+ghost use Rattle.std.specs.Prelude.{◌≡◌, ◌<◌, ◌≤◌, ◌-◌, ◌*◌, [], ◌∷◌, length, vec_capacity};
+ghost use Rattle.mv_calls.specs.declared.outcomes.WaitSlot.TheVariants.{Complete};
 ghost use Rattle.mv_wait.specs.Prelude.{CallerFace, IsFresh, MayCall};
 ghost use Rattle.mv_plan.specs.SpoolSetup.{writer};
 ghost use Rattle.mv_work.specs.Needs.{Slots};
@@ -75,7 +76,7 @@ impl<G: Gate> Spool<'_, G> {
         requires job { job < length self.now.jobs }
         requires room { length self.now.jobs - job ≤ room_in ends.old }
         requires task { MayCall self.now.board (writer_due self.now job) task.old }
-        ensures { WriterComes self.now ends.new (writer_left self.now ends.old.items job (Slots (Some end ∷ []))) task.old result task.new }
+        ensures { WriterComes self.now ends.new (writer_left self.now ends.old.items job (Slots (Complete end ∷ []))) task.old result task.new }
     {
         self.pass(rt, task, Point::Written(job));
         ends.push_reserved(end);
