@@ -17,6 +17,8 @@ pub fn restore<R: Wait>(rt: &R, station: &Station, task: &mut Task, numbers: &[u
     requires volumes { length numbers.now ≤ station.now.config.volumes }
     ensures { HasRestored station.now numbers.now task.old task.new }
 {
+    // A valid configuration has few volumes, so their numbers fit.
+    let _ = station.config().config();
     for volume in 0..numbers.len() {
         station.write_volume(rt, task, volume as u32, numbers[volume]);
     }
