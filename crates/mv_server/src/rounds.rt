@@ -1,54 +1,17 @@
 //! A service that outlives its stations. A station has a budget of events for its life, so requests without a limit are answered
-//! in rounds, each on a new station. Clauses cite `specs/Pool.antt` and `specs/Rounds.antt`.
+//! in rounds, each on a new station. Clauses cite `specs/Pool.antt`.
 
-ghost use Rattle.std.specs.Prelude.{◌≡◌, ◌<◌, ◌≤◌, ◌++◌, [], length, map, IfOk, OnOk};
+ghost use Rattle.std.specs.Prelude.{◌≡◌, ◌<◌, ◌≤◌, ◌++◌, length, map, IfOk, OnOk, All};
 ghost use Rattle.std.specs.List.{AllByRecursion};
+ghost use Rattle.mv_wait.specs.Prelude.{Legal, highest_place};
 ghost use Rattle.mv_server.specs.Pool.{requests_limit, weeks_limit, days_in};
-ghost use Rattle.mv_server.specs.Rounds.{HasServed};
 
 use crate::server::{Served, serve_all};
-use mv_rounds::{Service, judge, run_rounds};
-use mv_wait::NoMemory;
+use mv_wait::{History, NoMemory, ReplayRefusal, replay};
 use std::alloc::Global;
 use std::sync::Wait;
 use std::thread::Threads;
 use std::time::Clock;
-
-// The service between two rounds.
-#[derive(Drop)]
-struct Requests<'a> {
-    all: &'a [u32],
-    // Those that are not answered yet.
-    rest: &'a [u32],
-    // How many are answered in a round.
-    round: usize,
-    // The answers so far. Nothing else remains of a round.
-    answers: Vec<u32>,
-}
-
-impl Service for Requests<'_> {
-    ghost holds_between = { λ first s. HasServed first.all.now s.all.now s.rest.now s.round s.answers.items };
-
-    ghost has_ended = { λ s. s.rest.now ≡ [] };
-
-    ghost rounds_left = { λ s. length s.rest.now };
-
-    fn is_over(&self) -> bool {
-        self.rest.is_empty()
-    }
-
-    fn serve<R: Threads + Wait + Clock + Sync>(
-        &mut self,
-        rt: &R,
-        alloc: Global,
-    ) -> Result<(), NoMemory> {
-        let rest = self.rest;
-        let (now, later) = rest.split_at(self.round.min(rest.len()));
-        serve_round(rt, alloc, now, &mut self.answers)?;
-        self.rest = later;
-        Ok(())
-    }
-}
 
 /// Answers each of these requests, however many there are, `round` of them in a round, 1 to 10,000.
 ///
@@ -68,17 +31,17 @@ pub fn serve_in_rounds<R: Threads + Wait + Clock + Sync>(
     requires small { AllByRecursion (λ weeks. weeks < weeks_limit) requests.now }
     ensures { IfOk result (λ answers. answers.items ≡ map days_in requests.now) }
 {
-    let mut service = Requests {
-        all: requests,
-        rest: requests,
-        round,
-        answers: Vec::new(alloc),
-    };
-    run_rounds(rt, alloc, &mut service)?;
-    Ok(service.answers)
+    let mut answers = Vec::new(alloc);
+    let mut rest = requests;
+    while !rest.is_empty() {
+        let (now, later) = rest.split_at(round.min(rest.len()));
+        serve_round(rt, alloc, now, &mut answers)?;
+        rest = later;
+    }
+    Ok(answers)
 }
 
-// Runs one round, judges its history, and appends its answers to those so far.
+// Runs one round, and appends its answers to those so far. Nothing else remains of the round.
 fn serve_round<R: Threads + Wait + Clock + Sync>(
     rt: &R,
     alloc: Global,
@@ -96,4 +59,18 @@ fn serve_round<R: Threads + Wait + Clock + Sync>(
     judge(alloc, history)?;
     answers.extend_from_slice(&more)?;
     Ok(())
+}
+
+// Judges the history of a round. The history is proved to be legal, so this fails only if memory runs out.
+fn judge(alloc: Global, history: History) -> Result<(), NoMemory>
+    requires legal { Legal history.config history.coming }
+    requires places { All (λ e. e.place ≤ highest_place) history.coming }
+{
+    let listed = history.listed(alloc)?;
+    match replay(alloc, &listed.config, &listed.journal) {
+        Ok(_) => Ok(()),
+        // out of memory: `replay` was.
+        Err(ReplayRefusal::NoMemory) => Err(NoMemory),
+        Err(ReplayRefusal::Illegal(_)) => unreachable!(),
+    }
 }

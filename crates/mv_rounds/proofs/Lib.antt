@@ -1,2 +1,0 @@
--- restore
-mod Writes

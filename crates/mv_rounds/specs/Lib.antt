@@ -1,2 +1,0 @@
--- the numbers that a task has written into the volumes
-pub mod Restored
