@@ -1,7 +1,7 @@
 use Rattle.std.proofs.Common.{◌≡◌, List, length, refl, ap, ◌∙◌, arith}
 use Rattle.std.proofs.lemmas.Result.{err_from_is_err_and}
 use Rattle.arrayvec.proofs.ArrayVecLemmas.{items-with_items}
-use Rattle.mv_calls.specs.declared.outcomes.WaitSlot.{WaitSlot}
+use Rattle.mv_wait.specs.Prelude.{WaitSlot}
 use Rattle.mv_work.proofs.Meeting.{met}
 use Rattle.mv_work.proofs.Runs.{served_few}
 use Rattle.mv_spool.proofs.meeting.meet.Goals as goal
