@@ -36,7 +36,6 @@ struct Texts {
 }
 
 // Runs a script, and returns the texts of what its tasks have done.
-#[tactic(auto, using(crate::proofs::Runs::run_texts))]
 fn texts_of_run<X: Wait + Clock>(
     rt: &X,
     alloc: Global,
