@@ -3,7 +3,7 @@ use Rattle.std.specs.Prelude.{ℕ, ◌≤◌, ◌==◌, Bool, true, false, not, 
 use Rattle.std.specs.Prelude.{if◌then◌else◌}
 use Rattle.std.specs.List.{list_any}
 use Rattle.mv_latch.specs.declared.request.Mode.{Mode}
-use Rattle.mv_latch.specs.declared.request.Mode.TheVariants.{Shared, Exclusive}
+use Rattle.mv_latch.specs.declared.request.Mode.TheVariants.{Exclusive}
 use Rattle.mv_deck.specs.Operand.{highest_latch}
 use Rattle.mv_deck.specs.declared.deck.Step.{Step}
 use Rattle.mv_deck.specs.declared.deck.Step.TheVariants.{Print, Use, Free, Count, Scan, Abend, Return}
@@ -20,13 +20,9 @@ HasNumberInRange (Return code) = Unit {0}
 
 -- the mode in which a latch is held after one more step, if it is held
 abbrev pub held_behind : ℕ → Option Mode → Step → Option Mode
-held_behind latch mode (Print text) = mode
 held_behind latch mode (Use used by) = if used == latch then Some by else mode
 held_behind latch mode (Free freed) = if freed == latch then None else mode
-held_behind latch mode (Count volume amount) = mode
-held_behind latch mode (Scan volume) = mode
-held_behind latch mode (Abend code) = mode
-held_behind latch mode (Return code) = mode
+held_behind latch mode _ = mode
 
 -- the mode in which a job holds a latch after these steps, if it does: that of its last USE, unless a FREE follows that
 abbrev pub held : List Step → ℕ → Option Mode
@@ -42,37 +38,24 @@ holds_from steps latch = list_any (λ l. is_some (held steps l)) (drop latch lat
 
 -- whether a latch is held exclusively
 abbrev pub is_exclusive : Option Mode → Bool
-is_exclusive None = false
-is_exclusive (Some Shared) = false
 is_exclusive (Some Exclusive) = true
+is_exclusive _ = false
 
 -- whether a step is a USE of a latch that is not above every latch that the job holds after the steps `done`
 abbrev pub is_out_of_order : List Step → Step → Bool
-is_out_of_order done (Print text) = false
 is_out_of_order done (Use latch mode) = holds_from done latch
-is_out_of_order done (Free latch) = false
-is_out_of_order done (Count volume amount) = false
-is_out_of_order done (Scan volume) = false
-is_out_of_order done (Abend code) = false
-is_out_of_order done (Return code) = false
+is_out_of_order done _ = false
 
 -- whether a step lacks its latch after the steps `done`: a FREE of a latch that is not held, a COUNT of a volume whose latch is
 -- not held exclusively, or a SCAN of one whose latch is not held
 abbrev pub lacks_latch : List Step → Step → Bool
-lacks_latch done (Print text) = false
-lacks_latch done (Use latch mode) = false
 lacks_latch done (Free latch) = is_none (held done latch)
 lacks_latch done (Count volume amount) = not (is_exclusive (held done volume))
 lacks_latch done (Scan volume) = is_none (held done volume)
-lacks_latch done (Abend code) = false
-lacks_latch done (Return code) = false
+lacks_latch done _ = false
 
 -- whether a job ends with this step
 abbrev pub is_end : Step → Bool
-is_end (Print text) = false
-is_end (Use latch mode) = false
-is_end (Free latch) = false
-is_end (Count volume amount) = false
-is_end (Scan volume) = false
 is_end (Abend code) = true
 is_end (Return code) = true
+is_end _ = false

@@ -5,7 +5,7 @@ use Rattle.std.specs.Prelude.{List, [], ◌∷◌, ◌++◌, map, flat_map, sum_
 use Rattle.std.specs.List.{list_any}
 use Rattle.mv_deck.specs.declared.deck.After.{After}
 use Rattle.mv_deck.specs.declared.deck.Step.{Step}
-use Rattle.mv_deck.specs.declared.deck.Step.TheVariants.{Print, Use, Free, Count, Scan, Abend, Return}
+use Rattle.mv_deck.specs.declared.deck.Step.TheVariants.{Print, Count, Scan, Abend, Return}
 use Rattle.mv_deck.specs.Deck.{JobData}
 use Rattle.mv_deck.specs.EndCode.{not_run}
 use Rattle.mv_report.specs.EndCode.{is_not_run}
@@ -16,24 +16,16 @@ use Rattle.mv_report.specs.Report.{report_text}
 -- the end of a job that is run: the code of its first ABEND or RETURN, 0 if it has neither
 abbrev pub own_end : List Step → ℕ
 own_end [] = 0
-own_end (Print text ∷ steps) = own_end steps
-own_end (Use latch mode ∷ steps) = own_end steps
-own_end (Free latch ∷ steps) = own_end steps
-own_end (Count volume amount ∷ steps) = own_end steps
-own_end (Scan volume ∷ steps) = own_end steps
 own_end (Abend code ∷ steps) = code
 own_end (Return code ∷ steps) = code
+own_end (_ ∷ steps) = own_end steps
 
 -- the steps before the first ABEND or RETURN; all steps if there is neither
 abbrev pub before_end : List Step → List Step
 before_end [] = []
-before_end (Print text ∷ steps) = Print text ∷ before_end steps
-before_end (Use latch mode ∷ steps) = Use latch mode ∷ before_end steps
-before_end (Free latch ∷ steps) = Free latch ∷ before_end steps
-before_end (Count volume amount ∷ steps) = Count volume amount ∷ before_end steps
-before_end (Scan volume ∷ steps) = Scan volume ∷ before_end steps
 before_end (Abend code ∷ steps) = []
 before_end (Return code ∷ steps) = []
+before_end (step ∷ steps) = step ∷ before_end steps
 
 -- Whether a part of an AFTER names a job whose end is above the code that the part accepts. `ends` are those of the jobs before
 -- the part's own job; a part that names none of these refuses nothing.
@@ -85,12 +77,8 @@ scan_line volume steady = codes "| SCAN " ++ decimal volume ++ (if steady then c
 -- the lines that a step writes; no run reads two different numbers in a SCAN
 abbrev pub lines_of_step : Step → List (List ℕ)
 lines_of_step (Print text) = print_line text ∷ []
-lines_of_step (Use latch mode) = []
-lines_of_step (Free latch) = []
-lines_of_step (Count volume amount) = []
 lines_of_step (Scan volume) = scan_line volume true ∷ []
-lines_of_step (Abend code) = []
-lines_of_step (Return code) = []
+lines_of_step _ = []
 
 -- the lines that these steps write, in order
 abbrev pub lines_of_steps : List Step → List (List ℕ)
@@ -104,13 +92,8 @@ lines deck = map lines_of_steps (steps_done deck)
 
 -- what a step adds to a volume
 abbrev pub added : ℕ → Step → ℕ
-added volume (Print text) = 0
-added volume (Use latch mode) = 0
-added volume (Free latch) = 0
 added volume (Count v amount) = if v == volume then amount else 0
-added volume (Scan v) = 0
-added volume (Abend code) = 0
-added volume (Return code) = 0
+added volume _ = 0
 
 -- the sum of the amounts that these steps add to a volume
 abbrev pub added_by : ℕ → List Step → ℕ
