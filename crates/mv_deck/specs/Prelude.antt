@@ -2,7 +2,7 @@
 pub use Rattle.mv_deck.specs.Deck.{JobData, deck_data, deck_of, fresh_job, job_data, jobs_of, place_of, step_of}
 pub use Rattle.mv_deck.specs.EndCode.{not_run}
 pub use Rattle.mv_deck.specs.Fault.{first_fault}
-pub use Rattle.mv_deck.specs.Load.{load_text}
+pub use Rattle.mv_deck.specs.Load.{load_jobs, load_text}
 pub use Rattle.mv_deck.specs.Names.{place_in}
 pub use Rattle.mv_deck.specs.Operand.{most_after}
 pub use Rattle.mv_deck.specs.Sound.{CanBeRun, HasGoodNumbers, IsSound}

@@ -3,7 +3,7 @@
 use Rattle.std.specs.Prelude.{if◌then◌else◌, ◌≡◌, ℕ, ◌<◌, ◌≤◌, Bool, true, false, List, [], length, Option, Some, None, IfSome, IsSomeAnd}
 use Rattle.mv_deck.specs.Deck.{deck_of}
 use Rattle.mv_deck.specs.Fault.{first_fault}
-use Rattle.mv_deck.specs.Load.{load_text}
+use Rattle.mv_deck.specs.Load.{load_jobs}
 use Rattle.mv_ending.specs.Input.{IsWhole, IsTooLong, IsCut, IsAllOrNothing}
 use Rattle.mv_ending.specs.Written.{Extent, Nothing, PartOfReport, PartOfJournal, Everything, Wrote, WroteOf}
 use Rattle.mv_replay.specs.Outcome as replay
@@ -54,10 +54,10 @@ pub record TellsRun (n : ℕ) (input report journal : List ℕ) : Type 0 where
   pub reported : report ≡ report_of input
   pub run : IsJournalOfRun (deck_of input) n journal
 
--- the summary of a load, and the journal of a run of its deck with n initiators
+-- the summary of a load, and the journal of a run of its jobs with n initiators
 pub record TellsLoad (jobs n : ℕ) (report journal : List ℕ) : Type 0 where
   pub reported : report ≡ load_summary jobs n
-  pub run : IsJournalOfRun (deck_of (load_text jobs)) n journal
+  pub run : IsJournalOfRun (load_jobs jobs) n journal
 
 -- the answers of a script, and the journal of the same run of it
 pub record TellsScript (input report journal : List ℕ) : Type 0 where

@@ -4,7 +4,7 @@
 ghost use Rattle.std.specs.Prelude.{◌≡◌, ◌≤◌, ◌++◌, ℕ, List, length, None};
 ghost use Rattle.mv_deck.specs.Deck.{JobData, deck_of};
 ghost use Rattle.mv_deck.specs.Fault.{first_fault};
-ghost use Rattle.mv_deck.specs.Load.{most_jobs, load_text};
+ghost use Rattle.mv_deck.specs.Load.{most_jobs, load_jobs};
 ghost use Rattle.mv_deck.specs.Weight.{most_initiators};
 ghost use Rattle.mv_calls.specs.Prelude.{Entry, Setup};
 ghost use Rattle.mv_progress.specs.Progress.{CannotDeadlock};
@@ -33,5 +33,5 @@ pub fn decks_do_not_deadlock()
         → (told : TellsRun n input report journal) → told.run.events ≡ before ++ later → CannotDeadlock (deck_of input) n before }
     ensures load { (jobs n : ℕ) (report journal : List ℕ) (before later : List Entry) → 1 ≤ jobs → jobs ≤ most_jobs → 1 ≤ n
         → n ≤ most_initiators → (told : TellsLoad jobs n report journal) → told.run.events ≡ before ++ later
-        → CannotDeadlock (deck_of (load_text jobs)) n before }
+        → CannotDeadlock (load_jobs jobs) n before }
 {}

@@ -2,7 +2,7 @@
 //! `Outcome.antt` of mv_report.
 
 ghost use Rattle.std.specs.Prelude.{◌≡◌, ◌≤◌, length, None, IfOk, IfErr};
-ghost use Rattle.mv_deck.specs.Prelude.{deck_data, deck_of, first_fault, load_text, IsSound, most_initiators};
+ghost use Rattle.mv_deck.specs.Prelude.{deck_data, deck_of, first_fault, load_jobs, load_text, IsSound, most_initiators};
 ghost use Rattle.mv_report.specs.Outcome.{report};
 ghost use Rattle.mv_report.specs.Summary.{load_summary};
 ghost use Rattle.mv_work.specs.Recording.{IsRunOf};
@@ -132,7 +132,7 @@ pub(crate) fn texts_of_load<X: Threads + Wait + Clock + Sync, G: Gate + Sync>(
     requires jobs { AreJobs jobs }
     requires initiators { AreInitiators initiators }
     ensures report { IfOk result (λ texts. texts.report.items ≡ load_summary jobs initiators) }
-    ensures run { IfOk result (λ texts. IsJournalOfRun (deck_of (load_text jobs)) initiators texts.journal) }
+    ensures run { IfOk result (λ texts. IsJournalOfRun (load_jobs jobs) initiators texts.journal) }
 {
     let deck = deck_of_load(host.alloc, jobs, initiators)?;
     let run = run_of(host, &deck, initiators, Way::Threads)?;

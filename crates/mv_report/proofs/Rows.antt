@@ -1,5 +1,5 @@
 -- Worked rows of the definitions, by computing them.
-use Rattle.std.proofs.Common.{◌≡◌, ℕ, ◌≤◌, List, [], ◌∷◌, ◌++◌, codes, refl, ap, ◌∙◌, arith}
+use Rattle.std.proofs.Common.{◌≡◌, ℕ, List, [], ◌∷◌, ◌++◌, codes, refl}
 use Rattle.std.specs.Fmt.{digits}
 use Rattle.mv_deck.specs.declared.deck.Step.{Step}
 use Rattle.mv_deck.specs.declared.deck.Step.TheVariants.{Print, Use, Free, Count, Scan, Abend, Return}
@@ -7,10 +7,8 @@ use Rattle.mv_deck.specs.declared.deck.After.{After}
 use Rattle.mv_deck.specs.Deck.{JobData}
 use Rattle.mv_latch.specs.declared.request.Mode.TheVariants.{Shared, Exclusive}
 use Rattle.mv_report.specs.Report.{outcome_text}
-use Rattle.mv_deck.specs.Load.{most_jobs, load_jobs}
-use Rattle.mv_deck.proofs.Loads.{stated_jobs}
 use Rattle.mv_report.specs.Outcome.{ends, report}
-use Rattle.mv_report.specs.Summary.{summary_of, load_summary}
+use Rattle.mv_report.specs.Summary.{load_summary}
 
 -- ---- ends
 
@@ -126,18 +124,14 @@ after_an_abend = refl
 
 -- ---- summaries of loads
 
--- the deck that a load's text states is that of its rule
-by_rule : (jobs initiators : ℕ) → 1 ≤ jobs → jobs ≤ most_jobs → load_summary jobs initiators ≡ summary_of jobs initiators (load_jobs jobs)
-by_rule jobs initiators some few = ap (summary_of jobs initiators) (stated_jobs jobs some few)
-
 load_1_1 : load_summary 1 1 ≡ codes "LOAD 1 1\nJOBS 1 ENDED 1 ABENDED 0 NOT RUN 0\nVOLUMES 1 0 0 0 0 0 0 0\n"
 unfolding digits
-load_1_1 = by_rule 1 1 (omega arith) (omega arith) ∙ refl
+load_1_1 = refl
 
 load_7_2 : load_summary 7 2 ≡ codes "LOAD 7 2\nJOBS 7 ENDED 6 ABENDED 1 NOT RUN 0\nVOLUMES 1 2 3 4 5 6 7 0\n"
 unfolding digits
-load_7_2 = by_rule 7 2 (omega arith) (omega arith) ∙ refl
+load_7_2 = refl
 
 load_40_3 : load_summary 40 3 ≡ codes "LOAD 40 3\nJOBS 40 ENDED 34 ABENDED 5 NOT RUN 1\nVOLUMES 31 27 23 19 15 20 25 24\n"
 unfolding digits
-load_40_3 = by_rule 40 3 (omega arith) (omega arith) ∙ refl
+load_40_3 = refl

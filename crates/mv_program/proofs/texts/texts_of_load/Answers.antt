@@ -11,7 +11,7 @@ use Rattle.mv_machine.specs.Setup.{Setup}
 use Rattle.mv_entrytext.specs.Journal.{journal_text}
 use Rattle.mv_report.specs.EndCode.{IsEndCode}
 use Rattle.mv_report.specs.Outcome.{ends, totals}
-use Rattle.mv_report.specs.Summary.{summary_of, summary_text}
+use Rattle.mv_report.specs.Summary.{summary_text}
 use Rattle.mv_report.proofs.Lengths.{one_end_per_job, eight_totals}
 use Rattle.mv_report.proofs.SoundDecks.{sound_ends}
 use Rattle.mv_program.specs.Texts.{IsJournalOfRun}
@@ -60,7 +60,8 @@ returns-clause-report g c =
     c.in_ok-report.ensures.text
     ∙ ap (λ xs. summary_text c.args.jobs c.args.initiators xs c.deref-2.result.now) es
     ∙ ap (λ xs. summary_text c.args.jobs c.args.initiators (ends deck) xs) vs
-    ∙ ap (λ (d : List JobData). summary_of c.args.jobs c.args.initiators d) c.in_ok-deck.ensures.deck
+    ∙ ap (λ (d : List JobData). summary_text c.args.jobs c.args.initiators (ends d) (totals d))
+    (c.in_ok-deck.ensures.deck ∙ stated_jobs c.args.jobs c.requires.jobs.0 c.requires.jobs.1)
 
 pub returns-clause-run : goal.returns-clause-run
 returns-clause-run g c =
@@ -71,7 +72,8 @@ returns-clause-run g c =
     subst (λ (d : List JobData). IsSound d c.args.initiators) (sym c.in_ok-deck.ensures.deck)
     (sound (load_text c.args.jobs) c.args.initiators
     (no_fault c.args.jobs c.args.initiators c.requires.jobs.0 c.requires.jobs.1 c.requires.initiators.1)) in
-    subst (λ (d : List JobData). IsJournalOfRun d c.args.initiators c.in_ok-journal.journal) c.in_ok-deck.ensures.deck
+    subst (λ (d : List JobData). IsJournalOfRun d c.args.initiators c.in_ok-journal.journal)
+    (c.in_ok-deck.ensures.deck ∙ stated_jobs c.args.jobs c.requires.jobs.0 c.requires.jobs.1)
     (journal_of_run deck c.args.initiators es c.in_ok-journal.journal c.requires.initiators.0 c.requires.initiators.1 is_sound run.run
     (omega (arith, run.few)) run.places c.in_ok-journal.ensures.typed
     (c.in_ok-journal.ensures.text ∙ ap (λ (x : Setup). journal_text x es) run.config))
