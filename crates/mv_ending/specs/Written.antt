@@ -12,9 +12,7 @@ pub data Extent : Type 0 where
 -- a fact that holds if the writing did not begin
 abbrev pub IfUnwritten : Extent → Type 0 → Type 0
 IfUnwritten Nothing P = P
-IfUnwritten PartOfReport P = Unit {0}
-IfUnwritten PartOfJournal P = Unit {0}
-IfUnwritten Everything P = Unit {0}
+IfUnwritten _ P = Unit {0}
 
 -- what the sinks of the report and of the journal have taken before (0) and after (1), if they report it
 abbrev pub Wrote : Extent → (report0 report1 journal0 journal1 : Option (List ℕ)) → (report journal : List ℕ) → Type 0

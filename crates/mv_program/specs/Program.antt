@@ -14,8 +14,8 @@ use Rattle.mv_program.specs.declared.command.Command.{Command}
 use Rattle.mv_program.specs.declared.command.Command.TheVariants.{Spool, Load, Journal, Polled}
 use Rattle.mv_program.specs.declared.command.Command.TheVariants as asked
 use Rattle.mv_program.specs.declared.status.Status.{Status}
-use Rattle.mv_program.specs.declared.status.Status.TheVariants.{Done, Words, Deck, TooLong, ReadFailed, ReportFailed}
-use Rattle.mv_program.specs.declared.status.Status.TheVariants.{JournalFailed, NoMemory, Illegal, Text}
+use Rattle.mv_program.specs.declared.status.Status.TheVariants.{Done, Deck, TooLong, ReadFailed, ReportFailed}
+use Rattle.mv_program.specs.declared.status.Status.TheVariants.{JournalFailed, NoMemory}
 use Rattle.mv_program.specs.declared.status.Status.TheVariants.{Script}
 use Rattle.mv_program.specs.Texts.{deck_limit, report_of, IsJournalOfRun, IsRunOfScript}
 use Rattle.mv_program.specs.Status.{replay_of}
@@ -78,19 +78,13 @@ TellsTexts (Polled n seed) input report journal = TellsRun n input report journa
 
 -- whether a command writes a journal
 abbrev pub has_journal : Command → Bool
-has_journal (Spool n) = true
-has_journal (Load jobs n) = true
-has_journal asked.Script = true
 has_journal (Journal command) = false
-has_journal (Polled n seed) = true
+has_journal _ = true
 
 -- whether a command reads its input
 abbrev pub reads_input : Command → Bool
-reads_input (Spool n) = true
 reads_input (Load jobs n) = false
-reads_input asked.Script = true
-reads_input (Journal command) = true
-reads_input (Polled n seed) = true
+reads_input _ = true
 
 -- the input that a command works on: an empty one if it reads none
 abbrev pub input_told : Command → Option (List ℕ) → Option (List ℕ)
@@ -174,14 +168,7 @@ abbrev pub extent_of : Status → Extent
 extent_of Done = Everything
 extent_of ReportFailed = PartOfReport
 extent_of JournalFailed = PartOfJournal
-extent_of Words = Nothing
-extent_of (Deck fault) = Nothing
-extent_of TooLong = Nothing
-extent_of ReadFailed = Nothing
-extent_of NoMemory = Nothing
-extent_of (Script fault) = Nothing
-extent_of (Illegal line) = Nothing
-extent_of (Text fault) = Nothing
+extent_of _ = Nothing
 
 -- the contents of the two sinks: as much of the texts that the command makes of the input as the ending says
 abbrev pub Told : Option Command → Status → (input report0 report1 journal0 journal1 : Option (List ℕ)) → Type 0

@@ -46,10 +46,7 @@ abbrev pub IsFound : List ℕ → ReplayStatus → Type 0
 IsFound bytes Done = (count : ℕ) × IsLegalJournal bytes count
 IsFound bytes (Illegal line) = IsIllegalAt bytes line
 IsFound bytes (Text fault) = text_fault bytes ≡ Some fault
-IsFound bytes TooLong = ⊥
-IsFound bytes ReadFailed = ⊥
-IsFound bytes ReportFailed = ⊥
-IsFound bytes NoMemory = ⊥
+IsFound bytes _ = ⊥
 
 -- the ending that an input calls for, if no stream fails and there is enough memory
 abbrev pub Asks : List ℕ → ReplayStatus → Type 0
@@ -70,19 +67,14 @@ Owes read wrote input status = ¬ read → IfSome input (λ bytes. (wanted : Rep
 
 -- ---- the input, and what is left of it after a command
 
--- the input was read to its end
-abbrev pub IsRead : List ℕ → Option (List ℕ) → Type 0
-IsRead bytes left = IsWhole journal_limit bytes left
-
--- What the input was, if its source shows its bytes, and what is left of it, after each status.
+-- What the input was, if its source shows its bytes, and what is left of it, after each status. After a status that has no line of
+-- its own, the input was read to its end, and it is what the status says.
 abbrev pub InputOf : ReplayStatus → Option (List ℕ) → Option (List ℕ) → Type 0
-InputOf Done old new = IfSome old (λ bytes. IsRead bytes new × IsFound bytes Done)
-InputOf ReportFailed old new = IfSome old (λ bytes. IsRead bytes new × IsFound bytes Done)
-InputOf (Illegal line) old new = IfSome old (λ bytes. IsRead bytes new × IsFound bytes (Illegal line))
-InputOf (Text fault) old new = IfSome old (λ bytes. IsRead bytes new × IsFound bytes (Text fault))
 InputOf TooLong old new = IfSome old (λ bytes. IsTooLong journal_limit bytes new)
 InputOf ReadFailed old new = IfSome old (λ bytes. IsCut journal_limit bytes new)
 InputOf NoMemory old new = IsAllOrNothing journal_limit old new
+InputOf ReportFailed old new = IfSome old (λ bytes. IsWhole journal_limit bytes new × IsFound bytes Done)
+InputOf found old new = IfSome old (λ bytes. IsWhole journal_limit bytes new × IsFound bytes found)
 
 -- ---- the report after a command
 
