@@ -2,7 +2,6 @@
 use Rattle.std.specs.Prelude.{ℕ, ◌+◌, Bool, ◌==◌, ◌||◌, nat_eq, List, take, drop, position, Option, option_map, codes}
 use Rattle.std.specs.List.{position_or_len, starts_with}
 use Rattle.mv_line.specs.Line.{shown, is_ignored}
-use Rattle.mv_line.specs.Part.{parts_at}
 
 -- whether a text is a comment: an asterisk follows the slashes at once
 abbrev pub is_comment : List ℕ → Bool
@@ -14,17 +13,13 @@ is_passed line = is_ignored line || is_comment (shown line)
 
 -- ---- the parts of a list
 
--- the comma, which separates the names of a list
+-- the comma, which separates the parts of a list; parts may be empty, and there is always one
 abbrev pub comma : ℕ
 comma = 44
 
 -- whether a byte is the colon, which separates a name from the accepted code
 abbrev pub is_colon : ℕ → Bool
 is_colon b = b == 58
-
--- the parts of a list between its commas, empty ones too; there is always one
-abbrev pub parts_of : List ℕ → List (List ℕ)
-parts_of list = parts_at comma list
 
 -- what precedes the first colon of a part; the whole part if there is none
 abbrev pub before_colon : List ℕ → List ℕ

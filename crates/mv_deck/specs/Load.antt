@@ -45,13 +45,9 @@ digit_of weight n = 48 + n / weight % 10
 abbrev pub four_digits : ℕ → List ℕ
 four_digits n = digit_of 1000 n ∷ digit_of 100 n ∷ digit_of 10 n ∷ digit_of 1 n ∷ []
 
--- a number below 100000, with zeros in front
-abbrev pub five_digits : ℕ → List ℕ
-five_digits n = digit_of 10000 n ∷ four_digits n
-
--- the name of job i: `J` and i
+-- the name of job i: `J` and i in five digits
 abbrev pub load_name : ℕ → List ℕ
-load_name i = codes "J" ++ five_digits i
+load_name i = codes "J" ++ digit_of 10000 i ∷ four_digits i
 
 -- the rest of the JOB statement, if job i waits
 abbrev pub after_text : ℕ → List ℕ

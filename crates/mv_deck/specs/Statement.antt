@@ -8,7 +8,8 @@ use Rattle.mv_deck.specs.declared.form.Version.TheVariants.{One, Two}
 use Rattle.mv_line.specs.Line.{without_first_spaces}
 use Rattle.mv_line.specs.Field.{fields_of, one_of, two_of}
 use Rattle.mv_line.specs.Line.{shown}
-use Rattle.mv_deck.specs.Line.{is_comment, is_passed, parts_of, before_colon, behind_colon}
+use Rattle.mv_line.specs.Part.{parts_at}
+use Rattle.mv_deck.specs.Line.{comma, is_comment, is_passed, before_colon, behind_colon}
 use Rattle.mv_deck.specs.Operand.{mode_of}
 
 -- a part of an AFTER list: the bytes in the place of a name, and in that of an accepted code if there is one
@@ -39,7 +40,7 @@ part_of Two part = record { name = before_colon part; most = behind_colon part }
 -- the JOB of this name with this third field, which is `AFTER=` and a list
 abbrev pub job_after : Version → List ℕ → List ℕ → Option Statement
 job_after v name third =
-    if starts_with nat_eq third (codes "AFTER=") then Some (JobOf name (map (part_of v) (parts_of (drop 6 third)))) else None
+    if starts_with nat_eq third (codes "AFTER=") then Some (JobOf name (map (part_of v) (parts_at comma (drop 6 third)))) else None
 
 -- the JOB of these fields, the first of which follows the slashes at once: `NAME JOB` or `NAME JOB AFTER=list`
 abbrev pub job_of : Version → List (List ℕ) → Option Statement
@@ -71,18 +72,15 @@ one_operand v operation operand =
     else if bytes_eq operation (codes "DECK") then option_map DeckOf operand
     else None
 
--- the statement of an operation and its operands; the text of a PRINT is all that follows the operation and one space
-abbrev pub operated : Version → List ℕ → List ℕ → List (List ℕ) → Option Statement
-operated v rest operation operands =
+-- the statement of a line without a name, which is an operation and its operands; the text of a PRINT is all that follows the
+-- operation and one space
+abbrev pub operation_of : Version → List ℕ → List (List ℕ) → Option Statement
+operation_of v rest [] = None
+operation_of v rest (operation ∷ operands) =
     if bytes_eq operation (codes "PRINT") then Some (PrintOf (drop 6 (without_first_spaces rest)))
     else if bytes_eq operation (codes "USE") then use_of (two_of operands)
     else if bytes_eq operation (codes "COUNT") then option_map (λ (o : List ℕ × List ℕ). CountOf o.0 o.1) (two_of operands)
     else one_operand v operation (one_of operands)
-
--- the statement of a line without a name, by its first field
-abbrev pub operation_of : Version → List ℕ → List (List ℕ) → Option Statement
-operation_of v rest [] = None
-operation_of v rest (operation ∷ operands) = operated v rest operation operands
 
 -- ---- lines
 
