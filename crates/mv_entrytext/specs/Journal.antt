@@ -88,10 +88,6 @@ text_of version c entries calls =
 abbrev pub text1 : Setup → List Entry → List ℕ
 text1 c entries = text_of One c entries []
 
--- the text in version 2, with these call numbers
-abbrev pub text2 : Setup → List Entry → List ℕ → List ℕ
-text2 c entries numbers = text_of Two c entries numbers
-
 -- the text that is written: version 2 with the machine's call numbers
 abbrev pub journal_text : Setup → List Entry → List ℕ
-journal_text c entries = text2 c entries (calls c entries)
+journal_text c entries = text_of Two c entries (calls c entries)

@@ -54,13 +54,9 @@ parted_by first second = parted_at (codes " ") first second
 abbrev pub parted : {A B : Type 0} → Reader A → Reader B → Reader (A × B)
 parted first second = parted_by first (λ x. second)
 
--- the value that was read, if no text is left
-abbrev pub ended : {A : Type 0} → Option (A × List ℕ) → Option A
-ended read = option_and_then (λ x. if length x.1 == 0 then Some x.0 else None) read
-
 -- the value of a text that is read to its end
 abbrev pub whole : {A : Type 0} → Reader A → List ℕ → Option A
-whole reader text = ended (reader text)
+whole reader text = option_and_then (λ x. if length x.1 == 0 then Some x.0 else None) (reader text)
 
 -- ---- numbers
 
