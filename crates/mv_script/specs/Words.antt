@@ -1,5 +1,5 @@
 -- Reading the words of a line: into a value, or not, for one of two reasons.
-use Rattle.std.specs.Prelude.{ℕ, List, [], ◌∷◌, Option, Some, None, option_map, Result, Ok, Err}
+use Rattle.std.specs.Prelude.{ℕ, List, [], ◌∷◌, Option, Some, None, option_map, unwrap_or, Result, Ok, Err}
 use Rattle.mv_line.specs.Field.{one_of, two_of}
 use Rattle.mv_script.specs.declared.words.Misread.{Misread}
 use Rattle.mv_script.specs.declared.words.Misread.TheVariants.{NoForm, BadNumber}
@@ -37,23 +37,18 @@ each {A = A} f (word ∷ words) = making (λ (p : A × List A). p.0 ∷ p.1) (bo
 
 -- ---- a fixed number of words
 
--- the value of the right number of words; if their number is another, they fit no form
-abbrev pub formed : {A : Type 0} → Option (Read A) → Read A
-formed None = Err NoForm
-formed (Some read) = read
-
 -- a value that has no words
 abbrev pub none : {A : Type 0} → A → List (List ℕ) → Read A
 none a [] = Ok a
 none a (word ∷ words) = Err NoForm
 
--- a value of exactly one word
+-- a value of exactly one word; any other number of words fits no form
 abbrev pub one : {A : Type 0} → (List ℕ → Read A) → List (List ℕ) → Read A
-one f words = formed (option_map f (one_of words))
+one f words = unwrap_or (option_map f (one_of words)) (Err NoForm)
 
 -- a pair of values of exactly two words
 abbrev pub two : {A B : Type 0} → (List ℕ → Read A) → (List ℕ → Read B) → List (List ℕ) → Read (A × B)
-two f g words = formed (option_map (λ p. both (f p.0) (g p.1)) (two_of words))
+two f g words = unwrap_or (option_map (λ p. both (f p.0) (g p.1)) (two_of words)) (Err NoForm)
 
 -- the value of the first word, and that of the words after it
 abbrev pub led_by : {A B : Type 0} → (List ℕ → Read A) → (List (List ℕ) → Read B) → List (List ℕ) → Read (A × B)
@@ -68,4 +63,4 @@ three_of (first ∷ words) = option_map (λ p. (first, p)) (two_of words)
 -- three values of exactly three words
 abbrev pub three : {A B C : Type 0} → (List ℕ → Read A) → (List ℕ → Read B) → (List ℕ → Read C) → List (List ℕ)
     → Read (A × (B × C))
-three f g h words = formed (option_map (λ p. both (f p.0) (both (g p.1.0) (h p.1.1))) (three_of words))
+three f g h words = unwrap_or (option_map (λ p. both (f p.0) (both (g p.1.0) (h p.1.1))) (three_of words)) (Err NoForm)
