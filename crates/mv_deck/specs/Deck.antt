@@ -9,7 +9,7 @@ use Rattle.mv_deck.specs.declared.deck.Job.{Job}
 use Rattle.mv_deck.specs.declared.deck.Deck.{Deck}
 use Rattle.mv_line.specs.Line.{lines_of}
 use Rattle.mv_deck.specs.Operand.{latch_of, amount_of, code_of, end_code_of}
-use Rattle.mv_deck.specs.Statement.{Statement, Null, DeckOf, JobOf, PrintOf, UseOf, FreeOf, CountOf, ScanOf, AbendOf, ReturnOf, AfterPart}
+use Rattle.mv_deck.specs.Statement.{Statement, JobOf, PrintOf, UseOf, FreeOf, CountOf, ScanOf, AbendOf, ReturnOf, AfterPart}
 use Rattle.mv_deck.specs.Statement.{statements_of, version_of}
 
 -- a job as contracts see it, independent of where it is in memory
@@ -43,9 +43,6 @@ after_of jobs part = record { job = unwrap_or (place_of jobs part.name) 0; most 
 
 -- the step that a statement states, if its numbers and codes are valid
 abbrev pub step_of : Statement → Option Step
-step_of Null = None
-step_of (DeckOf version) = None
-step_of (JobOf name after) = None
 step_of (PrintOf text) = Some (Print text)
 step_of (UseOf latch mode) = option_map (λ l. Use l mode) (latch_of latch)
 step_of (FreeOf latch) = option_map Free (latch_of latch)
@@ -53,6 +50,7 @@ step_of (CountOf volume amount) = option_and_then (λ v. option_map (Count v) (a
 step_of (ScanOf volume) = option_map Scan (latch_of volume)
 step_of (AbendOf code) = option_map Abend (end_code_of code)
 step_of (ReturnOf code) = option_map Return (code_of code)
+step_of _ = None
 
 -- the jobs, the last of which has one more step
 abbrev pub with_step : List JobData → Step → List JobData
@@ -69,18 +67,10 @@ with_steps jobs (Some step) = with_step jobs step
 abbrev pub fresh_job : List JobData → List ℕ → List AfterPart → JobData
 fresh_job jobs name after = record { name = name; after = map (after_of jobs) after; steps = [] }
 
--- the jobs after one more statement
+-- the jobs after one more statement: a JOB begins a job, a step joins the last one, and the others change nothing
 abbrev pub jobs_behind : List JobData → Statement → List JobData
-jobs_behind jobs Null = jobs
-jobs_behind jobs (DeckOf version) = jobs
 jobs_behind jobs (JobOf name after) = jobs ++ fresh_job jobs name after ∷ []
-jobs_behind jobs (PrintOf text) = with_steps jobs (step_of (PrintOf text))
-jobs_behind jobs (UseOf latch mode) = with_steps jobs (step_of (UseOf latch mode))
-jobs_behind jobs (FreeOf latch) = with_steps jobs (step_of (FreeOf latch))
-jobs_behind jobs (CountOf volume amount) = with_steps jobs (step_of (CountOf volume amount))
-jobs_behind jobs (ScanOf volume) = with_steps jobs (step_of (ScanOf volume))
-jobs_behind jobs (AbendOf code) = with_steps jobs (step_of (AbendOf code))
-jobs_behind jobs (ReturnOf code) = with_steps jobs (step_of (ReturnOf code))
+jobs_behind jobs s = with_steps jobs (step_of s)
 
 -- the jobs that these statements state, in order
 abbrev pub jobs_of : List Statement → List JobData

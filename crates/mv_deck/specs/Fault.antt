@@ -16,7 +16,7 @@ use Rattle.mv_line.specs.Fault as of_lines
 pub use Rattle.mv_line.specs.Fault.{TellsFirst}
 use Rattle.mv_deck.specs.Line.{is_passed}
 use Rattle.mv_deck.specs.Operand.{is_name, code_of, most_after}
-use Rattle.mv_deck.specs.Statement.{Statement, Null, DeckOf, JobOf, PrintOf, UseOf, FreeOf, CountOf, ScanOf, AbendOf, ReturnOf, AfterPart}
+use Rattle.mv_deck.specs.Statement.{Statement, Null, DeckOf, JobOf, AfterPart}
 use Rattle.mv_deck.specs.Statement.{statement_of, version_of}
 use Rattle.mv_deck.specs.Deck.{JobData, place_of, step_of, jobs_behind, jobs_of, last_steps}
 use Rattle.mv_deck.specs.Held.{is_out_of_order, lacks_latch, is_end}
@@ -48,31 +48,20 @@ has_no_form v line = not (is_passed line) && is_none (statement_of v line)
 
 -- ---- sorts of statements
 
--- a test by sort of statement: its results for the null statement, for a DECK by its word, for a JOB by its name and list, and
--- for a step
-abbrev pub by_sort : Bool → (List ℕ → Bool) → (List ℕ → List AfterPart → Bool) → Bool → Statement → Bool
-by_sort null deck job step Null = null
-by_sort null deck job step (DeckOf version) = deck version
-by_sort null deck job step (JobOf name after) = job name after
-by_sort null deck job step (PrintOf text) = step
-by_sort null deck job step (UseOf latch mode) = step
-by_sort null deck job step (FreeOf latch) = step
-by_sort null deck job step (CountOf volume amount) = step
-by_sort null deck job step (ScanOf volume) = step
-by_sort null deck job step (AbendOf code) = step
-by_sort null deck job step (ReturnOf code) = step
-
 -- whether a statement is a JOB for which the test is true
 abbrev pub is_job_that : (List ℕ → List AfterPart → Bool) → Statement → Bool
-is_job_that test s = by_sort false (λ version. false) test false s
+is_job_that test (JobOf name after) = test name after
+is_job_that test _ = false
 
 -- whether a statement is the null statement
 abbrev pub is_null : Statement → Bool
-is_null s = by_sort true (λ version. false) (λ name after. false) false s
+is_null Null = true
+is_null _ = false
 
 -- whether a statement is a DECK
 abbrev pub is_deck : Statement → Bool
-is_deck s = by_sort false (λ version. true) (λ name after. false) false s
+is_deck (DeckOf version) = true
+is_deck _ = false
 
 -- whether a statement is a JOB
 abbrev pub is_job : Statement → Bool
@@ -91,9 +80,10 @@ accepts_no_code (Some code) = is_none (code_of code)
 
 -- whether a statement has an invalid number, amount or code, or is a DECK with another version than 2
 abbrev pub has_bad_number : Statement → Bool
-has_bad_number s =
-    by_sort false (λ version. not (bytes_eq version (codes "2"))) (λ name after. list_any (λ (p : AfterPart). accepts_no_code p.most) after)
-    (is_none (step_of s)) s
+has_bad_number Null = false
+has_bad_number (DeckOf version) = not (bytes_eq version (codes "2"))
+has_bad_number (JobOf name after) = list_any (λ (p : AfterPart). accepts_no_code p.most) after
+has_bad_number s = is_none (step_of s)
 
 -- ---- the place of a statement
 

@@ -44,11 +44,9 @@ job_after v name third =
 
 -- the JOB of these fields, the first of which follows the slashes at once: `NAME JOB` or `NAME JOB AFTER=list`
 abbrev pub job_of : Version → List (List ℕ) → Option Statement
-job_of v [] = None
-job_of v (name ∷ []) = None
 job_of v (name ∷ operation ∷ []) = if bytes_eq operation (codes "JOB") then Some (JobOf name []) else None
 job_of v (name ∷ operation ∷ third ∷ []) = if bytes_eq operation (codes "JOB") then job_after v name third else None
-job_of v (name ∷ operation ∷ third ∷ fourth ∷ more) = None
+job_of v _ = None
 
 -- ---- operations without a name
 
