@@ -44,17 +44,13 @@ kind_number BadTable = 12
 
 -- whether a line's words fit no form; an ignored line needs none
 abbrev pub has_no_form : Option (Read Statement) → Bool
-has_no_form None = false
-has_no_form (Some (Ok s)) = false
 has_no_form (Some (Err misread.NoForm)) = true
-has_no_form (Some (Err misread.BadNumber)) = false
+has_no_form _ = false
 
 -- whether a line has a number with a leading zero, out of its range, or of no task, block, element, volume, event or position
 abbrev pub has_bad_number : Option (Read Statement) → Bool
-has_bad_number None = false
-has_bad_number (Some (Ok s)) = false
-has_bad_number (Some (Err misread.NoForm)) = false
 has_bad_number (Some (Err misread.BadNumber)) = true
+has_bad_number _ = false
 
 -- ---- the place of a statement: the sorts of lines on which the places of others depend
 
@@ -125,13 +121,8 @@ is_miscounted earlier statement.End = nat_lt (length (tasks_of earlier)) (task_c
 
 -- whether a statement is an EXIT with a target that is not above its source
 abbrev pub leads_down : Statement → Bool
-leads_down (statement.Script t) = false
-leads_down (statement.Ecb owner) = false
 leads_down (statement.Exit source targets) = list_any (λ target. nat_le target source) targets
-leads_down (statement.Table t) = false
-leads_down statement.Task = false
-leads_down (statement.Call c) = false
-leads_down statement.End = false
+leads_down _ = false
 
 -- the number of the OBTAIN that a call names, counted from 1, if it names one
 abbrev pub obtain_meant : Call → Option ℕ
@@ -146,13 +137,8 @@ is_no_obtain calls (Some k) = not (is_within 1 (count_by is_obtain calls) k)
 
 -- whether a statement is a CHECK or a FREE that names no earlier OBTAIN of its task
 abbrev pub lacks_obtain : List Statement → Statement → Bool
-lacks_obtain earlier (statement.Script t) = false
-lacks_obtain earlier (statement.Ecb owner) = false
-lacks_obtain earlier (statement.Exit source targets) = false
-lacks_obtain earlier (statement.Table t) = false
-lacks_obtain earlier statement.Task = false
 lacks_obtain earlier (statement.Call c) = is_no_obtain (last_task (tasks_of earlier)) (obtain_meant c)
-lacks_obtain earlier statement.End = false
+lacks_obtain earlier _ = false
 
 -- whether the calls up to this statement may make more events than a run may have
 abbrev pub is_too_costly : List Statement → Statement → Bool
@@ -160,23 +146,13 @@ is_too_costly earlier s = nat_lt events_limit (sum (budgets_of (earlier ++ s ∷
 
 -- whether a statement is a call other than EVPOST and EVNEXT that uses what the table reserves
 abbrev pub uses_table : List Statement → Statement → Bool
-uses_table earlier (statement.Script t) = false
-uses_table earlier (statement.Ecb owner) = false
-uses_table earlier (statement.Exit source targets) = false
-uses_table earlier (statement.Table t) = false
-uses_table earlier statement.Task = false
 uses_table earlier (statement.Call c) = uses_any (table_of earlier) c
-uses_table earlier statement.End = false
+uses_table earlier _ = false
 
 -- whether a statement is a TABLE that the configuration cannot have
 abbrev pub is_bad_table : List Statement → Statement → Bool
-is_bad_table earlier (statement.Script t) = false
-is_bad_table earlier (statement.Ecb owner) = false
-is_bad_table earlier (statement.Exit source targets) = false
 is_bad_table earlier (statement.Table t) = is_some (table_refusal (setup_with earlier []) t)
-is_bad_table earlier statement.Task = false
-is_bad_table earlier (statement.Call c) = false
-is_bad_table earlier statement.End = false
+is_bad_table earlier _ = false
 
 -- ---- all faults, and the first
 
@@ -194,9 +170,8 @@ kinds_behind earlier s =
 
 -- the kinds of fault of a line's statement; none if the line states nothing
 abbrev pub kinds_of_statement : List Statement → Option (Read Statement) → List ℕ
-kinds_of_statement earlier None = []
 kinds_of_statement earlier (Some (Ok s)) = kinds_behind earlier s
-kinds_of_statement earlier (Some (Err why)) = []
+kinds_of_statement earlier _ = []
 
 -- the kinds of fault of a line after the earlier statements, rising
 abbrev pub kinds_of : List Statement → List ℕ → List ℕ

@@ -1,6 +1,6 @@
 -- The script, and the script that a text without fault states.
 use Rattle.std.specs.Prelude.{ℕ, Bool, true, false, List, [], ◌∷◌, ◌++◌, length, map, fold, filter_map, Option, Some, None}
-use Rattle.std.specs.Prelude.{Ok, Err}
+use Rattle.std.specs.Prelude.{Ok}
 use Rattle.mv_line.specs.Line.{lines_of}
 use Rattle.mv_machine.specs.Check.{or_else}
 use Rattle.mv_machine.specs.Setup.{Setup, SetupExit}
@@ -31,22 +31,12 @@ script_data s = record { setup = s.config; tasks = s.tasks.items; table = s.tabl
 abbrev pub task_count : List Statement → ℕ
 task_count [] = 0
 task_count (statement.Script t ∷ statements) = t
-task_count (statement.Ecb owner ∷ statements) = task_count statements
-task_count (statement.Exit source targets ∷ statements) = task_count statements
-task_count (statement.Table t ∷ statements) = task_count statements
-task_count (statement.Task ∷ statements) = task_count statements
-task_count (statement.Call c ∷ statements) = task_count statements
-task_count (statement.End ∷ statements) = task_count statements
+task_count (_ ∷ statements) = task_count statements
 
 -- the owner of a block, if a statement is an ECB
 abbrev pub owner_in : Statement → Option ℕ
-owner_in (statement.Script t) = None
 owner_in (statement.Ecb owner) = Some owner
-owner_in (statement.Exit source targets) = None
-owner_in (statement.Table t) = None
-owner_in statement.Task = None
-owner_in (statement.Call c) = None
-owner_in statement.End = None
+owner_in _ = None
 
 -- the owners of all blocks, in order
 abbrev pub owners_of : List Statement → List ℕ
@@ -54,13 +44,8 @@ owners_of statements = filter_map owner_in statements
 
 -- the exit, if a statement is an EXIT
 abbrev pub exit_in : Statement → Option SetupExit
-exit_in (statement.Script t) = None
-exit_in (statement.Ecb owner) = None
 exit_in (statement.Exit source targets) = Some (record { source = source; targets = targets })
-exit_in (statement.Table t) = None
-exit_in statement.Task = None
-exit_in (statement.Call c) = None
-exit_in statement.End = None
+exit_in _ = None
 
 -- all exits, in order
 abbrev pub exits_of : List Statement → List SetupExit
@@ -68,13 +53,8 @@ exits_of statements = filter_map exit_in statements
 
 -- the table, if a statement is a TABLE
 abbrev pub table_in : Statement → Option Table
-table_in (statement.Script t) = None
-table_in (statement.Ecb owner) = None
-table_in (statement.Exit source targets) = None
 table_in (statement.Table t) = Some t
-table_in statement.Task = None
-table_in (statement.Call c) = None
-table_in statement.End = None
+table_in _ = None
 
 -- the table of the first TABLE, if there is one
 abbrev pub table_of : List Statement → Option Table
@@ -89,13 +69,9 @@ with_call (calls ∷ other ∷ tasks) c = calls ∷ with_call (other ∷ tasks) 
 
 -- the tasks after one more statement
 abbrev pub tasks_behind : List (List Call) → Statement → List (List Call)
-tasks_behind tasks (statement.Script t) = tasks
-tasks_behind tasks (statement.Ecb owner) = tasks
-tasks_behind tasks (statement.Exit source targets) = tasks
-tasks_behind tasks (statement.Table t) = tasks
 tasks_behind tasks statement.Task = tasks ++ [] ∷ []
 tasks_behind tasks (statement.Call c) = with_call tasks c
-tasks_behind tasks statement.End = tasks
+tasks_behind tasks _ = tasks
 
 -- the calls of each task
 abbrev pub tasks_of : List Statement → List (List Call)
@@ -136,9 +112,8 @@ sizes_behind earlier = record { tasks = task_count earlier; ecbs = length (owner
 
 -- the statement that a line adds, if it has one
 abbrev pub added : Option (Read Statement) → List Statement
-added None = []
 added (Some (Ok s)) = s ∷ []
-added (Some (Err why)) = []
+added _ = []
 
 -- the statements after one more line
 abbrev pub with_line : List Statement → List ℕ → List Statement
