@@ -19,6 +19,8 @@ pub mod Taken
 pub mod KindsTaken
 pub mod LinesTaken
 pub mod TextsTaken
+-- a text states a journal exactly if it is the text of it: the law `texts_state_their_journals`
+pub mod Stated
 -- entries that are numbered and written one by one, and the text of a history in pieces
 pub mod OnePass
 pub mod WrittenSoFar

@@ -137,6 +137,14 @@ IsNoLater f g = (f.line < g.line) ⊎ ((f.line ≡ g.line) × (kind_rank f.kind 
 unfoldable pub journal_of : List ℕ → Draft
 journal_of bytes = fold with_line blank (ended_lines bytes)
 
+-- the text has no fault, and states this version, this configuration, these entries and their call numbers
+pub record StatesJournal (bytes : List ℕ) (v : Version) (c : Setup) (es : List Entry) (ns : List ℕ) : Type 0 where
+  pub faultless : text_fault bytes ≡ None
+  pub version : (journal_of bytes).version ≡ v
+  pub setup : (journal_of bytes).setup ≡ c
+  pub entries : (journal_of bytes).entries ≡ es
+  pub calls : (journal_of bytes).calls ≡ ns
+
 -- ---- configurations and entries that have a text
 
 -- a configuration and entries have a text

@@ -6,7 +6,8 @@ ghost use Rattle.mv_calls.specs.Prelude.{Entry, IsValid, Legal, calls as calls_o
 ghost use Rattle.mv_entrytext.specs.declared.version.Version.{Version as AnyVersion};
 ghost use Rattle.mv_entrytext.specs.Ranges.{highest_u32};
 ghost use Rattle.mv_entrytext.specs.EntryText.{IsInRange, IsTyped};
-ghost use Rattle.mv_entrytext.specs.Fault.{HasFault, HasJournal, AreCallsIn, AreCallNumbers, IsNoLater, journal_of, text_fault};
+ghost use Rattle.mv_entrytext.specs.Fault.{HasFault, IsNoLater, journal_of, text_fault};
+ghost use Rattle.mv_entrytext.specs.Fault.{HasJournal, StatesJournal, AreCallsIn, AreCallNumbers};
 ghost use Rattle.mv_entrytext.specs.Journal.{text_of};
 
 /// Shows that a text determines its version, its configuration, its entries and their call numbers: they are what is read from
@@ -35,6 +36,12 @@ pub fn texts_without_fault_are_journals()
     ensures { (bytes : List ℕ) → (text_fault bytes ≡ None)
         ↔ ((v : AnyVersion) × (c : Setup) × (es : List Entry) × (ns : List ℕ)
         × HasJournal c es × AreCallsIn v es ns × (bytes ≡ text_of v c es ns)) }
+{}
+
+/// Shows that a text states a journal exactly if it is the text of it.
+pub fn texts_state_their_journals()
+    ensures { (bytes : List ℕ) (v : AnyVersion) (c : Setup) (es : List Entry) (ns : List ℕ)
+        → StatesJournal bytes v c es ns ↔ (HasJournal c es × AreCallsIn v es ns × (bytes ≡ text_of v c es ns)) }
 {}
 
 /// Shows that the first fault is one that the text has, and that no other fault comes before it, by line and then by the order

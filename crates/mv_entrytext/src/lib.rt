@@ -24,7 +24,7 @@ pub use fault::Kind;
 pub use history_text::HistoryText;
 pub use laws::{
     first_fault_is_lowest, legal_lists_have_texts, text_determines_journal,
-    texts_without_fault_are_journals,
+    texts_state_their_journals, texts_without_fault_are_journals,
 };
 pub use mv_line::{TextFault, TextRefusal};
 pub use reader::{EntryReader, OpenJournal, open_journal};

@@ -1,6 +1,6 @@
 -- The text of a run's configuration and entries is the journal of a run, of a deck's or of a script's; it is legal, and within the
 -- limit.
-use Rattle.std.proofs.Common.{◌≡◌, ℕ, ◌≤◌, List, length, refl, ap, sym, subst, ◌∙◌, arith}
+use Rattle.std.proofs.Common.{◌≡◌, ℕ, ◌≤◌, List, length, refl, ap, sym, subst, arith}
 use Rattle.std.specs.Prelude.{All}
 use Rattle.mv_deck.specs.Deck.{JobData}
 use Rattle.mv_deck.specs.Sound.{IsSound}
@@ -12,12 +12,11 @@ use Rattle.mv_machine.specs.Setup.{Setup}
 use Rattle.mv_calls.specs.Numbers.{calls}
 use Rattle.mv_entrytext.specs.declared.version.Version.TheVariants.{Two}
 use Rattle.mv_entrytext.specs.EntryText.{IsTyped}
-use Rattle.mv_entrytext.specs.Fault.{HasJournal, journal_of}
+use Rattle.mv_entrytext.specs.Fault.{HasJournal}
 use Rattle.mv_entrytext.specs.Journal.{journal_text}
-use Rattle.mv_entrytext.specs.Lines.{Draft}
 use Rattle.mv_entrytext.proofs.CallNumbers.{calls_are_numbers}
 use Rattle.mv_entrytext.proofs.LegalRanges.{legal_journal}
-use Rattle.mv_entrytext.proofs.LinesAgain.{read_again}
+use Rattle.mv_entrytext.proofs.Stated.{states, stated}
 use Rattle.mv_plan.specs.SpoolRun.{IsRun}
 use Rattle.mv_plan.specs.SpoolSetup.{spool_setup}
 use Rattle.mv_plan.proofs.deck.Planned.{planned}
@@ -41,16 +40,11 @@ legal_so c d es same legal = subst (λ (x : Setup). Legal x es) (sym same) legal
 -- the text of a configuration and of legal entries that have one tells them
 told_by : (c : Setup) (es : List Entry) (text : List ℕ) → HasJournal c es → text ≡ journal_text c es → Legal c es
     → length es ≤ events_limit → TellsHistory text c es
-told_by c es text written kept legal few =
-    let read = ap journal_of kept ∙ read_again Two c es (calls c es) written (calls_are_numbers c es written.count) in
-    record {
-      written = written;
-      kept = kept;
-      setup_read = ap (λ (d : Draft). d.setup) read;
-      events_read = ap (λ (d : Draft). d.entries) read;
-      legal = legal;
-      few = few;
-    }
+told_by c es text written kept legal few = record {
+  states = states text Two c es (calls c es) written (calls_are_numbers c es written.count) kept;
+  legal = legal;
+  few = few;
+}
 
 -- and the text of a run's entries is the journal of a run, by the laws of legal histories and of runs
 pub journal_of_run : (deck : List JobData) (n : ℕ) (es : List Entry) (text : List ℕ)
@@ -95,8 +89,7 @@ history_is_legal text c es told = record {
   version = Two;
   setup = c;
   entries = es;
-  journal = told.written;
-  text = told.kept;
+  states = told.states;
   legal = told.legal;
   number = refl;
 }
@@ -104,5 +97,5 @@ history_is_legal text c es told = record {
 -- and no longer than a journal may be, since it has no more events than a run may have
 pub history_fits : (text : List ℕ) (c : Setup) (es : List Entry) → TellsHistory text c es → length text ≤ journal_limit
 history_fits text c es told =
-    let numbers = calls_are_numbers c es told.written.count in
-    omega (arith, ap length told.kept, text_fits Two c es (calls c es) told.written numbers told.few)
+    let is = stated text Two c es (calls c es) told.states in
+    omega (arith, ap length is.2, text_fits Two c es (calls c es) is.0 is.1 told.few)

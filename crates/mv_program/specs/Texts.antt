@@ -2,8 +2,9 @@
 -- answers, and the journal of its history.
 use Rattle.std.specs.Prelude.{◌≡◌, ℕ, ◌≤◌, List, length}
 use Rattle.mv_deck.specs.Deck.{JobData, deck_of}
-use Rattle.mv_entrytext.specs.Fault.{HasJournal, journal_of}
-use Rattle.mv_entrytext.specs.Journal.{journal_text}
+use Rattle.mv_calls.specs.Numbers.{calls}
+use Rattle.mv_entrytext.specs.declared.version.Version.TheVariants.{Two}
+use Rattle.mv_entrytext.specs.Fault.{StatesJournal}
 use Rattle.mv_machine.specs.declared.entry.Entry.{Entry}
 use Rattle.mv_machine.specs.Legal.{Legal}
 use Rattle.mv_machine.specs.Limits.{events_limit}
@@ -26,13 +27,10 @@ deck_limit = 1048576
 abbrev pub report_of : List ℕ → List ℕ
 report_of input = report (deck_of input)
 
--- a text is the journal of this legal history: it is the text of this configuration and these events, which are read back from
--- it, and are at most as many as a run may have
+-- a text is the journal of this legal history: it states this configuration and these events with the machine's call numbers, and
+-- the events are at most as many as a run may have
 pub record TellsHistory (text : List ℕ) (setup : Setup) (events : List Entry) : Type 0 where
-  pub written : HasJournal setup events
-  pub kept : text ≡ journal_text setup events
-  pub setup_read : (journal_of text).setup ≡ setup
-  pub events_read : (journal_of text).entries ≡ events
+  pub states : StatesJournal text Two setup events (calls setup events)
   pub legal : Legal setup events
   pub few : length events ≤ events_limit
 

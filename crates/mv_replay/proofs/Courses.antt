@@ -18,10 +18,12 @@ use Rattle.mv_entrytext.specs.Journal.{Line, EntryOf, End, line, first_line, ent
 use Rattle.mv_entrytext.specs.Lines.{with_call}
 use Rattle.mv_entrytext.specs.Writer.{IsWrittenTo}
 use Rattle.mv_entrytext.proofs.OnePass.{call_line_more}
+use Rattle.mv_entrytext.proofs.Stated.{states}
 use Rattle.mv_replay.specs.Course.{is_copied, IsCopied, IsRightTo, IsWrongAt, IsCourse, IsMade, IsJudged}
 use Rattle.mv_replay.specs.declared.command.JournalCommand.{JournalCommand}
 use Rattle.mv_replay.specs.declared.judging.Judged.{Judged}
-use Rattle.mv_replay.specs.Judgement.{IsFirstWrong, IsIllegalAt}
+use Rattle.mv_replay.specs.Judgement.{calls_in, IsFirstWrong, IsIllegalAt}
+use Rattle.mv_replay.proofs.Converted.{right_calls}
 use Rattle.mv_replay.proofs.Wrong.{still_wrong, wrong_now, right_now, not_right}
 
 -- ---- what is copied
@@ -160,9 +162,7 @@ ends_wrong v bytes c es ns line h t w =
       setup = c;
       entries = es;
       calls = ns;
-      journal = h;
-      numbers = t.calls;
-      text = t.text;
+      states = states bytes t.version c es ns h t.calls t.text;
       index = w.index;
       first = subst (λ (x : Version). IsFirstWrong x c es ns w.index) same w.first;
       place = w.place;
@@ -180,9 +180,9 @@ ends_right command v bytes c es ns judged copy h journal t number config is =
         version = v;
         setup = c;
         entries = es;
-        journal = journal;
-        text = subst (λ (x : Version). bytes ≡ text_of x c es ns) (sym same) t.text
-            ∙ ap (λ (ms : List ℕ). text_of v c es ms) h.right.numbers;
+        states = states bytes v c es (calls_in v c es) journal (right_calls v c es journal.count)
+            (subst (λ (x : Version). bytes ≡ text_of x c es ns) (sym same) t.text
+            ∙ ap (λ (ms : List ℕ). text_of v c es ms) h.right.numbers);
         legal = h.right.legal;
         number = number;
       };

@@ -4,8 +4,8 @@ use Rattle.std.proofs.lemmas.Option.{same_Some}
 use Rattle.mv_machine.specs.declared.entry.Entry.{Entry}
 use Rattle.mv_machine.specs.Setup.{Setup}
 use Rattle.mv_line.specs.declared.fault.TextFault.{TextFault}
-use Rattle.mv_entrytext.specs.Fault.{text_fault}
-use Rattle.mv_entrytext.proofs.LinesAgain.{no_fault, one_journal}
+use Rattle.mv_entrytext.specs.declared.version.Version.{Version}
+use Rattle.mv_entrytext.specs.Fault.{StatesJournal, text_fault}
 use Rattle.mv_replay.specs.declared.status.ReplayStatus.{ReplayStatus}
 use Rattle.mv_replay.specs.declared.status.ReplayStatus.TheVariants.{Done, TooLong, ReadFailed, ReportFailed, NoMemory, Illegal, Text}
 use Rattle.mv_entrytext.specs.Journal.{first_line}
@@ -13,7 +13,6 @@ use Rattle.mv_replay.specs.Judgement.{calls_in, AreRight, IsFirstWrong, IsLegalJ
 use Rattle.mv_ending.specs.Ending.{EndsAs}
 use Rattle.mv_ending.specs.Written.{Nothing}
 use Rattle.mv_replay.specs.Outcome.{IsFound, Asks, InputOf, Owes, Writes, extent_of}
-use Rattle.mv_replay.proofs.Converted.{right_calls}
 use Rattle.mv_replay.proofs.Reported.{read_before, unreported, not_unread}
 use Rattle.mv_replay.proofs.Wrong.{one_first, not_first}
 
@@ -21,14 +20,17 @@ use Rattle.mv_replay.proofs.Wrong.{one_first, not_first}
 
 -- a legal journal has no fault
 pub legal_is_sound : (bytes : List ℕ) (count : ℕ) → IsLegalJournal bytes count → text_fault bytes ≡ None
-legal_is_sound bytes count l =
-    ap text_fault l.text
-    ∙ no_fault l.version l.setup l.entries (calls_in l.version l.setup l.entries) l.journal
-    (right_calls l.version l.setup l.entries l.journal.count)
+legal_is_sound bytes count l = l.states.faultless
 
 -- nor has one with a first entry that is wrong
 pub illegal_is_sound : (bytes : List ℕ) (line : ℕ) → IsIllegalAt bytes line → text_fault bytes ≡ None
-illegal_is_sound bytes line i = ap text_fault i.text ∙ no_fault i.version i.setup i.entries i.calls i.journal i.numbers
+illegal_is_sound bytes line i = i.states.faultless
+
+-- what it states is one thing
+one_journal : (bytes : List ℕ) (v w : Version) (c d : Setup) (es fs : List Entry) (ns ms : List ℕ) → StatesJournal bytes v c es ns
+    → StatesJournal bytes w d fs ms → (v ≡ w) × (c ≡ d) × (es ≡ fs) × (ns ≡ ms)
+one_journal bytes v w c d es fs ns ms s t =
+    (sym s.version ∙ t.version, sym s.setup ∙ t.setup, sym s.entries ∙ t.entries, sym s.calls ∙ t.calls)
 
 -- so neither has one
 not_faulty : (bytes : List ℕ) (f : TextFault) → text_fault bytes ≡ None → text_fault bytes ≡ Some f → ⊥
@@ -40,8 +42,7 @@ not_faulty bytes f none some =
 pub not_both : (bytes : List ℕ) (count line : ℕ) → IsLegalJournal bytes count → IsIllegalAt bytes line → ⊥
 not_both bytes count line l i =
     let ns = calls_in l.version l.setup l.entries in
-    let same = one_journal l.version i.version l.setup i.setup l.entries i.entries ns i.calls l.journal
-    (right_calls l.version l.setup l.entries l.journal.count) i.journal i.numbers (sym l.text ∙ i.text) in
+    let same = one_journal bytes l.version i.version l.setup i.setup l.entries i.entries ns i.calls l.states i.states in
     let right : AreRight l.version l.setup l.entries ns = record { legal = l.legal; numbers = refl } in
     let other : AreRight i.version i.setup i.entries i.calls = rw (← same.0, ← same.1, ← same.2, ← same.3) right in
     not_first i.version i.setup i.entries i.calls i.index other i.first
@@ -49,16 +50,14 @@ not_both bytes count line l i =
 -- a text has one number of entries
 pub one_count : (bytes : List ℕ) (m n : ℕ) → IsLegalJournal bytes m → IsLegalJournal bytes n → m ≡ n
 one_count bytes m n k l =
-    let same = one_journal k.version l.version k.setup l.setup k.entries l.entries (calls_in k.version k.setup k.entries)
-    (calls_in l.version l.setup l.entries) k.journal (right_calls k.version k.setup k.entries k.journal.count) l.journal
-    (right_calls l.version l.setup l.entries l.journal.count) (sym k.text ∙ l.text) in
+    let same = one_journal bytes k.version l.version k.setup l.setup k.entries l.entries (calls_in k.version k.setup k.entries)
+    (calls_in l.version l.setup l.entries) k.states l.states in
     k.number ∙ ap (λ (es : List Entry). length es) same.2 ∙ sym l.number
 
 -- one line with its first wrong entry
 pub one_line : (bytes : List ℕ) (m n : ℕ) → IsIllegalAt bytes m → IsIllegalAt bytes n → m ≡ n
 one_line bytes m n i j =
-    let same = one_journal i.version j.version i.setup j.setup i.entries j.entries i.calls j.calls i.journal i.numbers j.journal j.numbers
-    (sym i.text ∙ j.text) in
+    let same = one_journal bytes i.version j.version i.setup j.setup i.entries j.entries i.calls j.calls i.states j.states in
     let first : IsFirstWrong j.version j.setup j.entries j.calls i.index = rw (← same.0, ← same.1, ← same.2, ← same.3) i.first in
     let at : i.index ≡ j.index = one_first j.version j.setup j.entries j.calls i.index j.index first j.first in
     i.place ∙ ap (λ (c : Setup). first_line c + i.index) same.1 ∙ ap (λ (k : ℕ). first_line j.setup + k) at ∙ sym j.place

@@ -1,16 +1,20 @@
 -- What a command has written is its report on the input, as far as it came.
-use Rattle.std.proofs.Common.{◌≡◌, ℕ, ◌≤◌, List, [], length, Option, Some, None, refl, sym, ◌∙◌, subst}
+use Rattle.std.proofs.Common.{◌≡◌, ℕ, ◌≤◌, List, [], length, Option, Some, None, refl, subst}
 use Rattle.std.specs.Prelude.{IfSome, option_map}
 use Rattle.mv_ending.specs.Written.{Nothing, PartOfReport}
+use Rattle.mv_calls.specs.Numbers.{calls}
+use Rattle.mv_entrytext.specs.declared.version.Version.TheVariants.{Two}
+use Rattle.mv_entrytext.proofs.CallNumbers.{calls_are_numbers}
+use Rattle.mv_entrytext.proofs.Stated.{states, stated}
 use Rattle.mv_replay.specs.declared.command.JournalCommand.{JournalCommand}
 use Rattle.mv_replay.specs.declared.command.JournalCommand.TheVariants.{Replay, Convert}
 use Rattle.mv_replay.specs.declared.reading.LegalText.{LegalText}
 use Rattle.mv_replay.specs.declared.status.ReplayStatus.{ReplayStatus}
 use Rattle.mv_replay.specs.declared.status.ReplayStatus.TheVariants.{Done, ReadFailed, ReportFailed}
-use Rattle.mv_replay.specs.Judgement.{journal_limit, IsLegalJournal}
+use Rattle.mv_replay.specs.Judgement.{journal_limit, calls_in, IsLegalJournal}
 use Rattle.mv_replay.specs.Course.{report_text, IsJudged}
 use Rattle.mv_replay.specs.Outcome.{InputOf, ReportAfter, Writes, extent_of, reports_of}
-use Rattle.mv_replay.proofs.Converted.{is_converted, made_so}
+use Rattle.mv_replay.proofs.Converted.{made_so}
 
 -- what a command writes of a legal text is its report on it
 pub is_report : (command : JournalCommand) (l : LegalText) → IsJudged command l.text.items l.judged
@@ -18,11 +22,13 @@ pub is_report : (command : JournalCommand) (l : LegalText) → IsJudged command 
 is_report Replay l judged = record { count = l.judged.count; legal = judged.legal; reported = refl }
 is_report Convert l judged =
     let x = judged.legal in
+    let h = stated l.text.items x.version x.setup x.entries (calls_in x.version x.setup x.entries) x.states in
     record {
       count = l.judged.count;
       legal = x;
-      reported = made_so x.version l.text.items x.setup x.entries (option_map (λ t. t.items) l.judged.second) x.text judged.made
-          ∙ sym (is_converted x.version l.text.items x.setup x.entries x.journal x.text);
+      reported = states (report_text Convert l) Two x.setup x.entries (calls x.setup x.entries) h.0
+          (calls_are_numbers x.setup x.entries h.0.count)
+          (made_so x.version l.text.items x.setup x.entries (option_map (λ t. t.items) l.judged.second) h.2 judged.made);
     }
 
 -- what was written of the report on a text, which is the input where that is told

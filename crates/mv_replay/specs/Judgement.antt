@@ -10,8 +10,8 @@ use Rattle.mv_machine.specs.Told.{last_wakes}
 use Rattle.mv_latch.specs.declared.operation.Wake.{Wake}
 use Rattle.mv_entrytext.specs.declared.version.Version.{Version}
 use Rattle.mv_entrytext.specs.declared.version.Version.TheVariants.{One, Two}
-use Rattle.mv_entrytext.specs.Journal.{first_line, text_of}
-use Rattle.mv_entrytext.specs.Fault.{HasJournal, AreCallsIn, text_fault}
+use Rattle.mv_entrytext.specs.Journal.{first_line}
+use Rattle.mv_entrytext.specs.Fault.{StatesJournal, text_fault}
 use Rattle.mv_replay.specs.declared.status.ReplayStatus.{ReplayStatus}
 use Rattle.mv_replay.specs.declared.status.ReplayStatus.TheVariants.{NoMemory, Illegal, Text}
 
@@ -29,13 +29,12 @@ pub record AreRight (v : Version) (c : Setup) (es : List Entry) (ns : List ℕ) 
   pub legal : Legal c es
   pub numbers : ns ≡ calls_in v c es
 
--- the bytes are the text of this many entries, which are legal, with their call numbers
+-- the bytes state this many entries, which are legal, with the call numbers that the machine gives them
 pub record IsLegalJournal (bytes : List ℕ) (count : ℕ) : Type 0 where
   pub version : Version
   pub setup : Setup
   pub entries : List Entry
-  pub journal : HasJournal setup entries
-  pub text : bytes ≡ text_of version setup entries (calls_in version setup entries)
+  pub states : StatesJournal bytes version setup entries (calls_in version setup entries)
   pub legal : Legal setup entries
   pub number : count ≡ length entries
 
@@ -54,15 +53,13 @@ pub record IsFirstWrong (v : Version) (c : Setup) (es : List Entry) (ns : List �
   pub good : AreRight v c (take i es) (take i ns)
   pub bad : ¬ AreRight v c (take (suc i) es) (take (suc i) ns)
 
--- the bytes are the text of entries of which the one on this line is the first wrong one
+-- the bytes state entries of which the one on this line is the first wrong one
 pub record IsIllegalAt (bytes : List ℕ) (line : ℕ) : Type 0 where
   pub version : Version
   pub setup : Setup
   pub entries : List Entry
   pub calls : List ℕ
-  pub journal : HasJournal setup entries
-  pub numbers : AreCallsIn version entries calls
-  pub text : bytes ≡ text_of version setup entries calls
+  pub states : StatesJournal bytes version setup entries calls
   pub index : ℕ
   pub first : IsFirstWrong version setup entries calls index
   pub place : line ≡ first_line setup + index

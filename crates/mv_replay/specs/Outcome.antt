@@ -4,8 +4,9 @@ use Rattle.mv_io.specs.Sink.{Appends, AppendsFront}
 use Rattle.mv_ending.specs.Ending.{EndsAs}
 use Rattle.mv_ending.specs.Input.{IsWhole, IsTooLong, IsCut, IsAllOrNothing}
 use Rattle.mv_ending.specs.Written.{Extent, Nothing, PartOfReport, Everything}
-use Rattle.mv_entrytext.specs.Journal.{journal_text}
-use Rattle.mv_entrytext.specs.Fault.{journal_of, text_fault}
+use Rattle.mv_calls.specs.Numbers.{calls}
+use Rattle.mv_entrytext.specs.declared.version.Version.TheVariants.{Two}
+use Rattle.mv_entrytext.specs.Fault.{StatesJournal, text_fault}
 use Rattle.mv_replay.specs.declared.command.JournalCommand.{JournalCommand}
 use Rattle.mv_replay.specs.declared.command.JournalCommand.TheVariants.{Replay, Convert}
 use Rattle.mv_replay.specs.declared.status.ReplayStatus.{ReplayStatus}
@@ -24,15 +25,12 @@ pub record IsReplayReport (input report : List ℕ) : Type 0 where
   pub legal : IsLegalJournal input count
   pub reported : report ≡ legal_text count
 
--- the text in version 2 of the configuration and the entries of a text, with the machine's call numbers
-abbrev pub converted : List ℕ → List ℕ
-converted input = journal_text (journal_of input).setup (journal_of input).entries
-
--- the report of a conversion: the text in version 2
+-- the report of a conversion: the text in version 2 that states the same configuration and entries, with the machine's call
+-- numbers
 pub record IsConversion (input report : List ℕ) : Type 0 where
   pub count : ℕ
   pub legal : IsLegalJournal input count
-  pub reported : report ≡ converted input
+  pub reported : StatesJournal report Two legal.setup legal.entries (calls legal.setup legal.entries)
 
 -- the report of each command
 abbrev pub reports_of : JournalCommand → List ℕ → List ℕ → Type 0

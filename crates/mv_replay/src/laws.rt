@@ -5,7 +5,7 @@ ghost use Rattle.mv_calls.specs.Prelude.{Entry, Legal, events_limit, Setup};
 ghost use Rattle.mv_entrytext.specs.Fault.{HasJournal};
 ghost use Rattle.mv_entrytext.specs.Journal.{text1, journal_text};
 ghost use Rattle.mv_replay.specs.Judgement.{journal_limit, IsLegalJournal};
-ghost use Rattle.mv_replay.specs.Outcome.{converted, IsFound, Asks};
+ghost use Rattle.mv_replay.specs.Outcome.{IsConversion, IsFound, Asks};
 ghost use Rattle.mv_replay.specs.declared.status.ReplayStatus.{ReplayStatus};
 
 /// Shows that no text calls for two endings. A text with a fault is neither a legal journal nor one with an illegal entry, no
@@ -24,7 +24,7 @@ pub fn legal_lists_are_done()
     ensures first { (c : Setup) (es : List Entry) → HasJournal c es → Legal c es → IsLegalJournal (text1 c es) (length es) }
     ensures second { (c : Setup) (es : List Entry) → HasJournal c es → Legal c es → IsLegalJournal (journal_text c es) (length es) }
     ensures converted { (c : Setup) (es : List Entry) → HasJournal c es → Legal c es
-        → (converted (text1 c es) ≡ journal_text c es) × (converted (journal_text c es) ≡ journal_text c es) }
+        → IsConversion (text1 c es) (journal_text c es) × IsConversion (journal_text c es) (journal_text c es) }
     ensures within { (c : Setup) (es : List Entry) → HasJournal c es → length es ≤ events_limit
         → (length (text1 c es) ≤ journal_limit) × (length (journal_text c es) ≤ journal_limit) }
 {}

@@ -1,8 +1,7 @@
 -- A list that is legal has a legal text in each version, which reads back, and is within the limit where the list is.
-use Rattle.std.proofs.Common.{[], refl}
+use Rattle.std.proofs.Common.{[]}
 use Rattle.mv_calls.specs.Numbers.{calls}
 use Rattle.mv_entrytext.specs.declared.version.Version.TheVariants.{One, Two}
-use Rattle.mv_entrytext.specs.Journal.{text1, journal_text}
 use Rattle.mv_replay.proofs.Converted.{right_calls, text_is_legal, is_converted}
 use Rattle.mv_replay.proofs.Lengths.{text_fits}
 use Rattle.mv_replay.proofs.laws.legal_lists_are_done.Goals as goal
@@ -15,8 +14,8 @@ returns-clause-second c = λ setup es h l. text_is_legal Two setup es h l
 
 pub returns-clause-converted : goal.returns-clause-converted
 returns-clause-converted c = λ setup es h l. (
-  is_converted One (text1 setup es) setup es h refl,
-  is_converted Two (journal_text setup es) setup es h refl,
+  is_converted One setup es h l,
+  is_converted Two setup es h l,
 )
 
 pub returns-clause-within : goal.returns-clause-within
