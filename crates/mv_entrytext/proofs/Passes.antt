@@ -54,7 +54,8 @@ module _ {bytes text : List ℕ} {number : ℕ} {lines behind : Lines} {d : Draf
     (passed : IsPassed lines number text behind) where
   pub next_at : (l : Line) → line_read true d.stage text ≡ Some l → kind_said d (Some l) ≡ None → IsAt bytes behind (draft_with l d)
   next_at l read said =
-      let m = one_line_more d.stage d.version d.setup d.entries d.calls l (line_taken d.stage text l read).1 in
+      let m : line_behind (draft_with l d) ≡ line_behind d + 1 =
+      one_line_more d.stage d.version d.setup d.entries d.calls l (line_taken d.stage text l read).1 in
       record {
         passed = rw passed.next
             (said_passed (cut_off bytes) (ended_lines bytes) lines.number d l text _ (lines_of behind.left.now) at.passed passed.first read

@@ -100,59 +100,23 @@ blank = record {
   calls = [];
 }
 
--- the version after a line
-abbrev pub version_with : Line → Version → Version
-version_with (JournalOf version) v = version
-version_with _ v = v
-
--- the stage after a line, in a text of this version
-abbrev pub stage_behind : Line → Version → Stage
-stage_behind (JournalOf version) v = AtCallers
-stage_behind (Callers n) v = AtElements
-stage_behind (Elements n) v = AtVolumes
-stage_behind (Volumes n) v = AtLatches
-stage_behind (Latches n) v = AtQuota
-stage_behind (Quota quota posted) v = AtBudgets
-stage_behind (Budget n) v = AtBudgets
-stage_behind (Owner caller) v = AtOwners
-stage_behind (ExitTo x) v = AtExits
-stage_behind Events v = AtEntries v
-stage_behind (EntryOf call e) v = AtEntries v
-stage_behind (End n) v = AtEnd
-
--- the configuration with what a line adds to it
-abbrev pub setup_with : Line → Setup → Setup
-setup_with (Callers n) c = record c { callers = n }
-setup_with (Elements n) c = record c { elements_per_caller = n }
-setup_with (Volumes n) c = record c { volumes = n }
-setup_with (Latches n) c = record c { latches = n }
-setup_with (Quota quota posted) c = record c { quota = quota; posted_quota = posted }
-setup_with (Budget n) c = record c { budgets = c.budgets ++ n ∷ [] }
-setup_with (Owner caller) c = record c { owners = c.owners ++ caller ∷ [] }
-setup_with (ExitTo x) c = record c { exits = c.exits ++ x ∷ [] }
-setup_with _ c = c
-
--- the entries with the entry of a line, if it has one
-abbrev pub entries_with : Line → List Entry → List Entry
-entries_with (EntryOf call e) es = es ++ e ∷ []
-entries_with _ es = es
-
 -- the call numbers with one more, if there is one
 abbrev pub with_call : Option ℕ → List ℕ → List ℕ
 with_call None calls = calls
 with_call (Some call) calls = calls ++ call ∷ []
 
--- the call numbers with the one of a line, if it is an entry with one
-abbrev pub calls_with : Line → List ℕ → List ℕ
-calls_with (EntryOf call e) calls = with_call call calls
-calls_with _ calls = calls
-
--- the draft after one more line
+-- the draft after one more line: what the line adds, and which line comes next
 abbrev pub draft_with : Line → Draft → Draft
-draft_with l d = record {
-  stage = stage_behind l d.version;
-  version = version_with l d.version;
-  setup = setup_with l d.setup;
-  entries = entries_with l d.entries;
-  calls = calls_with l d.calls;
-}
+draft_with (JournalOf version) d = record d { stage = AtCallers; version = version }
+draft_with (Callers n) d = record d { stage = AtElements; setup = record d.setup { callers = n } }
+draft_with (Elements n) d = record d { stage = AtVolumes; setup = record d.setup { elements_per_caller = n } }
+draft_with (Volumes n) d = record d { stage = AtLatches; setup = record d.setup { volumes = n } }
+draft_with (Latches n) d = record d { stage = AtQuota; setup = record d.setup { latches = n } }
+draft_with (Quota quota posted) d = record d { stage = AtBudgets; setup = record d.setup { quota = quota; posted_quota = posted } }
+draft_with (Budget n) d = record d { stage = AtBudgets; setup = record d.setup { budgets = d.setup.budgets ++ n ∷ [] } }
+draft_with (Owner caller) d = record d { stage = AtOwners; setup = record d.setup { owners = d.setup.owners ++ caller ∷ [] } }
+draft_with (ExitTo x) d = record d { stage = AtExits; setup = record d.setup { exits = d.setup.exits ++ x ∷ [] } }
+draft_with Events d = record d { stage = AtEntries d.version }
+draft_with (EntryOf call e) d =
+    record d { stage = AtEntries d.version; entries = d.entries ++ e ∷ []; calls = with_call call d.calls }
+draft_with (End n) d = record d { stage = AtEnd }
