@@ -420,7 +420,7 @@ module _ (script : ScriptData) (moves : Moves) (es : List Entry) (sound : IsSoun
     told = λ k lt.
         let below : k < script.setup.callers = omega (arith, lt, same_count) in
         subst (AreToldInOrder done (calls_at script k)) (sym (answers_at k lt)) ((their k below).2 (in_order.answers k below));
-    in_order = in_order.shown;
+    shown = in_order.shown;
   }
 
 pub handed_out : (script : ScriptData) (moves : Moves) (es : List Entry) → IsSound script → IsScriptRun script moves es

@@ -5,7 +5,7 @@ use Rattle.mv_ecb.specs.Word.{completion_bit}
 use Rattle.mv_machine.specs.declared.entry.Entry.{Entry}
 use Rattle.mv_calls.specs.declared.table.Table.{Table}
 use Rattle.mv_eventlaws.specs.Completions.{Completion, completions}
-use Rattle.mv_eventlaws.specs.Order.{ShowsInOrder}
+use Rattle.mv_eventlaws.specs.Order.{ShowsCompletions}
 use Rattle.mv_script.specs.declared.answer.Answer.{Answer}
 use Rattle.mv_script.specs.declared.answer.Answer.TheVariants as answer
 use Rattle.mv_script.specs.declared.call.Call.{Call}
@@ -45,11 +45,11 @@ AreToldInOrder done (c ∷ calls) (a ∷ answers) = IsToldInOrder done c a × Ar
 AreToldInOrder done calls answers = ⊥
 
 -- In a history of a script with table t, the completions determine the answer to each call on the table (`told`), and the table's
--- volume, slots and events show them, in the order of the posts that made them (`in_order`).
+-- volume, slots and events show them (`shown`), which are listed in the order of the posts that made them.
 pub record AreHandedOut (script : ScriptData) (answers : List (List Answer)) (es : List Entry) (t : Table) : Type 0 where
   pub told : (k : ℕ) → k < length script.tasks
       → AreToldInOrder (completions t es) (calls_at script k) (slice_index_or answers k [])
-  pub in_order : ShowsInOrder script.setup t es
+  pub shown : ShowsCompletions script.setup t es
 
 -- the events of the script's table are handed out, if it has one
 abbrev pub EventsAreHandedOut : ScriptData → List (List Answer) → List Entry → Type 0
