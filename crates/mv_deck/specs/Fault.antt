@@ -142,8 +142,8 @@ is_too_heavy initiators jobs s = nat_lt heaviest (weight (jobs_behind jobs s) in
 
 -- ---- all faults, and the first
 
--- The kinds of fault of a statement, rising, after the earlier statements, which state these jobs. A misplaced statement, and one
--- after the end of its job, is checked only for some of the kinds.
+-- The kinds of fault of a statement, rising, after the earlier statements, which state these jobs. A misplaced statement is not
+-- checked for the kinds with `placed` or `asked`, and a statement after the end of its job not for the kinds with `asked`.
 abbrev pub kinds_behind : ℕ → List Statement → List JobData → Statement → List ℕ
 kinds_behind initiators earlier jobs s =
     let placed = not (is_misplaced earlier s) in

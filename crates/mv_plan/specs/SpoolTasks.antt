@@ -48,7 +48,7 @@ reading c n = for_each (range_with_len 0 n) (λ j. post c (entered j) 0) (finish
 abbrev pub not_to_run : ℕ
 not_to_run = 2 ^ 23
 
--- the code that names job j to its initiator; `skipped` says that the job is not to be run
+-- the release code that tells an initiator its job: j + 1 for job j, and 2^23 more if the job is not to be run (`skipped`)
 abbrev pub code_of : ℕ → Bool → ℕ
 code_of j skipped = if skipped then j + 1 + not_to_run else j + 1
 
@@ -99,18 +99,18 @@ scheduling c initiators deck =
 
 -- ---- an initiator runs the jobs that it is given
 
--- continues with f at the number of a request that was granted; a request that waits for a post is not foreseen
+-- continues with f at the number of a request that was granted; a request whose block is to be posted makes the program wrong
 abbrev pub granted_as : {A : Type 0} → (ℕ → Call A) → Requested → Call A
 granted_as f (GrantedAs id) = f id
 granted_as f (PendingAs id) = wrong
 
--- releases the request of this number, and continues with `last`; a FREE of a latch without a request is not foreseen
+-- releases the request of this number, and continues with `last`; a FREE of a latch without a request makes the program wrong
 abbrev pub freed : {A : Type 0} → Setup → ℕ → Option ℕ → Call A → Call A
 freed c latch None last = wrong
 freed c latch (Some id) last = accepted (release_latch c latch id false) (λ granted. last)
 
--- adds the amount to the number n that was read from volume v, and continues with `last`; a sum of more than 32 bits is not
--- foreseen
+-- adds the amount to the number n that was read from volume v, and continues with `last`; a sum of more than 32 bits makes the
+-- program wrong
 abbrev pub counted : {A : Type 0} → ℕ → ℕ → Call A → ℕ → Call A
 counted v amount last n = if nat_lt (n + amount) (2 ^ 32) then followed (write_volume v (n + amount)) (λ stored. last) else wrong
 
@@ -159,8 +159,9 @@ named_by None before rounds f = wrong
 named_by (Some named) before zero f = wrong
 named_by (Some named) before (suc rounds) f = if list_any (λ j. j == named.job) before then wrong else f named
 
--- The rounds of initiator i, of which at most this many are left, after these jobs. It posts its idle block with its generation,
--- and pauses. Code 0 ends the rounds, and the element is given back; any other code names a job, which is run.
+-- The loop of initiator i, of which at most this many rounds are left, after these jobs. In each round it posts its idle block
+-- with its element's generation, and pauses. The release code 0 ends the loop, and the element is deallocated; any other release
+-- code names a job, which the initiator runs.
 abbrev pub rounds : Setup → List JobData → ℕ → ℕ → List ℕ → Token → Call (List ℕ)
 rounds c deck i zero before token = wrong
 rounds c deck i (suc more) before token =
