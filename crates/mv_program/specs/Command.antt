@@ -1,5 +1,5 @@
 -- The command that the words of the command line state.
-use Rattle.std.specs.Prelude.{ℕ, ◌+◌, ◌-◌, ◌≤◌, ◌&&◌, nat_lt, nat_le, List, [], ◌∷◌, Option, Some, None, option_map, codes, if◌then◌else◌}
+use Rattle.std.specs.Prelude.{ℕ, ◌≤◌, List, [], ◌∷◌, Option, Some, None, option_map, option_and_then, codes, if◌then◌else◌}
 use Rattle.std.specs.Str.{bytes_eq}
 use Rattle.mv_deck.specs.Load.{most_jobs}
 use Rattle.mv_line.specs.Number.{number_of, within}
@@ -8,15 +8,9 @@ use Rattle.mv_program.specs.declared.command.Command.{Command}
 use Rattle.mv_program.specs.declared.command.Command.TheVariants.{Spool, Load, Script, Journal, Polled}
 use Rattle.mv_replay.specs.declared.command.JournalCommand.TheVariants.{Replay, Convert}
 
--- the digit 0 in ASCII
-abbrev pub digit_0 : ℕ
-digit_0 = 48
-
--- the number of initiators that a word states, if it is one digit from 1 to 8
+-- the number of initiators that a word states, if it is a number without a leading zero, from 1 to 8
 abbrev pub initiators_of : List ℕ → Option ℕ
-initiators_of (digit ∷ []) =
-    if nat_lt digit_0 digit && nat_le digit (digit_0 + most_initiators) then Some (digit - digit_0) else None
-initiators_of _ = None
+initiators_of word = within 1 most_initiators (number_of word)
 
 -- the number of jobs that a word states, if it is a number without a leading zero, from 1 to 2000
 abbrev pub jobs_of : List ℕ → Option ℕ
@@ -24,9 +18,7 @@ jobs_of word = within 1 most_jobs (number_of word)
 
 -- a load, if both its numbers are stated
 abbrev pub load_of : Option ℕ → Option ℕ → Option Command
-load_of None initiators = None
-load_of (Some jobs) None = None
-load_of (Some jobs) (Some initiators) = Some (Load jobs initiators)
+load_of jobs initiators = option_and_then (λ n. option_map (Load n) initiators) jobs
 
 -- the highest seed of a polled run
 abbrev pub highest_seed : ℕ
@@ -38,9 +30,7 @@ seed_of word = within 0 highest_seed (number_of word)
 
 -- a polled run, if both its numbers are stated
 abbrev pub polled_of : Option ℕ → Option ℕ → Option Command
-polled_of None seed = None
-polled_of (Some initiators) None = None
-polled_of (Some initiators) (Some seed) = Some (Polled initiators seed)
+polled_of initiators seed = option_and_then (λ n. option_map (Polled n) seed) initiators
 
 -- the command that these words state: `spool` and a number of initiators, `load` and a number of jobs and a number of
 -- initiators, `polled` and a number of initiators and a seed, `script`, `replay` or `convert`, exactly

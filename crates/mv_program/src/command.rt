@@ -47,12 +47,7 @@ fn initiators_of(word: &[u8]) -> Option<u32>
     ensures number { result ≡ initiators_by_word word.now }
     ensures range { IfSome result AreInitiators }
 {
-    match word {
-        [digit] if b'0' < *digit && *digit <= b'0' + MOST_INITIATORS as u8 => {
-            Some((*digit - b'0') as u32)
-        }
-        _ => None,
-    }
+    number_within(1, MOST_INITIATORS, word)
 }
 
 // Returns the load of these words, if they state a number of jobs and a number of initiators.
