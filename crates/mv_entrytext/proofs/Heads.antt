@@ -1,6 +1,11 @@
 -- What the reader of the head takes.
-use Rattle.std.proofs.Common.{◌≡◌, false, Some, None, refl}
-use Rattle.mv_machine.specs.Check.{IsValid}
+use Rattle.std.proofs.Common.{◌≡◌, Bool, false, not, cond, Option, Some, None, refl, sym, ap, ◌∙◌}
+use Rattle.mv_machine.specs.Check.{IsValid, is_valid}
+use Rattle.mv_machine.specs.Setup.{Setup}
+use Rattle.mv_machine.proofs.Validity.{valid_is}
+use Rattle.mv_entrytext.specs.declared.fault.Kind.{Kind}
+use Rattle.mv_entrytext.specs.declared.fault.Kind.TheVariants.{BadConfig}
+use Rattle.mv_entrytext.specs.Draft.{kind_of_config}
 use Rattle.mv_entrytext.specs.declared.line.Line.{Line}
 use Rattle.mv_entrytext.specs.declared.line.Line.TheVariants.{Version, Callers, Elements, Volumes, Latches, Quota, Budget, Owner, Exit}
 use Rattle.mv_entrytext.specs.declared.line.Line.TheVariants.{Events}
@@ -48,5 +53,12 @@ nothing_said d (Owner n) h = refl
 nothing_said d (Exit x) h = refl
 nothing_said d Events h = absurd (h refl)
 
+-- the kind of the line that ends the head, by the refusal and by the test
+pub config_said : (c : Setup) → kind_of_config c ≡ cond {A = Option Kind} (not (is_valid c)) (Some BadConfig) None
+config_said c = ap (λ (b : Bool). cond {A = Option Kind} b (Some BadConfig) None) (valid_is c)
+
+none_of_config : (c : Setup) → IsValid c → kind_of_config c ≡ None
+none_of_config c v = rw v refl
+
 pub valid_said : (d : Draft) → IsValid d.setup → kind_said d (Some journal.Events) ≡ None
-valid_said d v = rw v refl
+valid_said d v = sym (config_said d.setup) ∙ none_of_config d.setup v

@@ -12,6 +12,7 @@ use Rattle.std.proofs.lemmas.List.Concat.{flat_map-cons}
 use Rattle.mv_machine.specs.declared.entry.Entry.{Entry}
 use Rattle.mv_machine.specs.Setup.{Setup, SetupExit}
 use Rattle.mv_machine.specs.Check.{IsValid}
+use Rattle.mv_entrytext.proofs.Heads.{valid_said}
 use Rattle.mv_line.specs.Fault.{HasPassed}
 use Rattle.mv_line.specs.Line.{lines_of, ended_part, ended_lines, cut_off}
 use Rattle.mv_line.specs.Part.{parts_at}
@@ -328,7 +329,7 @@ unfolding text_of head_text counts_text lists_text
 regrouped v c es ns = simp (append_assoc, append-nil)
 
 events_said : (s : Stage) (v : Version) (c : Setup) → IsValid c → kind_said (in_head s v c) (Some Events) ≡ None
-events_said s v c valid = rw valid refl
+events_said s v c valid = valid_said (in_head s v c) valid
 
 end_said : (v : Version) (c : Setup) (es : List Entry) (ns : List ℕ)
     → kind_said (draft_at (AtEntries v) v c es ns) (Some (End (length es))) ≡ None

@@ -9,6 +9,7 @@ use Rattle.std.proofs.lemmas.List.Elements.{All-from_recursion}
 use Rattle.mv_machine.specs.declared.entry.Entry.{Entry}
 use Rattle.mv_machine.specs.declared.config.CheckRefusal.{CheckRefusal}
 use Rattle.mv_machine.specs.Check.{IsValid, refusal_of, or_else}
+use Rattle.mv_entrytext.proofs.Heads.{config_said}
 use Rattle.mv_machine.specs.Setup.{Setup, SetupExit}
 use Rattle.mv_line.specs.Fault.{faults_by_line, first_of_list}
 use Rattle.mv_line.specs.Line.{ended_part, ended_lines, cut_off}
@@ -216,12 +217,13 @@ one_line AtBudgets v c es ns front (Budget n) h m k =
 one_line AtBudgets v c es ns front (Owner n) h m k = then_owner v c es ns front n (no_owner v c es ns front h)
 one_line AtBudgets v c es ns front (ExitTo x) h m k = then_exit v c es ns front x (no_exit v c es ns front (no_owner v c es ns front h))
 one_line AtBudgets v c es ns front Events h m k =
-    then_events v c es ns front (no_exit v c es ns front (no_owner v c es ns front h)) (no_refusal (refusal_of c) k)
+    then_events v c es ns front (no_exit v c es ns front (no_owner v c es ns front h)) (no_refusal (refusal_of c) (config_said c ∙ k))
 one_line AtOwners v c es ns front (Owner n) h m k = then_owner v c es ns front n h
 one_line AtOwners v c es ns front (ExitTo x) h m k = then_exit v c es ns front x (no_exit v c es ns front h)
-one_line AtOwners v c es ns front Events h m k = then_events v c es ns front (no_exit v c es ns front h) (no_refusal (refusal_of c) k)
+one_line AtOwners v c es ns front Events h m k =
+    then_events v c es ns front (no_exit v c es ns front h) (no_refusal (refusal_of c) (config_said c ∙ k))
 one_line AtExits v c es ns front (ExitTo x) h m k = then_exit v c es ns front x h
-one_line AtExits v c es ns front Events h m k = then_events v c es ns front h (no_refusal (refusal_of c) k)
+one_line AtExits v c es ns front Events h m k = then_events v c es ns front h (no_refusal (refusal_of c) (config_said c ∙ k))
 one_line (AtEntries read) v c es ns front (EntryOf call e) h m k = then_entry read v c es ns front call e h m.0 m.1
 one_line (AtEntries read) v c es ns front (End n) h m k = then_end read v c es ns front n h (right_count (length es) n k) m
 one_line s v c es ns front l h m k = absurd m

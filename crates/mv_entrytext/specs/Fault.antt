@@ -2,7 +2,7 @@
 use Rattle.std.specs.Prelude.{◌≡◌, ℕ, ◌<◌, ◌≤◌, ◌⊎◌, ◌==◌, Bool, true, false, ◌&&◌, ◌||◌, not, List, [], ◌++◌, length, fold, All, Option, Some}
 use Rattle.std.specs.Prelude.{None, is_some, option_map, option_to_list, if◌then◌else◌}
 use Rattle.mv_machine.specs.declared.entry.Entry.{Entry}
-use Rattle.mv_machine.specs.Check.{IsValid, or_else, refusal_of}
+use Rattle.mv_machine.specs.Check.{IsValid, is_valid, or_else}
 use Rattle.mv_machine.specs.Setup.{Setup}
 use Rattle.mv_line.specs.declared.fault.TextFault.{TextFault}
 use Rattle.mv_line.specs.Fault.{LineRules, HasFaultAt, first_fault, when}
@@ -42,7 +42,7 @@ kind_of_form stage line =
 
 -- whether the line ends the head, and its configuration is refused
 abbrev pub has_bad_config : Draft → Line → Bool
-has_bad_config d Events = is_some (refusal_of d.setup)
+has_bad_config d Events = not (is_valid d.setup)
 has_bad_config d l = false
 
 -- whether the line is the end, and its count is not the number of entries

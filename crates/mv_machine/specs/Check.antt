@@ -65,6 +65,20 @@ refusal_of c =
     (or_else (option_map (λ x. BadExit x) (first_bad_exit c))
     (option_map (λ b. Budget b) (bad_budget c))))
 
+-- Whether a configuration can be run. Its callers, its elements for each caller, its volumes and its latches, and the requests that a
+-- caller may have, are within their limits; of these requests no more may be posted than may stand. Each caller has a budget of events.
+-- There are at most as many blocks and exits as may be, and each exit has 1 to 8 targets. Each block's owner is a caller. Each exit leads
+-- from a block to blocks with higher numbers. All budgets together are at most as many events as a run may have.
+abbrev pub is_valid : Setup → Bool
+is_valid c =
+    is_within 1 callers_limit c.callers && (is_within 1 elements_limit c.elements_per_caller
+    && (is_within 1 volumes_limit c.volumes && (is_within 1 latches_limit c.latches
+    && (is_within 1 requests_limit c.quota && (nat_le c.posted_quota c.quota
+    && ((length c.budgets == c.callers) && (nat_le (length c.owners) ecbs_limit && (nat_le (length c.exits) exits_limit
+    && (list_all (λ x. is_within 1 targets_limit (length x.targets)) c.exits
+    && (not (list_any (λ owner. nat_le c.callers owner) c.owners) && (not (list_any (is_bad_exit (length c.owners)) c.exits)
+    && not (nat_lt events_limit (sum c.budgets)))))))))))))
+
 -- a configuration that no rule refuses
 abbrev pub IsValid : Setup → Type 0
 IsValid c = refusal_of c ≡ None

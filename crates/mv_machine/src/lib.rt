@@ -22,8 +22,9 @@ pub use entry::{Entry, Object, Op, Reply, VolumeOp, VolumeReply};
 pub use laws::{
     generations_fit, histories_are_orderly, histories_are_their_parts, merging_keeps_a_history,
     others_keep_what_is_owned, places_count_entries, posts_complete_once,
-    reached_states_have_words, requests_stand_by_their_callers_entries, words_are_packings,
-    words_go_by_the_machine, words_stay_had,
+    reached_states_have_words, refused_configurations_are_not_valid,
+    requests_stand_by_their_callers_entries, words_are_packings, words_go_by_the_machine,
+    words_stay_had,
 };
 pub use limits::{HIGHEST_GENERATION, HIGHEST_PLACE};
 pub use log::{Log, OpenLog};

@@ -1,11 +1,14 @@
 -- Where the reader stands decides: what the next line says, or that the text is cut off.
-use Rattle.std.proofs.Common.{true, [], ◌≡◌, Some, refl, ap, sym, subst, ◌∙◌}
+use Rattle.std.proofs.Common.{true, [], ◌≡◌, Option, Some, refl, ap, sym, subst, ◌∙◌}
 use Rattle.mv_machine.specs.Setup.{Setup}
 use Rattle.mv_entrytext.specs.Journal as journal
 use Rattle.mv_entrytext.specs.Lines.{AtEntries, Draft, line_read}
 use Rattle.mv_entrytext.specs.Said.{said}
 use Rattle.mv_entrytext.specs.Draft.{IsAt, draft_at, head_seen}
-use Rattle.mv_entrytext.proofs.Heads.{not_ended, said_other, nothing_said, valid_said}
+use Rattle.mv_line.specs.Fault.{TellsLowest}
+use Rattle.mv_entrytext.specs.declared.fault.Kind.{Kind}
+use Rattle.mv_entrytext.specs.Fault.{kind_number, listed}
+use Rattle.mv_entrytext.proofs.Heads.{not_ended, said_other, nothing_said, config_said, valid_said}
 use Rattle.mv_entrytext.proofs.Passes.{next_at, at_form, at_said, at_cut}
 use Rattle.mv_entrytext.proofs.head.read_head.Goals as goal
 
@@ -29,7 +32,9 @@ returns-in-Err-checked c =
     let read : line_read true d.stage c.in-Some.text.now ≡ Some journal.Events =
     c.in-Ok.ensures ∙ ap (λ l. Some (said l)) c.in-Events.is in
     rw c.at-in-Err-checked.ensures
-    (at_said c.lines.invariant c.in-Some.ensures journal.Events read c.in-Err-checked.refusal c.in-Err-checked.ensures)
+    (at_said c.lines.invariant c.in-Some.ensures journal.Events read c.in-Err-checked.refusal
+    (subst (λ (k : Option Kind). TellsLowest kind_number c.in-Err-checked.refusal (listed k)) (config_said d.setup)
+    c.in-Err-checked.ensures))
 
 pub lines-preserved : goal.lines-preserved
 lines-preserved c =
