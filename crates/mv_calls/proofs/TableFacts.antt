@@ -1,18 +1,20 @@
 -- What a table keeps to that nothing refuses.
-use Rattle.std.proofs.Common.{◌≡◌, ℕ, zero, suc, ◌+◌, ◌==◌, ◌<◌, ◌≤◌, nat_lt, not, Bool, true, false, ◌||◌, List, [], ◌∷◌, ◌++◌}
+use Rattle.std.proofs.Common.{◌≡◌, ℕ, zero, suc, ◌+◌, ◌==◌, ◌<◌, ◌≤◌, nat_lt, not, Bool, true, false, ◌&&◌, ◌||◌, List, [], ◌∷◌, ◌++◌}
 use Rattle.std.proofs.Common.{length, map, find, cond, Option, Some, None, option_map, refl, sym, ap, ◌∙◌, arith}
 use Rattle.std.proofs.lemmas.List.Folds.{find-append}
 use Rattle.std.proofs.lemmas.Bool.{eqb-true}
 use Rattle.std.specs.List.{list_any, range_with_len}
 use Rattle.std.specs.Option.{option_or}
+use Rattle.std.specs.Prelude.{is_some}
 use Rattle.mv_machine.specs.Check.{is_within, or_else}
 use Rattle.mv_machine.specs.Reach.{reach, reach_within, exits_of, greatest, total, cut}
 use Rattle.mv_machine.specs.Setup.{Setup, SetupExit, owner_of, is_on, is_on_exit}
+use Rattle.mv_machine.proofs.Validity.{some_found, or_found}
 use Rattle.mv_calls.specs.declared.table.Table.{Table}
 use Rattle.mv_calls.specs.declared.table.TableRefusal.{TableRefusal}
 use Rattle.mv_calls.specs.declared.table.TableRefusal.TheVariants.{BadSize, BadRange, NotOwner, BadLatch, BadVolume, HasExit}
 use Rattle.mv_calls.specs.Table.{table_limit, event_block, slot_block, blocks_of_table, passes, meet, is_bad_range}
-use Rattle.mv_calls.specs.Table.{first_of_others, first_with_exit, table_refused_if, IsTableOf, IsSoundTable}
+use Rattle.mv_calls.specs.Table.{first_of_others, first_with_exit, table_refused_if, table_refusal, can_have, IsTableOf, IsSoundTable}
 
 -- ---- the list of refusals, one by one
 
@@ -132,3 +134,45 @@ alone_within (suc depth) c e none =
 
 pub reaches_itself : (c : Setup) (e : ℕ) → is_on_exit c e ≡ false → reach c e ≤ 1
 reaches_itself c e none = alone_within (length c.owners) c e none
+
+-- ---- whether a configuration can have a table
+
+-- one more test, which refuses if it fails
+or_unkept : (k : Bool) (why : TableRefusal) (o : Option TableRefusal) (r : Bool) → is_some o ≡ not r
+    → is_some (or_else (table_refused_if (not k) why) o) ≡ not (k && r)
+or_unkept true why o r e = e
+or_unkept false why o r e = refl
+
+-- one more test, which refuses if it holds
+or_refused : (b : Bool) (why : TableRefusal) (o : Option TableRefusal) (r : Bool) → is_some o ≡ not r
+    → is_some (or_else (table_refused_if b why) o) ≡ not (not b && r)
+or_refused true why o r e = refl
+or_refused false why o r e = e
+
+-- the last reason
+last_found : (f : ℕ → TableRefusal) (x : Option ℕ) (b : Bool) → is_some x ≡ b → is_some (option_map f x) ≡ not (not b)
+last_found f None false same = refl
+last_found f None true same = absurd (cc same)
+last_found f (Some n) false same = absurd (cc same)
+last_found f (Some n) true same = refl
+
+-- a table is refused exactly if the configuration cannot have it
+pub can_have_is : (c : Setup) (t : Table) → is_some (table_refusal c t) ≡ not (can_have c t)
+can_have_is c t =
+    let others : Bool = list_any (λ e. not (owner_of c e == t.owner)) (blocks_of_table t) in
+    let exits : Bool = list_any (is_on_exit c) (blocks_of_table t) in
+    let o5 : Option TableRefusal = option_map (λ e. HasExit e) (first_with_exit c t) in
+    let o4 : Option TableRefusal = or_else (table_refused_if (not (nat_lt t.volume c.volumes)) BadVolume) o5 in
+    let o3 : Option TableRefusal = or_else (table_refused_if (not (nat_lt t.latch c.latches)) BadLatch) o4 in
+    let o2 : Option TableRefusal = or_else (option_map (λ e. NotOwner e) (first_of_others c t)) o3 in
+    let o1 : Option TableRefusal = or_else (table_refused_if (is_bad_range c t) BadRange) o2 in
+    let r4 : Bool = nat_lt t.volume c.volumes && not exits in
+    let r3 : Bool = nat_lt t.latch c.latches && r4 in
+    let r2 : Bool = not others && r3 in
+    or_unkept (is_within 1 table_limit t.size) BadSize o1 (not (is_bad_range c t) && r2)
+    (or_refused (is_bad_range c t) BadRange o2 r2
+    (or_found (λ e. NotOwner e) (first_of_others c t) others o3 r3
+    (some_found (λ e. not (owner_of c e == t.owner)) (blocks_of_table t))
+    (or_unkept (nat_lt t.latch c.latches) BadLatch o4 r4
+    (or_unkept (nat_lt t.volume c.volumes) BadVolume o5 (not exits)
+    (last_found (λ e. HasExit e) (first_with_exit c t) exits (some_found (is_on_exit c) (blocks_of_table t)))))))

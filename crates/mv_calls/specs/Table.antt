@@ -1,7 +1,7 @@
 -- Tables of events: which tables a configuration can have.
 use Rattle.std.specs.Prelude.{◌≡◌, ℕ, ◌+◌, ◌==◌, ◌<◌, ◌≤◌, nat_lt, not, Bool, false, ◌&&◌, ◌||◌, List, ◌++◌, length, find, Option, Some}
 use Rattle.std.specs.Prelude.{None, option_map, if◌then◌else◌}
-use Rattle.std.specs.List.{range_with_len}
+use Rattle.std.specs.List.{list_any, range_with_len}
 use Rattle.mv_machine.specs.Check.{is_within, or_else}
 use Rattle.mv_machine.specs.Limits.{ecbs_limit}
 use Rattle.mv_machine.specs.Setup.{Setup, owner_of, is_on_exit}
@@ -38,6 +38,14 @@ meet first second size = nat_lt first (second + size) && nat_lt second (first + 
 -- whether the ranges of a table are bad: they go past the last block, or have a block in common
 abbrev pub is_bad_range : Setup → Table → Bool
 is_bad_range c t = passes c t.events t.size || passes c t.slots t.size || meet t.events t.slots t.size
+
+-- whether a configuration can have a table: it has 1 to 32 events, and as many slots; their blocks exist, no block is in both ranges,
+-- all are the owner's, and none is the source or a target of an exit; its latch and its volume exist
+abbrev pub can_have : Setup → Table → Bool
+can_have c t =
+    is_within 1 table_limit t.size && (not (is_bad_range c t)
+    && (not (list_any (λ e. not (owner_of c e == t.owner)) (blocks_of_table t))
+    && (nat_lt t.latch c.latches && (nat_lt t.volume c.volumes && not (list_any (is_on_exit c) (blocks_of_table t))))))
 
 -- the lowest block of a table that is not its owner's
 abbrev pub first_of_others : Setup → Table → Option ℕ

@@ -1,14 +1,15 @@
-//! Laws of a log's last event, and of how many events calls may need: by specs/Behind.antt, specs/Exits.antt, and the machine's
-//! specs/Replies.antt.
-ghost use Rattle.std.specs.Prelude.{◌≡◌, ◌<◌, ◌≤◌, ◌+◌, ◌++◌, ◌∷◌, ℕ, suc, true, List, [], length};
-ghost use Rattle.mv_machine.specs.Prelude.{EcbOp, ecb_step, ElementOp, element_step, LatchOp, Wake, latch_step};
-ghost use Rattle.mv_machine.specs.Prelude.{IsValid, IsNext, Legal, after, events_limit, highest_generation};
+//! Laws of a log's last event, of how many events calls may need, and of which tables are refused: by specs/Behind.antt,
+//! specs/Exits.antt, specs/Table.antt, and the machine's specs/Replies.antt.
+ghost use Rattle.std.specs.Prelude.{◌≡◌, ◌<◌, ◌≤◌, ◌+◌, ◌++◌, ◌∷◌, ℕ, suc, true, not, List, [], length, is_some};
+ghost use Rattle.mv_machine.specs.Prelude.{EcbOp, ecb_step, ElementOp, element_step, LatchOp, Wake, latch_step, volume_step, told};
+ghost use Rattle.mv_machine.specs.Prelude.{IsValid, IsNext, Legal, after, events_limit, highest_generation, is_exit_of, targets_of, System};
 ghost use Rattle.mv_machine.specs.Prelude.{IsPossible, reach, total, IsOfKind, HasPlaceAsNumber, NamesUpTo, NamesLowCode, Setup};
-ghost use Rattle.mv_machine.specs.Prelude.{is_exit_of, targets_of, System, volume_step, told};
 ghost use Rattle.mv_machine.specs.declared.entry.Op.TheVariants as op_on;
 ghost use Rattle.mv_machine.specs.declared.entry.Reply.TheVariants as reply_of;
-ghost use Rattle.mv_calls.specs.Prelude.{Entry, Ecb, Element, Volume, Latches, VolumeOp};
-ghost use Rattle.mv_calls.specs.Prelude.{IsBehind, Kept, told_by, HaveTheirWakes, post, Heard, Says, entries};
+ghost use Rattle.mv_calls.specs.Prelude.{Entry, Ecb, Element, Volume, Latches, VolumeOp, IsBehind, Kept, told_by, HaveTheirWakes, post};
+ghost use Rattle.mv_calls.specs.Prelude.{Heard, Says, entries};
+ghost use Rattle.mv_calls.specs.declared.table.Table.{Table};
+ghost use Rattle.mv_calls.specs.Table.{table_refusal, can_have};
 ghost use Rattle.mv_calls.specs.Exits.{NamesOwnExit, NameOwnExits, HaveFairWakes};
 ghost use Rattle.mv_calls.specs.Services.{Service, program, most_events, HasItsTable};
 
@@ -70,4 +71,9 @@ pub fn calls_keep_to_their_events()
     ensures possible { (c : Setup) (k : ℕ) (kept : Kept) (s : Service) (log : List Entry) (shown : List (List Wake)) (hs : List Heard)
         → IsPossible c k (log ++ entries hs) (shown ++ told_by hs) → HaveTheirWakes hs → HasItsTable c s
         → most_events c kept s ≤ events_limit → Says (program c s kept) hs → length hs ≤ most_events c kept s }
+{}
+
+/// Shows that a table is refused exactly if it does not pass the test `can_have`.
+pub fn refused_tables_cannot_be_had()
+    ensures { (c : Setup) (t : Table) → is_some (table_refusal c t) ≡ not (can_have c t) }
 {}

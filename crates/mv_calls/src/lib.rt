@@ -16,7 +16,7 @@ mod table;
 
 pub use call_laws::{
     calls_keep_to_their_events, codes_in_replies, generations_in_replies,
-    last_event_is_the_machines, posts_reach,
+    last_event_is_the_machines, posts_reach, refused_tables_cannot_be_had,
 };
 pub use calls_replaying::{CallsRefusal, replay_calls};
 pub use counters::CallCounters;

@@ -81,8 +81,8 @@ some_placed test i (x ∷ xs) = go (test x) (some_placed test (i + 1) xs) where
   go false ih = ih
 
 -- one more reason, if it is found
-or_found : {A : Type 0} (f : A → CheckRefusal) (x : Option A) (b : Bool) (o : Option CheckRefusal) (r : Bool) → is_some x ≡ b
-    → is_some o ≡ not r → is_some (or_else (option_map f x) o) ≡ not (not b && r)
+pub or_found : {A R : Type 0} (f : A → R) (x : Option A) (b : Bool) (o : Option R) (r : Bool) → is_some x ≡ b → is_some o ≡ not r
+    → is_some (or_else (option_map f x) o) ≡ not (not b && r)
 or_found f None false o r same e = e
 or_found f None true o r same e = absurd (cc same)
 or_found f (Some a) false o r same e = absurd (cc same)

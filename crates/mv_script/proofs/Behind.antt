@@ -8,6 +8,7 @@ use Rattle.mv_machine.specs.Limits.{events_limit}
 use Rattle.mv_machine.specs.Setup.{Setup, SetupExit}
 use Rattle.mv_calls.specs.declared.table.Table.{Table}
 use Rattle.mv_calls.specs.Table.{IsTableOf}
+use Rattle.mv_calls.proofs.TableFacts.{can_have_is}
 use Rattle.mv_script.specs.declared.call.Call.{Call}
 use Rattle.mv_script.specs.declared.statement.Statement.{Statement}
 use Rattle.mv_script.specs.declared.statement.Statement.TheVariants as statement
@@ -263,7 +264,7 @@ module _ (earlier : List Statement) (n : Notes) (b : Stands earlier n) where
       taken (statement.Table t) _ _ (one_table earlier t (none_of p.table none))
       (headed p.owners n.owners p.exit p.exits n.exits (Some t) (Some t) e.0 (sound_table p b.far.sound t e.0 is) b.far.owners
       b.far.exits refl)
-      refl a.0 order none refl refl refl (ap is_some is)
+      refl a.0 order none refl refl refl (sym (can_have_is (setup_in p []) t) ∙ ap is_some is)
 
   -- ---- a TASK
 

@@ -6,6 +6,7 @@ use Rattle.std.specs.Prelude.{nat_lt, nat_le, sum, fold}
 use Rattle.mv_line.specs.Line.{lines_of}
 use Rattle.mv_machine.specs.Limits.{events_limit}
 use Rattle.mv_calls.specs.Table.{table_refusal}
+use Rattle.mv_calls.proofs.TableFacts.{can_have_is}
 use Rattle.mv_line.specs.Line.{shown, is_ignored, is_foreign, is_too_long}
 use Rattle.mv_script.specs.declared.fault.Kind.{Kind}
 use Rattle.mv_script.specs.declared.fault.Kind.TheVariants.{ForeignByte, TooLong, NoForm, BadNumber}
@@ -126,7 +127,8 @@ holds_more earlier (statement.Table t) h g f =
     let e = or_parts _ _ a.1 in
     record {
       sound = subst IsSoundSoFar (sym (one_table earlier t (none_of (table_of earlier) f.count)))
-          (sound_table (progress_of earlier) h.sound t e.0 (none_of (table_refusal (setup_with earlier []) t) f.fits));
+          (sound_table (progress_of earlier) h.sound t e.0 (none_of (table_refusal (setup_with earlier []) t)
+          (can_have_is (setup_with earlier []) t ∙ f.fits)));
       first = stays_first earlier (statement.Table t) refl a.0;
     }
 holds_more earlier statement.Task h g f =

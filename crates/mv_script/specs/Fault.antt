@@ -9,7 +9,7 @@ use Rattle.mv_line.specs.Fault.{LineRules, HasFaultAt, when}
 use Rattle.mv_line.specs.Fault as of_lines
 pub use Rattle.mv_line.specs.Fault.{TellsFirst}
 use Rattle.mv_machine.specs.Limits.{events_limit}
-use Rattle.mv_calls.specs.Table.{table_refusal}
+use Rattle.mv_calls.specs.Table.{can_have}
 use Rattle.mv_script.specs.declared.call.Call.{Call}
 use Rattle.mv_script.specs.declared.call.Call.TheVariants as call
 use Rattle.mv_script.specs.declared.fault.Kind.{Kind}
@@ -151,7 +151,7 @@ uses_table earlier _ = false
 
 -- whether a statement is a TABLE that the configuration cannot have
 abbrev pub is_bad_table : List Statement → Statement → Bool
-is_bad_table earlier (statement.Table t) = is_some (table_refusal (setup_with earlier []) t)
+is_bad_table earlier (statement.Table t) = not (can_have (setup_with earlier []) t)
 is_bad_table earlier _ = false
 
 -- ---- all faults, and the first

@@ -6,6 +6,7 @@ use Rattle.mv_machine.specs.Config.{exit_of}
 use Rattle.mv_machine.specs.Setup.{Setup}
 use Rattle.mv_calls.specs.declared.table.Table.{Table}
 use Rattle.mv_calls.specs.Table.{table_refusal}
+use Rattle.mv_calls.proofs.TableFacts.{can_have_is}
 use Rattle.mv_script.specs.declared.statement.Statement.{Statement}
 use Rattle.mv_script.specs.declared.statement.Statement.TheVariants as statement
 use Rattle.mv_script.specs.Fault.{is_out_of_order, has_table}
@@ -66,4 +67,5 @@ returns c = λ earlier b good.
     let none : has_table earlier ≡ false = sym (table_is earlier n b) ∙ first at.After-deref-2 in
     unfit earlier (statement.Table c.args.table) (order at.After-deref-2 earlier b) none refl refl
     (cheap_table earlier n b c.args.table (first at.After-deref-2)) refl
-    (ap is_some (sym (checked_in at.After-check earlier b) ∙ c.in-Err.ensures.refused))
+    (sym (can_have_is (setup_in (progress_of earlier) []) c.args.table)
+    ∙ ap is_some (sym (checked_in at.After-check earlier b) ∙ c.in-Err.ensures.refused))
