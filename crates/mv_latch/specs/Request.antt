@@ -3,7 +3,7 @@ use Rattle.std.specs.Prelude.{ℕ, ◌==◌, Bool, true, false, ◌&&◌, Option
 use Rattle.mv_latch.specs.declared.request.Mode.{Mode}
 use Rattle.mv_latch.specs.declared.request.Mode.TheVariants.{Shared, Exclusive}
 use Rattle.mv_latch.specs.declared.request.LatchForm.{LatchForm}
-use Rattle.mv_latch.specs.declared.request.LatchForm.TheVariants.{Conditional, Waiting, Posted}
+use Rattle.mv_latch.specs.declared.request.LatchForm.TheVariants.{Conditional, Posted}
 use Rattle.mv_latch.specs.declared.request.Request.{Request}
 use Rattle.mv_latch.specs.declared.operation.Wake.{Wake}
 
@@ -15,20 +15,17 @@ is_shared Exclusive = false
 -- whether a request of this form is queued if it is not granted at once
 abbrev pub queues : LatchForm → Bool
 queues Conditional = false
-queues Waiting = true
-queues (Posted ecb) = true
+queues _ = true
 
 -- whether a request of this form has an ECB posted at its grant
 abbrev pub is_posted : LatchForm → Bool
-is_posted Conditional = false
-is_posted Waiting = false
 is_posted (Posted ecb) = true
+is_posted _ = false
 
 -- the ECB that a request of this form has posted at its grant, if any
 abbrev pub posted_ecb : LatchForm → Option ℕ
-posted_ecb Conditional = None
-posted_ecb Waiting = None
 posted_ecb (Posted ecb) = Some ecb
+posted_ecb _ = None
 
 -- whether a request is a shared one
 abbrev pub shared_request : Request → Bool

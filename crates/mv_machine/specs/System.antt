@@ -65,22 +65,17 @@ place_of s Latches = s.latches.place
 -- which operations a caller may make on a block: any caller may post it and read it; only its owner may arm, extend, settle and
 -- clear it
 abbrev pub ecb_admitted : Setup → ℕ → ℕ → EcbOp → Bool
-ecb_admitted c k n ecb_op.Arm = owner_of c n == k
-ecb_admitted c k n (ecb_op.Extend x) = (owner_of c n == k) && (nat_lt x code_limit && is_exit_of c x n)
-ecb_admitted c k n ecb_op.Settle = owner_of c n == k
-ecb_admitted c k n ecb_op.Clear = owner_of c n == k
 ecb_admitted c k n (ecb_op.Post d) = nat_lt d code_limit
 ecb_admitted c k n ecb_op.Test = true
+ecb_admitted c k n (ecb_op.Extend x) = (owner_of c n == k) && (nat_lt x code_limit && is_exit_of c x n)
+ecb_admitted c k n _ = owner_of c n == k
 
 -- which operations a caller may make on an element: any caller may release it and read it; only its owner may open it, pause
 -- with it, resume and close it
 abbrev pub element_admitted : Setup → ℕ → ℕ → ElementOp → Bool
-element_admitted c k n element_op.Open = element_owner c n == k
-element_admitted c k n (element_op.Pause g) = element_owner c n == k
-element_admitted c k n (element_op.Resume g) = element_owner c n == k
 element_admitted c k n (element_op.Release g d) = nat_lt d release_limit
-element_admitted c k n (element_op.Close g) = element_owner c n == k
 element_admitted c k n element_op.Test = true
+element_admitted c k n _ = element_owner c n == k
 
 -- which operations may be made on a volume: a number that is written has 32 bits
 abbrev pub volume_admitted : VolumeOp → Bool
