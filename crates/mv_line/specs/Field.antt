@@ -28,13 +28,10 @@ starts_fields (b ∷ bs) rest = (b ∷ bs) ∷ rest
 
 -- the field of a list that has exactly one
 abbrev pub one_of : List (List ℕ) → Option (List ℕ)
-one_of [] = None
 one_of (field ∷ []) = Some field
-one_of (first ∷ second ∷ more) = None
+one_of _ = None
 
 -- the fields of a list that has exactly two
 abbrev pub two_of : List (List ℕ) → Option (List ℕ × List ℕ)
-two_of [] = None
-two_of (first ∷ []) = None
 two_of (first ∷ second ∷ []) = Some (first, second)
-two_of (first ∷ second ∷ third ∷ more) = None
+two_of _ = None
