@@ -6,7 +6,7 @@ use Rattle.std.proofs.lemmas.Bool.{eqb-true}
 use Rattle.std.specs.List.{list_any, range_with_len}
 use Rattle.std.specs.Option.{option_or}
 use Rattle.std.specs.Prelude.{is_some}
-use Rattle.mv_machine.specs.Check.{is_within, or_else}
+use Rattle.mv_machine.specs.Check.{is_within}
 use Rattle.mv_machine.specs.Reach.{reach, reach_within, exits_of, greatest, total, cut}
 use Rattle.mv_machine.specs.Setup.{Setup, SetupExit, owner_of, is_on, is_on_exit}
 use Rattle.mv_machine.proofs.Validity.{some_found, or_found}
@@ -18,7 +18,7 @@ use Rattle.mv_calls.specs.Table.{first_of_others, first_with_exit, table_refused
 
 -- ---- the list of refusals, one by one
 
-pub both_none : {A : Type 0} (a b : Option A) → or_else a b ≡ None → (a ≡ None) × (b ≡ None)
+pub both_none : {A : Type 0} (a b : Option A) → option_or a b ≡ None → (a ≡ None) × (b ≡ None)
 both_none None b e = (refl, e)
 both_none (Some a) b e = absurd (cc e)
 
@@ -139,13 +139,13 @@ reaches_itself c e none = alone_within (length c.owners) c e none
 
 -- one more test, which refuses if it fails
 or_unkept : (k : Bool) (why : TableRefusal) (o : Option TableRefusal) (r : Bool) → is_some o ≡ not r
-    → is_some (or_else (table_refused_if (not k) why) o) ≡ not (k && r)
+    → is_some (option_or (table_refused_if (not k) why) o) ≡ not (k && r)
 or_unkept true why o r e = e
 or_unkept false why o r e = refl
 
 -- one more test, which refuses if it holds
 or_refused : (b : Bool) (why : TableRefusal) (o : Option TableRefusal) (r : Bool) → is_some o ≡ not r
-    → is_some (or_else (table_refused_if b why) o) ≡ not (not b && r)
+    → is_some (option_or (table_refused_if b why) o) ≡ not (not b && r)
 or_refused true why o r e = refl
 or_refused false why o r e = e
 
@@ -162,10 +162,10 @@ can_have_is c t =
     let others : Bool = list_any (λ e. not (owner_of c e == t.owner)) (blocks_of_table t) in
     let exits : Bool = list_any (is_on_exit c) (blocks_of_table t) in
     let o5 : Option TableRefusal = option_map (λ e. HasExit e) (first_with_exit c t) in
-    let o4 : Option TableRefusal = or_else (table_refused_if (not (nat_lt t.volume c.volumes)) BadVolume) o5 in
-    let o3 : Option TableRefusal = or_else (table_refused_if (not (nat_lt t.latch c.latches)) BadLatch) o4 in
-    let o2 : Option TableRefusal = or_else (option_map (λ e. NotOwner e) (first_of_others c t)) o3 in
-    let o1 : Option TableRefusal = or_else (table_refused_if (is_bad_range c t) BadRange) o2 in
+    let o4 : Option TableRefusal = option_or (table_refused_if (not (nat_lt t.volume c.volumes)) BadVolume) o5 in
+    let o3 : Option TableRefusal = option_or (table_refused_if (not (nat_lt t.latch c.latches)) BadLatch) o4 in
+    let o2 : Option TableRefusal = option_or (option_map (λ e. NotOwner e) (first_of_others c t)) o3 in
+    let o1 : Option TableRefusal = option_or (table_refused_if (is_bad_range c t) BadRange) o2 in
     let r4 : Bool = nat_lt t.volume c.volumes && not exits in
     let r3 : Bool = nat_lt t.latch c.latches && r4 in
     let r2 : Bool = not others && r3 in

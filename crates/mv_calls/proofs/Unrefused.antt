@@ -4,7 +4,7 @@ use Rattle.std.proofs.Common.{◌≡◌, ℕ, ◌+◌, ◌≤◌, nat_lt, false,
 use Rattle.std.proofs.Common.{refl, sym, ap}
 use Rattle.std.specs.List.{AllByRecursion}
 use Rattle.std.proofs.lemmas.Bool.{eq-eqb, le-ltb}
-use Rattle.mv_machine.specs.Check.{or_else}
+use Rattle.std.specs.Option.{option_or}
 use Rattle.mv_machine.specs.Setup.{Setup, owner_of}
 use Rattle.mv_calls.specs.Keeping.{Kept}
 use Rattle.mv_calls.specs.Program.{unless_refused}
@@ -15,7 +15,7 @@ use Rattle.mv_machine.proofs.Lists.{all_map, all_push}
 use Rattle.mv_calls.proofs.Distinct.{none_found}
 
 -- none of four reasons holds
-no_reason : (a b c d : Option Refusal) → a ≡ None → b ≡ None → c ≡ None → d ≡ None → or_else a (or_else b (or_else c d)) ≡ None
+no_reason : (a b c d : Option Refusal) → a ≡ None → b ≡ None → c ≡ None → d ≡ None → option_or a (option_or b (option_or c d)) ≡ None
 no_reason a b c d p q r s = rw (p, q, r, s) refl
 
 -- a test that holds nowhere refuses no position

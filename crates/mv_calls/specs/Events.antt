@@ -1,8 +1,8 @@
 -- The calls on tables of events. Each is made of other calls, one after the other.
 use Rattle.std.specs.Prelude.{ℕ, ◌+◌, ◌^◌, ◌==◌, nat_lt, false, not, List, [], ◌∷◌, Option, Result, Ok, Err, if◌then◌else◌}
+use Rattle.std.specs.Option.{option_or}
 use Rattle.mv_latch.specs.declared.request.LatchForm.TheVariants.{Waiting}
 use Rattle.mv_latch.specs.declared.request.Mode.TheVariants.{Exclusive}
-use Rattle.mv_machine.specs.Check.{or_else}
 use Rattle.mv_machine.specs.Setup.{Setup}
 use Rattle.mv_calls.specs.declared.outcomes.PostAnswer.{PostAnswer}
 use Rattle.mv_calls.specs.declared.outcomes.PostAnswer.TheVariants.{Already}
@@ -75,7 +75,7 @@ post_event c t index code kept =
 -- why a next event is refused: the table is another caller's, or has no such position
 abbrev pub next_event_refusal : Table → ℕ → Kept → Option Refusal
 next_event_refusal t position kept =
-    or_else (refused_if (not (t.owner == kept.caller)) refusal.NotOwner)
+    option_or (refused_if (not (t.owner == kept.caller)) refusal.NotOwner)
     (refused_if (not (nat_lt position t.size)) refusal.Drained)
 
 -- the index of the event is handed out with the word of its block

@@ -1,5 +1,6 @@
 -- The calls on the latch set.
 use Rattle.std.specs.Prelude.{ℕ, nat_lt, Bool, true, not, List, Option, Result, Ok, Err}
+use Rattle.std.specs.Option.{option_or}
 use Rattle.mv_latch.specs.declared.operation.LatchOp.TheVariants as latch_op
 use Rattle.mv_latch.specs.declared.operation.LatchReply.{LatchReply}
 use Rattle.mv_latch.specs.declared.operation.LatchReply.TheVariants as latch_reply
@@ -9,7 +10,6 @@ use Rattle.mv_latch.specs.declared.request.LatchForm.TheVariants as form_of
 use Rattle.mv_latch.specs.declared.request.Mode.{Mode}
 use Rattle.mv_machine.specs.declared.entry.Object.TheVariants.{Latches}
 use Rattle.mv_machine.specs.declared.entry.Op.TheVariants as op_on
-use Rattle.mv_machine.specs.Check.{or_else}
 use Rattle.mv_machine.specs.Kept.{keeps_quotas}
 use Rattle.mv_machine.specs.Setup.{Setup}
 use Rattle.mv_machine.specs.System.{posts_own_ecb}
@@ -35,8 +35,8 @@ pub data Requested : Type 0 where
 -- may
 abbrev pub obtain_refusal : Setup → ℕ → ℕ → Mode → LatchForm → Kept → Option Refusal
 obtain_refusal c latch requestor mode form kept =
-    or_else (refused_if (not (nat_lt latch c.latches)) refusal.BadLatch)
-    (or_else (refused_if (not (posts_own_ecb c kept.caller (latch_op.Obtain latch requestor mode form))) refusal.NotOwner)
+    option_or (refused_if (not (nat_lt latch c.latches)) refusal.BadLatch)
+    (option_or (refused_if (not (posts_own_ecb c kept.caller (latch_op.Obtain latch requestor mode form))) refusal.NotOwner)
     (refused_if (not (keeps_quotas c kept.requests form)) refusal.Quota))
 
 -- the rest of an obtain after its confirm: if the request still waits, the wait has ended too soon

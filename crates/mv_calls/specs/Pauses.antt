@@ -1,5 +1,6 @@
 -- The calls on pause elements.
 use Rattle.std.specs.Prelude.{ℕ, ◌==◌, Bool, true, false, not, ◌&&◌, find, Option, Some, None, Result, Ok, Err}
+use Rattle.std.specs.Option.{option_or}
 use Rattle.mv_element.specs.declared.element.ElementState.{ElementState}
 use Rattle.mv_element.specs.declared.element.Token.{Token}
 use Rattle.mv_element.specs.declared.operation.ElementOp.TheVariants as element_op
@@ -9,7 +10,6 @@ use Rattle.mv_machine.specs.declared.entry.Object.TheVariants.{Element}
 use Rattle.mv_machine.specs.declared.entry.Op.TheVariants as op_on
 use Rattle.mv_machine.specs.declared.entry.Reply.{Reply}
 use Rattle.mv_machine.specs.declared.entry.Reply.TheVariants as reply_of
-use Rattle.mv_machine.specs.Check.{or_else}
 use Rattle.mv_machine.specs.Setup.{Setup, element_owner, own_elements}
 use Rattle.mv_calls.specs.declared.outcomes.Given.{Given}
 use Rattle.mv_calls.specs.declared.outcomes.ReleaseAnswer.{ReleaseAnswer}
@@ -115,7 +115,7 @@ try_release t expected code kept = tried same_release_reply (Element t.element) 
 abbrev pub transfer_refusal : Setup → Option Token → Kept → Option Refusal
 transfer_refusal c None kept = None
 transfer_refusal c (Some t) kept =
-    or_else (refused_if (is_others_token c kept t) refusal.NotOwner)
+    option_or (refused_if (is_others_token c kept t) refusal.NotOwner)
     (refused_if (not (kept.in_use t.element && (kept.generation t.element == t.generation)))
     (refusal.Spent (kept.generation t.element)))
 

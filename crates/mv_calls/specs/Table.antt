@@ -2,7 +2,8 @@
 use Rattle.std.specs.Prelude.{◌≡◌, ℕ, ◌+◌, ◌==◌, ◌<◌, ◌≤◌, nat_lt, not, Bool, false, ◌&&◌, ◌||◌, List, ◌++◌, length, find, Option, Some}
 use Rattle.std.specs.Prelude.{None, option_map, if◌then◌else◌}
 use Rattle.std.specs.List.{list_any, range_with_len}
-use Rattle.mv_machine.specs.Check.{is_within, or_else}
+use Rattle.std.specs.Option.{option_or}
+use Rattle.mv_machine.specs.Check.{is_within}
 use Rattle.mv_machine.specs.Limits.{ecbs_limit}
 use Rattle.mv_machine.specs.Setup.{Setup, owner_of, is_on_exit}
 use Rattle.mv_calls.specs.declared.table.Table.{Table}
@@ -62,11 +63,11 @@ table_refused_if b why = if b then Some why else None
 -- why a table is refused, if it is
 abbrev pub table_refusal : Setup → Table → Option TableRefusal
 table_refusal c t =
-    or_else (table_refused_if (not (is_within 1 table_limit t.size)) BadSize)
-    (or_else (table_refused_if (is_bad_range c t) BadRange)
-    (or_else (option_map (λ e. NotOwner e) (first_of_others c t))
-    (or_else (table_refused_if (not (nat_lt t.latch c.latches)) BadLatch)
-    (or_else (table_refused_if (not (nat_lt t.volume c.volumes)) BadVolume)
+    option_or (table_refused_if (not (is_within 1 table_limit t.size)) BadSize)
+    (option_or (table_refused_if (is_bad_range c t) BadRange)
+    (option_or (option_map (λ e. NotOwner e) (first_of_others c t))
+    (option_or (table_refused_if (not (nat_lt t.latch c.latches)) BadLatch)
+    (option_or (table_refused_if (not (nat_lt t.volume c.volumes)) BadVolume)
     (option_map (λ e. HasExit e) (first_with_exit c t))))))
 
 -- a table that was checked against this configuration: no rule refuses it

@@ -2,6 +2,7 @@
 use Rattle.std.specs.Prelude.{◌≡◌, ℕ, ◌+◌, ◌==◌, nat_le, nat_lt, Bool, not, List, [], ◌∷◌, ◌++◌, length, Option, Some, None, Result, Ok}
 use Rattle.std.specs.Prelude.{Err, if◌then◌else◌}
 use Rattle.std.specs.List.{AllByRecursion, list_any}
+use Rattle.std.specs.Option.{option_or}
 use Rattle.mv_ecb.specs.declared.operation.EcbOp.TheVariants as ecb_op
 use Rattle.mv_ecb.specs.declared.operation.EcbReply.{EcbReply}
 use Rattle.mv_ecb.specs.declared.operation.EcbReply.TheVariants as ecb_reply
@@ -10,7 +11,6 @@ use Rattle.mv_machine.specs.declared.entry.Op.TheVariants as op_on
 use Rattle.mv_machine.specs.declared.entry.VolumeOp.TheVariants as volume_op
 use Rattle.mv_machine.specs.declared.entry.VolumeReply.{VolumeReply}
 use Rattle.mv_machine.specs.declared.entry.VolumeReply.TheVariants as volume_reply
-use Rattle.mv_machine.specs.Check.{or_else}
 use Rattle.mv_machine.specs.Setup.{Setup, owner_of, is_exit_of}
 use Rattle.mv_calls.specs.Keeping.{Kept}
 use Rattle.mv_calls.specs.Program.{Program, Do, Done, Early, Wrong, Call, on_ecb, on_volume, unless_refused}
@@ -49,9 +49,9 @@ is_others_block c kept e = not (owner_of c e == kept.caller)
 -- extended
 abbrev pub wait_refusal : Setup → ℕ → List ℕ → Kept → Option Refusal
 wait_refusal c count es kept =
-    or_else (refused_if (nat_lt (length es) count) refusal.TooMany)
-    (or_else (doubled_at [] 0 es)
-    (or_else (refused_at refusal.NotOwnerAt (is_others_block c kept) 0 es)
+    option_or (refused_if (nat_lt (length es) count) refusal.TooMany)
+    (option_or (doubled_at [] 0 es)
+    (option_or (refused_at refusal.NotOwnerAt (is_others_block c kept) 0 es)
     (refused_at refusal.ExtendedAt kept.extended 0 es)))
 
 -- the rest of a wait after the reply to an arm: it was armed, or the block is complete
@@ -107,8 +107,8 @@ clear c e kept =
 -- why an extend is refused: the block is another caller's, the exit does not start from it, or it is extended
 abbrev pub extend_refusal : Setup → ℕ → ℕ → Kept → Option Refusal
 extend_refusal c e exit kept =
-    or_else (refused_if (is_others_block c kept e) refusal.NotOwner)
-    (or_else (refused_if (not (is_exit_of c exit e)) refusal.BadExit)
+    option_or (refused_if (is_others_block c kept e) refusal.NotOwner)
+    (option_or (refused_if (not (is_exit_of c exit e)) refusal.BadExit)
     (refused_if (kept.extended e) refusal.Extended))
 
 -- the rest of an extend after its reply

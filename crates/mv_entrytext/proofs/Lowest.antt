@@ -4,7 +4,7 @@ use Rattle.std.proofs.Common.{Option, Some, None, if◌then◌else◌, ◌⊎◌
 use Rattle.std.specs.Prelude.{MatchOption, slice_index_or, is_some, fold}
 use Rattle.std.specs.List.{Contains}
 use Rattle.std.proofs.lemmas.Bool.{ne_eqb}
-use Rattle.mv_machine.specs.Check.{or_else}
+use Rattle.std.specs.Option.{option_or}
 use Rattle.mv_line.specs.declared.fault.TextFault.{TextFault}
 use Rattle.mv_line.specs.Fault.{HasFaultAt, in_line, at_end, fault_at, faults_by_line, first_of_list, when}
 use Rattle.mv_line.specs.Fault as by_number
@@ -23,7 +23,7 @@ use Rattle.mv_entrytext.specs.Lines.{Draft, line_read, blank}
 -- by what is read of it strictly, and whether it is read loosely
 abbrev told : Draft → Option Line → Bool → Option Kind
 told d o loose =
-    or_else (if not (is_some o || loose) then Some NoForm else if not (is_some o) then Some BadNumber else None) (kind_said d o)
+    option_or (if not (is_some o || loose) then Some NoForm else if not (is_some o) then Some BadNumber else None) (kind_said d o)
 
 abbrev every : Draft → Option Line → Bool → List ℕ
 every d o loose =

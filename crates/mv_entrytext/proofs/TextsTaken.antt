@@ -6,9 +6,10 @@ use Rattle.std.specs.List.{flat_map, AllByRecursion}
 use Rattle.std.proofs.lemmas.Bool.{eqb-true, false≢true, and_parts}
 use Rattle.std.proofs.lemmas.List.{append-nil, nil_from_length, flat_map_more}
 use Rattle.std.proofs.lemmas.List.Elements.{All-from_recursion}
+use Rattle.std.specs.Option.{option_or}
 use Rattle.mv_machine.specs.declared.entry.Entry.{Entry}
 use Rattle.mv_machine.specs.declared.config.CheckRefusal.{CheckRefusal}
-use Rattle.mv_machine.specs.Check.{IsValid, refusal_of, or_else}
+use Rattle.mv_machine.specs.Check.{IsValid, refusal_of}
 use Rattle.mv_entrytext.proofs.Heads.{config_said}
 use Rattle.mv_machine.specs.Setup.{Setup, SetupExit}
 use Rattle.mv_line.specs.Fault.{faults_by_line, first_of_list}
@@ -237,7 +238,7 @@ pub record IsSaid (d : Draft) (text : List ℕ) : Type 0 where
   pub fine : kind_said d (Some said) ≡ None
 
 abbrev kind_by : Bool → Bool → Option Kind → Option Kind
-kind_by strict loose said = or_else (cond (not (strict || loose)) (Some NoForm) (cond (not strict) (Some BadNumber) None)) said
+kind_by strict loose said = option_or (cond (not (strict || loose)) (Some NoForm) (cond (not strict) (Some BadNumber) None)) said
 
 kind_none : (strict loose : Bool) (said : Option Kind) → kind_by strict loose said ≡ None → (strict ≡ true) × (said ≡ None)
 kind_none true loose said e = (refl, e)

@@ -1,8 +1,9 @@
 -- The faults of a text: a test for each kind of fault that a line can have, and which fault is the first.
 use Rattle.std.specs.Prelude.{◌≡◌, ℕ, ◌<◌, ◌≤◌, ◌⊎◌, ◌==◌, Bool, true, false, ◌&&◌, ◌||◌, not, List, [], ◌++◌, length, fold, All, Option, Some}
 use Rattle.std.specs.Prelude.{None, is_some, option_map, option_to_list, if◌then◌else◌}
+use Rattle.std.specs.Option.{option_or}
 use Rattle.mv_machine.specs.declared.entry.Entry.{Entry}
-use Rattle.mv_machine.specs.Check.{IsValid, is_valid, or_else}
+use Rattle.mv_machine.specs.Check.{IsValid, is_valid}
 use Rattle.mv_machine.specs.Setup.{Setup}
 use Rattle.mv_line.specs.declared.fault.TextFault.{TextFault}
 use Rattle.mv_line.specs.Fault.{LineRules, HasFaultAt, first_fault, when}
@@ -57,7 +58,7 @@ kind_said d (Some l) = if has_bad_config d l then Some BadConfig else if has_wro
 
 -- the first kind of fault of a line that ends with LF
 abbrev pub kind_of : Draft → List ℕ → Option Kind
-kind_of d line = or_else (kind_of_form d.stage line) (kind_said d (line_read true d.stage line))
+kind_of d line = option_or (kind_of_form d.stage line) (kind_said d (line_read true d.stage line))
 
 -- the number of a line's kind of fault as a list, which is empty if it has none
 abbrev pub listed : Option Kind → List ℕ

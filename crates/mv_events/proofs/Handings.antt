@@ -2,7 +2,7 @@
 use Rattle.std.proofs.Common.{◌≡◌, ℕ, ◌+◌, ◌<◌, ◌≤◌, ◌==◌, not, nat_lt, Bool, true, false, cond, List, [], ◌∷◌, Some, None, Result}
 use Rattle.std.proofs.Common.{Ok, Err, refl, sym, ap, ◌∙◌, subst, arith}
 use Rattle.std.proofs.lemmas.Bool.{eq-eqb, ne_eqb}
-use Rattle.mv_machine.specs.Check.{or_else}
+use Rattle.std.specs.Option.{option_or}
 use Rattle.mv_machine.specs.Setup.{Setup}
 use Rattle.mv_board.specs.Faces.{CallerFace}
 use Rattle.mv_calls.specs.declared.table.Table.{Table}
@@ -29,11 +29,11 @@ module _ (c : Setup) (t : Table) (position : ℕ) where
   -- the two tests of a next event
   tested : (f : CallerFace) (own there : Bool) → (t.owner == f.number) ≡ own → nat_lt position t.size ≡ there
       → next_event_refusal t position (keeps f)
-      ≡ or_else (refused_if (not own) refusal.NotOwner) (refused_if (not there) refusal.Drained)
+      ≡ option_or (refused_if (not own) refusal.NotOwner) (refused_if (not there) refusal.Drained)
   tested f own there is has =
-      ap (λ b. or_else (refused_if (not b) refusal.NotOwner) (refused_if (not (nat_lt position t.size)) refusal.Drained))
+      ap (λ b. option_or (refused_if (not b) refusal.NotOwner) (refused_if (not (nat_lt position t.size)) refusal.Drained))
       (ap (λ k. t.owner == k) (caller_is f) ∙ is)
-      ∙ ap (λ b. or_else (refused_if (not own) refusal.NotOwner) (refused_if (not b) refusal.Drained)) has
+      ∙ ap (λ b. option_or (refused_if (not own) refusal.NotOwner) (refused_if (not b) refusal.Drained)) has
 
   -- it was refused, and nothing was done
   refused : (f : CallerFace) (why : Refusal) → IsAtRest f.log → next_event_refusal t position (keeps f) ≡ Some why

@@ -1,13 +1,13 @@
 -- Operations on the latch set that a caller may make, and what an obtain that is not refused was asked.
 use Rattle.std.proofs.Common.{◌≡◌, ℕ, ◌<◌, nat_lt, Bool, true, false, not, List, Option, Some, None, refl, sym, ap, ◌∙◌}
 use Rattle.std.proofs.lemmas.Bool.{lt-ltb}
+use Rattle.std.specs.Option.{option_or}
 use Rattle.mv_latch.specs.declared.operation.LatchOp.TheVariants.{Obtain, Purge}
 use Rattle.mv_latch.specs.declared.request.LatchForm.{LatchForm}
 use Rattle.mv_latch.specs.declared.request.Mode.{Mode}
 use Rattle.mv_machine.specs.declared.entry.Entry.{Entry}
 use Rattle.mv_machine.specs.declared.entry.Object.TheVariants.{Latches}
 use Rattle.mv_machine.specs.declared.entry.Op.TheVariants as op_on
-use Rattle.mv_machine.specs.Check.{or_else}
 use Rattle.mv_machine.specs.Kept.{allowed, keeps_quotas, standing}
 use Rattle.mv_machine.specs.Setup.{Setup}
 use Rattle.mv_machine.specs.System.{posts_own_ecb}
@@ -26,7 +26,7 @@ may_purge c k requestor log lt = rw (lt-ltb k c.callers lt) refl
 -- an obtain's refusal, by what is asked in turn
 abbrev pub refusal_is : Bool → Bool → Bool → Option Refusal
 refusal_is there own within =
-    or_else (refused_if (not there) BadLatch) (or_else (refused_if (not own) NotOwner) (refused_if (not within) Quota))
+    option_or (refused_if (not there) BadLatch) (option_or (refused_if (not own) NotOwner) (refused_if (not within) Quota))
 
 pub refusal_by : (c : Setup) (latch requestor : ℕ) (mode : Mode) (form : LatchForm) (k : ℕ) (log : List Entry) (there own within : Bool)
     → nat_lt latch c.latches ≡ there → posts_own_ecb c k (Obtain latch requestor mode form) ≡ own

@@ -4,11 +4,12 @@ use Rattle.std.proofs.Common.{Option, Some, None, option_map, find, sum, refl, a
 use Rattle.std.specs.Prelude.{is_some}
 use Rattle.std.specs.List.{AllByRecursion, list_any, position_from}
 use Rattle.std.proofs.lemmas.Bool.{lt-leb, leb-false}
+use Rattle.std.specs.Option.{option_or}
 use Rattle.mv_machine.specs.declared.config.ConfigLimit.{ConfigLimit}
 use Rattle.mv_machine.specs.Limits.{events_limit}
 use Rattle.mv_machine.specs.Setup.{Setup}
 use Rattle.mv_machine.specs.Check.{IsValid, keeps, limits, first_limit, first_bad_owner, first_bad_exit, bad_budget}
-use Rattle.mv_machine.specs.Check.{is_bad_exit, is_valid, or_else, refusal_of}
+use Rattle.mv_machine.specs.Check.{is_bad_exit, is_valid, refusal_of}
 use Rattle.mv_machine.specs.declared.config.CheckRefusal.{CheckRefusal}
 use Rattle.mv_machine.specs.declared.config.CheckRefusal.TheVariants.{Limit, BadOwner, BadExit, Budget}
 
@@ -82,7 +83,7 @@ some_placed test i (x ∷ xs) = go (test x) (some_placed test (i + 1) xs) where
 
 -- one more reason, if it is found
 pub or_found : {A R : Type 0} (f : A → R) (x : Option A) (b : Bool) (o : Option R) (r : Bool) → is_some x ≡ b → is_some o ≡ not r
-    → is_some (or_else (option_map f x) o) ≡ not (not b && r)
+    → is_some (option_or (option_map f x) o) ≡ not (not b && r)
 or_found f None false o r same e = e
 or_found f None true o r same e = absurd (cc same)
 or_found f (Some a) false o r same e = absurd (cc same)
@@ -112,8 +113,8 @@ valid_is c =
     let exits : Bool = list_any (is_bad_exit (length c.owners)) c.exits in
     let high : Bool = nat_lt events_limit (sum c.budgets) in
     let o3 : Option CheckRefusal = option_map (λ b. Budget b) (bad_budget c) in
-    let o2 : Option CheckRefusal = or_else (option_map (λ x. BadExit x) (first_bad_exit c)) o3 in
-    let o1 : Option CheckRefusal = or_else (option_map (λ e. BadOwner e) (first_bad_owner c)) o2 in
+    let o2 : Option CheckRefusal = option_or (option_map (λ x. BadExit x) (first_bad_exit c)) o3 in
+    let o1 : Option CheckRefusal = option_or (option_map (λ e. BadOwner e) (first_bad_owner c)) o2 in
     let r : Bool = not owners && (not exits && not high) in
     or_found (λ l. Limit l) (first_limit c) (list_any (λ l. not (keeps l c)) limits) o1 r (some_found (λ l. not (keeps l c)) limits)
     (or_found (λ e. BadOwner e) (first_bad_owner c) owners o2 (not exits && not high)

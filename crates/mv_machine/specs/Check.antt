@@ -2,6 +2,7 @@
 use Rattle.std.specs.Prelude.{◌≡◌, ℕ, ◌==◌, nat_le, nat_lt, Bool, not, ◌&&◌, ◌||◌, List, [], ◌∷◌, length, sum, find, Option, Some}
 use Rattle.std.specs.Prelude.{None, option_map, if◌then◌else◌}
 use Rattle.std.specs.List.{list_all, list_any, position_from}
+use Rattle.std.specs.Option.{option_or}
 use Rattle.mv_machine.specs.declared.config.CheckRefusal.{CheckRefusal}
 use Rattle.mv_machine.specs.declared.config.CheckRefusal.TheVariants.{Limit, BadOwner, BadExit, Budget}
 use Rattle.mv_machine.specs.declared.config.ConfigLimit.{ConfigLimit}
@@ -52,17 +53,12 @@ first_bad_exit c = position_from (is_bad_exit (length c.owners)) 1 c.exits
 abbrev pub bad_budget : Setup → Option ℕ
 bad_budget c = if nat_lt events_limit (sum c.budgets) then Some (sum c.budgets) else None
 
--- the first of two options that has a value
-abbrev pub or_else : {A : Type 0} → Option A → Option A → Option A
-or_else (Some a) b = Some a
-or_else None b = b
-
 -- the reason why a configuration is refused, if it is
 abbrev pub refusal_of : Setup → Option CheckRefusal
 refusal_of c =
-    or_else (option_map (λ l. Limit l) (first_limit c))
-    (or_else (option_map (λ e. BadOwner e) (first_bad_owner c))
-    (or_else (option_map (λ x. BadExit x) (first_bad_exit c))
+    option_or (option_map (λ l. Limit l) (first_limit c))
+    (option_or (option_map (λ e. BadOwner e) (first_bad_owner c))
+    (option_or (option_map (λ x. BadExit x) (first_bad_exit c))
     (option_map (λ b. Budget b) (bad_budget c))))
 
 -- Whether a configuration can be run. Its callers, its elements for each caller, its volumes and its latches, and the requests that a

@@ -2,6 +2,7 @@
 use Rattle.std.proofs.Common.{◌≡◌, ◌≢◌, ℕ, ◌+◌, ◌≤◌, ◌==◌, ◌&&◌, Bool, true, false, not, cond, Option, Some, None, Result, Ok, Err, List}
 use Rattle.std.proofs.Common.{refl, sym, ap, ◌∙◌, subst, arith}
 use Rattle.std.proofs.lemmas.Bool.{eq-eqb, eqb-true, ne_eqb}
+use Rattle.std.specs.Option.{option_or}
 use Rattle.mv_element.specs.declared.element.Token.{Token}
 use Rattle.mv_element.specs.declared.operation.ElementOp.TheVariants.{Release}
 use Rattle.mv_element.specs.declared.operation.ElementReply.TheVariants as element_reply
@@ -9,7 +10,6 @@ use Rattle.mv_machine.specs.declared.entry.Entry.{Entry}
 use Rattle.mv_machine.specs.declared.entry.Object.TheVariants.{Element}
 use Rattle.mv_machine.specs.declared.entry.Op.TheVariants as op_on
 use Rattle.mv_machine.specs.declared.entry.Reply.TheVariants as reply_of
-use Rattle.mv_machine.specs.Check.{or_else}
 use Rattle.mv_machine.specs.Limits.{highest_generation}
 use Rattle.mv_machine.specs.Setup.{Setup, element_owner}
 use Rattle.mv_machine.specs.System.{with_at}
@@ -44,12 +44,12 @@ use Rattle.mv_calls.specs.Services.{transfer_events}
 -- it looks at whose the current token's element is, at its use and at its generation
 abbrev pub refusal_by : Bool → Bool → (generation carried : ℕ) → Option Refusal
 refusal_by others used generation carried =
-    or_else (refused_if others refusal.NotOwner) (refused_if (not (used && (generation == carried))) (refusal.Spent generation))
+    option_or (refused_if others refusal.NotOwner) (refused_if (not (used && (generation == carried))) (refusal.Spent generation))
 
 pub not_owned : (others used : Bool) (generation carried : ℕ) → others ≡ true
     → refusal_by others used generation carried ≡ Some refusal.NotOwner
 not_owned others used generation carried other =
-    ap (λ b. or_else (refused_if b refusal.NotOwner)
+    ap (λ b. option_or (refused_if b refusal.NotOwner)
     (refused_if (not (used && (generation == carried))) (refusal.Spent generation))) other
 
 pub not_in_use : (others used : Bool) (generation carried : ℕ) → others ≡ false → used ≡ false
@@ -72,7 +72,7 @@ pub record IsAccepted (others used : Bool) (generation carried : ℕ) : Type 0 w
   pub now : generation ≡ carried
 
 accepted_by : (others used : Bool) (generation carried : ℕ) (b : Bool) → (generation == carried) ≡ b
-    → or_else (refused_if others refusal.NotOwner) (refused_if (not (used && b)) (refusal.Spent generation)) ≡ None
+    → option_or (refused_if others refusal.NotOwner) (refused_if (not (used && b)) (refusal.Spent generation)) ≡ None
     → IsAccepted others used generation carried
 accepted_by false true generation carried true now e = record { own = refl; in_use = refl; now = eqb-true generation carried now }
 accepted_by true used generation carried b now e = absurd (cc e)
@@ -204,7 +204,7 @@ pub current_cause : (c : Setup) (current : Option Token) (target : Token) (code 
 current_cause c current target code t refused.NotOwner e = (e, refl)
 current_cause c current target code t (refused.Spent now) e = (e, refl)
 current_cause c current target code t (refused.TargetSpent now) e = absurd (never (kept_of t.number t.log) now current e) where
-  after_all : (a b : Bool) (g now : ℕ) → or_else (refused_if a refusal.NotOwner) (refused_if b (refusal.Spent g))
+  after_all : (a b : Bool) (g now : ℕ) → option_or (refused_if a refusal.NotOwner) (refused_if b (refusal.Spent g))
       ≡ Some (refusal.TargetSpent now) → ⊥
   after_all true b g now q = cc q
   after_all false true g now q = cc q
@@ -214,7 +214,7 @@ current_cause c current target code t (refused.TargetSpent now) e = absurd (neve
   never kept now None q = cc q
   never kept now (Some x) q = after_all _ _ _ now q
 current_cause c current target code t refused.TargetAlready e = absurd (never (kept_of t.number t.log) current e) where
-  after_all : (a b : Bool) (g : ℕ) → or_else (refused_if a refusal.NotOwner) (refused_if b (refusal.Spent g))
+  after_all : (a b : Bool) (g : ℕ) → option_or (refused_if a refusal.NotOwner) (refused_if b (refusal.Spent g))
       ≡ Some refusal.TargetAlready → ⊥
   after_all true b g q = cc q
   after_all false true g q = cc q

@@ -4,6 +4,7 @@ use Rattle.std.proofs.Common.{subst, arith}
 use Rattle.std.specs.Prelude.{nat_lt, not, length, IfOk, IfSome, MatchResult, option_map}
 use Rattle.std.proofs.lemmas.Bool.{ltb-true}
 use Rattle.std.proofs.lemmas.List.{map-append}
+use Rattle.std.specs.Option.{option_or}
 use Rattle.mv_latch.specs.Request.{posted_ecb}
 use Rattle.mv_latch.specs.declared.request.LatchForm.{LatchForm}
 use Rattle.mv_latch.specs.declared.request.LatchForm.TheVariants.{Conditional, Waiting, Posted}
@@ -16,7 +17,6 @@ use Rattle.mv_latchset.specs.Answers.{obtain_answer}
 use Rattle.mv_latchset.specs.Obtaining.{IsOfLatch, IsObtainedBy, IsRefusedBy}
 use Rattle.mv_latch.specs.declared.operation.LatchOp.TheVariants.{Obtain}
 use Rattle.mv_board.specs.Faces.{CallerFace}
-use Rattle.mv_machine.specs.Check.{or_else}
 use Rattle.mv_machine.specs.Setup.{Setup}
 use Rattle.mv_machine.proofs.Lists.{all_push}
 use Rattle.mv_calls.specs.declared.table.Table.{Table}
@@ -39,7 +39,7 @@ asked_is latch (Err why) own = refl
 
 -- what is not refused is of a latch that there is
 there_is : (c : Setup) (latch : ℕ) (rest : Option Refusal) (b : Bool) → nat_lt latch c.latches ≡ b
-    → or_else (refused_if (not b) refusal.BadLatch) rest ≡ None → latch < c.latches
+    → option_or (refused_if (not b) refusal.BadLatch) rest ≡ None → latch < c.latches
 there_is c latch rest true is none = ltb-true latch c.latches is
 there_is c latch rest false is none = absurd (cc none)
 

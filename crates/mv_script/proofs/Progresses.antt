@@ -6,10 +6,10 @@ use Rattle.std.specs.List.{AllByRecursion, list_any}
 use Rattle.std.proofs.lemmas.List.{append-nil, length-append, map-append}
 use Rattle.std.proofs.lemmas.List.Elements.{filter_map-append}
 use Rattle.std.proofs.lemmas.List.Sums.{fold_push, sum_by-append, sum_by-cons}
+use Rattle.std.specs.Option.{option_or}
 use Rattle.mv_line.specs.Byte.{is_within}
 use Rattle.mv_latch.proofs.Joined.{same_any, some_any}
 use Rattle.mv_machine.proofs.Lists.{all_append}
-use Rattle.mv_machine.specs.Check.{or_else}
 use Rattle.mv_machine.specs.Limits.{events_limit}
 use Rattle.mv_machine.specs.Setup.{Setup, SetupExit}
 use Rattle.mv_calls.specs.declared.table.Table.{Table}
@@ -57,15 +57,15 @@ same_exits earlier s e = filter_map-append exit_in earlier (s ∷ []) ∙ rw e (
 -- no table
 same_table : (earlier : List Statement) (s : Statement) → table_in s ≡ None → table_of (earlier ++ s ∷ []) ≡ table_of earlier
 same_table [] s e = rw e refl
-same_table (r ∷ earlier) s e = ap (or_else (table_in r)) (same_table earlier s e)
+same_table (r ∷ earlier) s e = ap (option_or (table_in r)) (same_table earlier s e)
 
 -- the first table
 new_table : (earlier : List Statement) (t : Table) → table_of earlier ≡ None → table_of (earlier ++ statement.Table t ∷ []) ≡ Some t
 new_table [] t e = refl
 new_table (r ∷ earlier) t e = go (table_in r) e (λ none. new_table earlier t none) where
-  go : (o : Option Table) → or_else o (table_of earlier) ≡ None
+  go : (o : Option Table) → option_or o (table_of earlier) ≡ None
       → (table_of earlier ≡ None → table_of (earlier ++ statement.Table t ∷ []) ≡ Some t)
-      → or_else o (table_of (earlier ++ statement.Table t ∷ [])) ≡ Some t
+      → option_or o (table_of (earlier ++ statement.Table t ∷ [])) ≡ Some t
   go None e more = more e
   go (Some u) e more = absurd (cc e)
 

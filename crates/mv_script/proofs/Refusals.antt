@@ -2,6 +2,7 @@
 use Rattle.std.proofs.Common.{◌≡◌, ◌==◌, ℕ, ◌+◌, if◌then◌else◌, ◌<◌, nat_lt, Bool, true, false, not, List, [], ◌∷◌, None}
 use Rattle.std.proofs.Common.{Result, Ok, Err, subst}
 use Rattle.std.proofs.lemmas.Bool.{lt-ltb}
+use Rattle.std.specs.Option.{option_or}
 use Rattle.mv_latch.specs.declared.operation.LatchOp.TheVariants as latch_op
 use Rattle.mv_latch.specs.declared.operation.LatchReply.TheVariants as latch_reply
 use Rattle.mv_latch.specs.declared.request.LatchForm.TheVariants.{Waiting}
@@ -10,7 +11,6 @@ use Rattle.mv_machine.specs.declared.entry.Object.TheVariants.{Latches}
 use Rattle.mv_machine.specs.declared.entry.Op.TheVariants as op_on
 use Rattle.mv_machine.specs.declared.entry.Reply.{Reply}
 use Rattle.mv_machine.specs.declared.entry.Reply.TheVariants as reply_of
-use Rattle.mv_machine.specs.Check.{or_else}
 use Rattle.mv_machine.specs.Kept.{keeps_quotas}
 use Rattle.mv_machine.specs.Setup.{Setup}
 use Rattle.mv_calls.specs.declared.table.Table.{Table}
@@ -93,7 +93,7 @@ module _ (c : Setup) (t : Table) where
     obtain_refused lt kept hs w = go (nat_lt t.latch c.latches) (keeps_quotas c kept.requests Waiting) (lt-ltb t.latch c.latches lt) w where
       go : (b q : Bool) → b ≡ true
           → IsDoneOn (unless_refused
-          (or_else (refused_if (not b) refusal.BadLatch) (or_else None (refused_if (not q) refusal.Quota)))
+          (option_or (refused_if (not b) refusal.BadLatch) (option_or None (refused_if (not q) refusal.Quota)))
           (Do Latches (op_on.Latch (latch_op.Obtain t.latch requestor Exclusive Waiting))
           (λ h. on_latch h.entry.reply (obtained t.latch Waiting)))) hs answer
           → IfRefused RefusesPost answer
@@ -180,7 +180,7 @@ module _ (c : Setup) (t : Table) where
     next_refused position kept hs w = go (t.owner == kept.caller) (nat_lt position t.size) w where
       go : (a b : Bool)
           → IsDoneOn (unless_refused
-          (or_else (refused_if (not a) refusal.NotOwner) (refused_if (not b) refusal.Drained))
+          (option_or (refused_if (not a) refusal.NotOwner) (refused_if (not b) refusal.Drained))
           (followed (wait c 1 (slot_block t position ∷ [])) (slot_found t) kept)) hs answer
           → IfRefused RefusesNext answer
       go false b w = answers_so (IfRefused RefusesNext) (Err refusal.NotOwner) answer hs w tt

@@ -1,8 +1,8 @@
 -- The script, and the script that a text without fault states.
 use Rattle.std.specs.Prelude.{ℕ, Bool, true, false, List, [], ◌∷◌, ◌++◌, length, map, fold, filter_map, Option, Some, None}
 use Rattle.std.specs.Prelude.{Ok}
+use Rattle.std.specs.Option.{option_or}
 use Rattle.mv_line.specs.Line.{lines_of}
-use Rattle.mv_machine.specs.Check.{or_else}
 use Rattle.mv_machine.specs.Setup.{Setup, SetupExit}
 use Rattle.mv_calls.specs.declared.table.Table.{Table}
 use Rattle.mv_script.specs.declared.call.Call.{Call}
@@ -59,7 +59,7 @@ table_in _ = None
 -- the table of the first TABLE, if there is one
 abbrev pub table_of : List Statement → Option Table
 table_of [] = None
-table_of (s ∷ statements) = or_else (table_in s) (table_of statements)
+table_of (s ∷ statements) = option_or (table_in s) (table_of statements)
 
 -- the tasks, the last of which makes one more call
 abbrev pub with_call : List (List Call) → Call → List (List Call)

@@ -3,11 +3,11 @@ use Rattle.std.proofs.Common.{◌≡◌, ℕ, ◌<◌, ◌^◌, ◌==◌, ◌&&�
 use Rattle.std.proofs.Common.{Option, Some, None, Result, Ok, Err, cond, option_map, option_and_then, refl, sym, ap, ◌∙◌, subst}
 use Rattle.std.proofs.Common.{arith}
 use Rattle.std.proofs.lemmas.Bool.{false≢true, eqb-true, eq-eqb, lt-ltb}
+use Rattle.std.specs.Option.{option_or}
 use Rattle.mv_ecb.specs.declared.operation.EcbOp.TheVariants.{Clear, Extend, Post}
 use Rattle.mv_ecb.specs.declared.operation.EcbReply.TheVariants as ecb_reply
 use Rattle.mv_ecb.specs.Table.{ecb_step}
 use Rattle.mv_ecb.specs.Word.{EcbState, Zero, Waiting, Extended, Complete}
-use Rattle.mv_machine.specs.Check.{or_else}
 use Rattle.mv_machine.specs.declared.entry.Entry.{Entry}
 use Rattle.mv_machine.specs.declared.entry.Object.{Object}
 use Rattle.mv_machine.specs.declared.entry.Object.TheVariants.{Ecb}
@@ -54,10 +54,10 @@ own_is c e k log is = eqb-true (owner_of c e) k (go (owner_of c e == k) refl) wh
 pub extend_refusal_is : (c : Setup) (e exit : ℕ) (kept : Kept) (a b d : Bool) → is_others_block c kept e ≡ a → is_exit_of c exit e ≡ b
     → kept.extended e ≡ d
     → extend_refusal c e exit kept
-    ≡ or_else (refused_if a refusal.NotOwner) (or_else (refused_if (not b) refusal.BadExit) (refused_if d refusal.Extended))
+    ≡ option_or (refused_if a refusal.NotOwner) (option_or (refused_if (not b) refusal.BadExit) (refused_if d refusal.Extended))
 extend_refusal_is c e exit kept a b d p q r =
-    (λ i. or_else (refused_if (p i) refusal.NotOwner)
-    (or_else (refused_if (not (q i)) refusal.BadExit) (refused_if (r i) refusal.Extended)))
+    (λ i. option_or (refused_if (p i) refusal.NotOwner)
+    (option_or (refused_if (not (q i)) refusal.BadExit) (refused_if (r i) refusal.Extended)))
 
 -- what an extend that is not refused was asked
 pub record MayExtend (c : Setup) (e exit : ℕ) (kept : Kept) : Type 0 where

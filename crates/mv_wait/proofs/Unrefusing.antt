@@ -3,7 +3,7 @@ use Rattle.std.proofs.Common.{◌≡◌, ℕ, ◌+◌, ◌*◌, ◌<◌, ◌≤�
 use Rattle.std.proofs.Common.{length, cond, Option, Some, None, Ok, Err, refl, sym, ap, ◌∙◌, subst, arith}
 use Rattle.std.proofs.lemmas.Bool.{false≢true, eqb-true, eq-eqb, le-leb, le-ltb, ltb-false, or_parts, not-false}
 use Rattle.std.specs.List.{AllByRecursion, list_any}
-use Rattle.mv_machine.specs.Check.{or_else}
+use Rattle.std.specs.Option.{option_or}
 use Rattle.mv_machine.specs.Setup.{Setup, owner_of}
 use Rattle.mv_machine.specs.declared.entry.Entry.{Entry}
 use Rattle.mv_board.specs.Faces.{CallerFace, IsSame}
@@ -21,11 +21,11 @@ use Rattle.mv_wait.specs.Waiting.{AreOwn, ArmsAll, SettlesEnough, Waited}
 use Rattle.mv_wait.proofs.Runs.{runs_then, runs_within, runs_look, serves}
 use Rattle.mv_wait.proofs.Steps.{done_served}
 
-first_none : (a b : Option Refusal) → or_else a b ≡ None → a ≡ None
+first_none : (a b : Option Refusal) → option_or a b ≡ None → a ≡ None
 first_none None b e = refl
 first_none (Some x) b e = absurd (cc e)
 
-second_none : (a b : Option Refusal) → or_else a b ≡ None → b ≡ None
+second_none : (a b : Option Refusal) → option_or a b ≡ None → b ≡ None
 second_none None b e = e
 second_none (Some x) b e = absurd (cc e)
 
@@ -79,9 +79,9 @@ accepted_wait c k count es kept e =
     let b = doubled_at [] 0 es in
     let o = refused_at NotOwnerAt (is_others_block c kept) 0 es in
     let x = refused_at ExtendedAt kept.extended 0 es in
-    let e1 : or_else b (or_else o x) ≡ None = second_none a (or_else b (or_else o x)) e in
-    let e2 : or_else o x ≡ None = second_none b (or_else o x) e1 in record {
-      distinct = (undoubled [] 0 es (first_none b (or_else o x) e1)).1;
+    let e1 : option_or b (option_or o x) ≡ None = second_none a (option_or b (option_or o x)) e in
+    let e2 : option_or o x ≡ None = second_none b (option_or o x) e1 in record {
+      distinct = (undoubled [] 0 es (first_none b (option_or o x) e1)).1;
       own = all_own c kept es (nowhere_back NotOwnerAt (is_others_block c kept) 0 es (first_none o x e2));
       plain = nowhere_back ExtendedAt kept.extended 0 es (second_none o x e2);
     }
@@ -94,7 +94,7 @@ not_fewer n count false is e = ltb-false n count is
 pub accepted_count : (c : Setup) (count : ℕ) (es : List ℕ) (kept : Kept) → wait_refusal c count es kept ≡ None → count ≤ length es
 accepted_count c count es kept e =
     let a = refused_if (nat_lt (length es) count) TooMany in
-    let later = or_else (doubled_at [] 0 es) (or_else (refused_at NotOwnerAt (is_others_block c kept) 0 es)
+    let later = option_or (doubled_at [] 0 es) (option_or (refused_at NotOwnerAt (is_others_block c kept) 0 es)
     (refused_at ExtendedAt kept.extended 0 es)) in
     not_fewer (length es) count (nat_lt (length es) count) refl (first_none a later e)
 
@@ -141,8 +141,8 @@ wait_is_refused c count es why t is rest =
 pub refusal_is : (c : Setup) (count k : ℕ) (es : List ℕ) (log : List Entry) (a b d : Option Refusal) → count ≤ length es
     → a ≡ doubled_at [] 0 es
     → b ≡ refused_at NotOwnerAt (λ e. not (owner_of c e == k)) 0 es → d ≡ refused_at ExtendedAt (kept_of k log).extended 0 es
-    → or_else a (or_else b d) ≡ wait_refusal c count es (kept_of k log)
+    → option_or a (option_or b d) ≡ wait_refusal c count es (kept_of k log)
 refusal_is c count k es log a b d le p q r =
     let same : b ≡ refused_at NotOwnerAt (is_others_block c (kept_of k log)) 0 es = q
     ∙ ap (λ j. refused_at NotOwnerAt (λ e. not (owner_of c e == j)) 0 es) (sym (kept_caller (nothing_kept k) log)) in
-    rw (le-ltb (length es) count le) ((λ i. or_else (p i) (or_else (same i) (r i))))
+    rw (le-ltb (length es) count le) ((λ i. option_or (p i) (option_or (same i) (r i))))

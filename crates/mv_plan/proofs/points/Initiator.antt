@@ -1,5 +1,6 @@
 -- Where an initiator may stand: its rounds, the steps that are left of its job, the latches in its hand, the code that it ends
 -- with; and what it keeps there. Kept by each of its steps, whatever the reply. And its program goes from point to point.
+use Rattle.std.specs.Option.{option_or}
 use Rattle.mv_plan.proofs.Words.{◌≡◌, ℕ, suc, ◌+◌, ◌<◌, ◌≤◌, ◌==◌, Bool, true, false, not, if◌then◌else◌, List, [], ◌∷◌, ◌++◌, length, map}
 use Rattle.mv_plan.proofs.Words.{filter, Option, Some, refl, ap, ◌∙◌, subst, append_assoc, arith, AllByRecursion, list_any, eqb-true, Mode}
 use Rattle.mv_plan.proofs.Words.{false≢true, length-append, Reply, with_at, JobData, Step, Print, Use, Count, Scan, Abend, Return, job_at}
@@ -22,7 +23,6 @@ use Rattle.mv_calls.specs.LatchCalls.{obtain_refusal}
 use Rattle.mv_calls.specs.Pauses.{gift_of, allocate}
 use Rattle.mv_calls.specs.Posts.{wakes_posted}
 use Rattle.mv_calls.specs.Program.{wrong}
-use Rattle.mv_machine.specs.Check.{or_else}
 use Rattle.mv_calls.specs.Refusal as refusal
 use Rattle.mv_plan.specs.SpoolTasks.{job_done}
 
@@ -395,7 +395,7 @@ module _ (c : Setup) (deck : List JobData) (initiators i : ℕ) (facts : Facts c
       ap (λ ts. length ts) k.stand ∙ length_standing (initiator i) run.job hand.holding in
       let a = lt-ltb latch c.latches (let e = facts.latches in omega arith) in
       let b = lt-ltb (length kept.requests) c.quota (let e = facts.quota in omega arith) in
-      ap (λ b. or_else (refused_if (not b) refusal.BadLatch)
+      ap (λ b. option_or (refused_if (not b) refusal.BadLatch)
       (refused_if (not (nat_lt (length kept.requests) c.quota && true)) refusal.Quota)) a
       ∙ ap (λ b. refused_if (not (b && true)) refusal.Quota) b where
         length_standing : (k job : ℕ) (gs : List Grant) → length (standing_of k job gs) ≡ length gs
