@@ -91,8 +91,8 @@ abbrev pub targets_run : Setup → EcbOp → Reply → List ℕ
 targets_run c (ecb_op.Post code) (reply_of.Ecb (ecb_reply.Woke x)) = targets_of c x
 targets_run c op reply = []
 
--- the blocks that an entry asks to be posted: the targets of the exit that a post started, and the blocks of the wakes of a
--- release with the reply Released, and of a purge
+-- the blocks that a call still has to post because of this entry: the targets of the exit that a post started, and the blocks of
+-- the requests that a release (with the reply Released) or a purge granted or took out
 abbrev pub asked : Setup → Object → Op → Reply → List Wake → List ℕ
 asked c (Ecb e) (op_on.Ecb op) reply ws = targets_run c op reply
 asked c Latches (op_on.Latch (latch_op.Release latch id conditional)) (reply_of.Latch (latch_reply.Released granted)) ws = blocks_of ws

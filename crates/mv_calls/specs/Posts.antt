@@ -70,7 +70,7 @@ abbrev pub same_post_reply : Reply → Reply → Bool
 same_post_reply (reply_of.Ecb x) (reply_of.Ecb y) = same_posting x y
 same_post_reply x y = false
 
--- one event, which has to find the object as expected: then the program goes on by its reply, which is the expected one
+-- A compare and swap: one event, which may be made only if the object's word is the expected one. The program continues by the reply.
 abbrev pub tried : {A : Type 0} → (Reply → Reply → Bool) → Object → Op → ℕ → (Reply → Program A) → Program A
 tried same o op expected f =
     Do o op (λ h. if is_expected same (expected_of o op expected) h.entry.place h.entry.reply then f h.entry.reply else Wrong)

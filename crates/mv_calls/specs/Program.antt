@@ -21,8 +21,8 @@ pub record Heard : Type 0 where
   pub entry : Entry
   pub wakes : List Wake
 
--- A program: an event to be made, after which the program goes on by what is observed of it (Do); an answer (Done); a wait that
--- ended too soon (Early); or a reply that the program does not foresee (Wrong).
+-- What a task does next: it makes an event, and continues by what it observes of that (Do); or it is done with an answer (Done).
+-- Early is a wait that returned before what it waits for, and Wrong is a reply that cannot occur there.
 pub data Program (A : Type 0) : Type 0 where
   Do : (object : Object) (op : Op) (next : Heard → Program A) → Program A
   Done : (answer : A) → Program A
@@ -36,7 +36,7 @@ abbrev pub asks : {A : Type 0} → Program A → Option (Object × Op)
 asks (Do o op next) = Some (o, op)
 asks p = None
 
--- the residual program after its next event. A program that is done has no event, so any event makes it wrong
+-- the residual program after the reply to its event; a program that is done makes no event, so any reply is wrong there
 abbrev pub heard : {A : Type 0} → Program A → Heard → Program A
 heard (Do o op next) h = next h
 heard (Done a) h = Wrong
@@ -79,7 +79,7 @@ noted (e ∷ es) told = record { entry = e; wakes = wakes_now e.object e.op told
 abbrev pub entries : List Heard → List Entry
 entries hs = map (λ h. h.entry) hs
 
--- ---- replies by the kind of object. No program foresees a reply of another kind
+-- ---- replies by the kind of object. A reply of another kind cannot occur
 
 -- goes on by a block's reply
 abbrev pub on_ecb : {A : Type 0} → Reply → (EcbReply → Program A) → Program A
@@ -136,7 +136,7 @@ followed call f kept = going_on kept (call kept) f
 abbrev pub finished : {A : Type 0} → A → Call A
 finished a kept = Done a
 
--- a call that is wrong at once, after an answer that no call foresees
+-- a call that is wrong at once: it follows an answer that cannot occur there
 abbrev pub wrong : {A : Type 0} → Call A
 wrong kept = Wrong
 

@@ -54,7 +54,7 @@ wait_refusal c count es kept =
     (option_or (refused_at refusal.NotOwnerAt (is_others_block c kept) 0 es)
     (refused_at refusal.ExtendedAt kept.extended 0 es)))
 
--- the rest of a wait after the reply to an arm: it was armed, or the block is complete
+-- the rest of a wait after the reply to an Arm: the wait bit was set, or the block was complete
 abbrev pub armed : {A : Type 0} → Program A → EcbReply → Program A
 armed p ecb_reply.Armed = p
 armed p (ecb_reply.Complete c) = p

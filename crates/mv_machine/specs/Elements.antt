@@ -47,7 +47,7 @@ element_events n es = filter_map (as_element_event n) es
 abbrev pub only_if : {A : Type 0} → Bool → A → Option A
 only_if b a = if b then Some a else None
 
--- the generation that an operation carries, if it carries one
+-- the generation of the token that an operation was given, if it was given one
 abbrev pub carried : ElementOp → Option ℕ
 carried Open = None
 carried (Pause g) = Some g
@@ -107,7 +107,7 @@ IsSpentUpTo g v = IfSome (carried v.op) (λ h. h ≤ g → IsTrue (is_spent v.re
 -- An element is orderly: each given code has its one release, no generation is given twice, no two releases of a generation are
 -- accepted, and an operation on a generation that has ended gets the reply Spent.
 pub record IsOrderlyElement (vs : List ElementEvent) : Type 0 where
-  -- a code that a pause was given was released once, before the pause, with that code
+  -- a pause that was given a code had exactly one accepted release of its generation, before it, with that code
   pub reached : (g code : ℕ) (before later : List ElementEvent) (v : ElementEvent) → vs ≡ before ++ v ∷ later
       → given_code g v.reply ≡ Some code → (releases g before ≡ code ∷ []) × (releases g later ≡ [])
   -- no generation is given twice

@@ -18,7 +18,7 @@ use Rattle.mv_machine.specs.declared.entry.Reply.TheVariants as reply_of
 use Rattle.mv_machine.specs.Setup.{Setup}
 use Rattle.mv_machine.specs.System.{opening, admitted, posts_own_ecb}
 
--- a standing request, and its latch
+-- a request that holds its latch or waits for it, and the latch
 pub record StandingRequest : Type 0 where
   pub latch : ℕ
   pub request : Request

@@ -34,7 +34,7 @@ pub record Cell (A : Type 0) : Type 0 where
   pub place : ℕ
   pub state : A
 
--- the machine: the cell of each object. Cells of numbers that no object has are never read
+-- the machine: the state of each object, and how many events it has had. `admitted` excludes the numbers that no object has
 pub record System : Type 0 where
   pub ecb : ℕ → Cell EcbState
   pub element : ℕ → Cell ElementState
