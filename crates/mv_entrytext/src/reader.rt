@@ -125,10 +125,9 @@ impl EntryReader<'_> {
     /// From `crates/mv_replay/src/judging.rt`, which takes each event and its call number:
     ///
     /// ```
-    /// match reader.next() {
-    ///     Ok(Some((call, entry))) => course.take(line, call, &entry)?,
-    ///     Ok(None) => return course.end(reader.count()),
-    ///     Err(fault) => return Err(ReplayStatus::Text(fault)),
+    /// match reader.next()? {
+    ///     Some((call, entry)) => course.take(line, call, &entry)?,
+    ///     None => return course.end(reader.count()),
     /// }
     /// ```
     pub fn next(&mut self) -> Result<Option<(Option<u32>, Entry)>, TextFault>

@@ -180,10 +180,9 @@ pub(crate) fn judge(
     let mut course = Course::open(alloc, copies(command, version), config)?;
     'entries: loop {
         let line = reader.line();
-        match reader.next() {
-            Ok(Some((call, entry))) => course.take(line, call, &entry)?,
-            Ok(None) => return course.end(reader.count()),
-            Err(fault) => return Err(ReplayStatus::Text(fault)),
+        match reader.next()? {
+            Some((call, entry)) => course.take(line, call, &entry)?,
+            None => return course.end(reader.count()),
         }
     }
 }

@@ -52,8 +52,6 @@ pub(crate) fn read_legal<D: Source>(
     ensures count { D.faults input.old ≤ D.faults input.new }
 {
     let text = read_limited(alloc, input, JOURNAL_LIMIT)?;
-    match judge(alloc, command, &text) {
-        Ok(judged) => Ok(LegalText { text, judged }),
-        Err(status) => Err(status),
-    }
+    let judged = judge(alloc, command, &text)?;
+    Ok(LegalText { text, judged })
 }

@@ -4,7 +4,7 @@
 ghost use Rattle.std.specs.Prelude.{◌≡◌, ◌≤◌};
 ghost use Rattle.mv_ending.specs.Note.{NotesAfter};
 ghost use Rattle.mv_replay.specs.Status.{note_of as note_by_status, of_read, of_text};
-ghost use Rattle.mv_replay.specs.declared.status.ReplayStatus.TheVariants.{NoMemory as no_memory};
+ghost use Rattle.mv_replay.specs.declared.status.ReplayStatus.TheVariants.{NoMemory as no_memory, Text as text};
 
 use mv_ending::{Note, tell};
 use mv_entrytext::{TextFault, TextRefusal};
@@ -38,6 +38,14 @@ impl From<ReadRefusal> for ReplayStatus {
             ReadRefusal::TooLong => ReplayStatus::TooLong,
             ReadRefusal::NoMemory => ReplayStatus::NoMemory,
         }
+    }
+}
+
+impl From<TextFault> for ReplayStatus {
+    ghost from_gives = { λ fault status. status ≡ text fault };
+
+    fn from(fault: TextFault) -> Self {
+        ReplayStatus::Text(fault)
     }
 }
 

@@ -242,15 +242,13 @@ fn obtain(sizes: Sizes, words: &[u8]) -> Result<Call, Misread>
     let (mode_word, form_words) = split_field(rest);
     let how = both(mode(mode_word), form(sizes, form_words));
     let behind = both(requestor(requestor_word), how);
-    match both(latch(latch_word), behind) {
-        Ok((latch, (requestor, (mode, form)))) => Ok(Call::Obtain {
-            latch,
-            requestor,
-            mode,
-            form,
-        }),
-        Err(why) => Err(why),
-    }
+    let (latch, (requestor, (mode, form))) = both(latch(latch_word), behind)?;
+    Ok(Call::Obtain {
+        latch,
+        requestor,
+        mode,
+        form,
+    })
 }
 
 // The words are `COND`, `WAIT`, or `ECB` and a block.

@@ -107,10 +107,8 @@ impl<'a> LineReader<'a> for Reading {
             ecbs: self.owners.len() as u32,
             table: self.stated_table(),
         };
-        match statement_of(self.alloc, sizes, text) {
-            Ok(statement) => self.take(statement),
-            Err(refusal) => Err(refusal),
-        }
+        let statement = statement_of(self.alloc, sizes, text)?;
+        self.take(statement)
     }
 
     fn kind_at_end(&self) -> Option<Kind> {

@@ -128,17 +128,16 @@ fn table(sizes: Sizes, words: &[u8]) -> Result<Table, Misread>
     let (volume_word, rest) = split_field(rest);
     let blocks = table_blocks(sizes, rest);
     let behind = both(latch(latch_word), both(volume(volume_word), blocks));
-    match both(task(sizes, owner_word), behind) {
-        Ok((owner, (latch, (volume, (events, (slots, size)))))) => Ok(Table {
-            owner,
-            latch,
-            volume,
-            events,
-            slots,
-            size,
-        }),
-        Err(why) => Err(why),
-    }
+    let (owner, (latch, (volume, blocks))) = both(task(sizes, owner_word), behind)?;
+    let (events, (slots, size)) = blocks;
+    Ok(Table {
+        owner,
+        latch,
+        volume,
+        events,
+        slots,
+        size,
+    })
 }
 
 // Reads the first event and the first slot of a table, and how many of each it has.

@@ -11,21 +11,21 @@ pub take-requires-clause-place : goal.take-requires-clause-place
 take-requires-clause-place c =
     let w = c.entries.invariant in
     (subst (λ (o : Option (Option ℕ × Entry)). IsNextOf w.0 c.args.bytes.now c.entries.course.config w.1 w.2 o c.next.new.self)
-    c.in-Ok-Some.field-0-is (c.in-Ok-Some.ensures.read w.0 c.args.bytes.now c.entries.course.config w.1 w.2 w.3)).ranges.0.place
+    c.in-Some.is (c.in_ok-call.ensures.read w.0 c.args.bytes.now c.entries.course.config w.1 w.2 w.3)).ranges.0.place
 
 pub entries-preserved : goal.entries-preserved
 entries-preserved c =
     let bytes = c.args.bytes.now in
     let config = c.entries.course.config in
     let w = c.entries.invariant in
-    let es : List Entry = w.1 ++ c.in-Ok-Some.entry ∷ [] in
-    let ns : List ℕ = with_call c.in-Ok-Some.call w.2 in
+    let es : List Entry = w.1 ++ c.in-Some.entry ∷ [] in
+    let ns : List ℕ = with_call c.in-Some.call w.2 in
     let new = c.take.new.self in
     let next =
-    subst (λ (o : Option (Option ℕ × Entry)). IsNextOf w.0 bytes config w.1 w.2 o c.next.new.self) c.in-Ok-Some.field-0-is
-    (c.in-Ok-Some.ensures.read w.0 bytes config w.1 w.2 w.3) in
+    subst (λ (o : Option (Option ℕ × Entry)). IsNextOf w.0 bytes config w.1 w.2 o c.next.new.self) c.in-Some.is
+    (c.in_ok-call.ensures.read w.0 bytes config w.1 w.2 w.3) in
     let course =
-    c.in_ok-take-in-Ok-Some.ensures.course w.0 (is_copied c.args.command w.0) w.1 w.2 w.4 w.3.calls next.read.calls
+    c.in_ok-take-in-Some.ensures.course w.0 (is_copied c.args.command w.0) w.1 w.2 w.4 w.3.calls next.read.calls
     (c.line-line.ensures w.0 bytes config w.1 w.2 w.3) in (
       w.0,
       es,
@@ -35,13 +35,13 @@ entries-preserved c =
           course,
     )
 
-pub returns-in-Ok-None : goal.returns-in-Ok-None
-returns-in-Ok-None c =
+pub returns-in-None : goal.returns-in-None
+returns-in-None c =
     let bytes = c.args.bytes.now in
     let config = c.entries.course.config in
     let w = c.entries.invariant in
     let whole =
-    subst (λ (o : Option (Option ℕ × Entry)). IsNextOf w.0 bytes config w.1 w.2 o c.next.new.self) c.in-Ok-None.field-0-is
-    (c.in-Ok-None.ensures.read w.0 bytes config w.1 w.2 w.3) in
+    subst (λ (o : Option (Option ℕ × Entry)). IsNextOf w.0 bytes config w.1 w.2 o c.next.new.self) c.in-None.is
+    (c.in_ok-call.ensures.read w.0 bytes config w.1 w.2 w.3) in
     c.end.ensures c.args.command w.0 bytes config w.1 w.2 w.4 whole.journal whole.text (c.count.ensures w.0 bytes config w.1 w.2 whole.read)
     refl

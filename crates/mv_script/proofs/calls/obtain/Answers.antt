@@ -28,8 +28,8 @@ parts c =
     ∙ ap (both (latch l)) (led requestor (led_by mode (form z)) r (starts_fields m f) refl)
     ∙ ap (λ (s : Read (Mode × LatchForm)). both (latch l) (both (requestor r) s)) (led mode (form z) m f refl)
 
-pub returns-in-Ok : goal.returns-in-Ok
-returns-in-Ok c = grind (arith, common_steps, parts (goal.at.returns-in-Ok c).After-split_field-3)
+pub returns : goal.returns
+returns c = grind (arith, common_steps, parts (goal.at.returns c).After-split_field-3)
 
-pub returns-in-Err : goal.returns-in-Err
-returns-in-Err c = grind (arith, common_steps, parts (goal.at.returns-in-Err c).After-split_field-3)
+pub returns-in_err-latch : goal.returns-in_err-latch
+returns-in_err-latch c = grind (arith, common_steps, parts (goal.at.returns-in_err-latch c).After-split_field-3)

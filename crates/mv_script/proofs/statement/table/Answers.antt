@@ -28,8 +28,8 @@ parts c =
     ∙ ap (both (task z o)) (led latch (led_by volume blocks) l (starts_fields v rest) refl)
     ∙ ap (λ (s : Read (ℕ × (ℕ × (ℕ × ℕ)))). both (task z o) (both (latch l) s)) (led volume blocks v rest refl)
 
-pub returns-in-Ok : goal.returns-in-Ok
-returns-in-Ok c = grind (arith, common_steps, parts (goal.at.returns-in-Ok c).After-split_field-3)
+pub returns : goal.returns
+returns c = grind (arith, common_steps, parts (goal.at.returns c).After-split_field-3)
 
-pub returns-in-Err : goal.returns-in-Err
-returns-in-Err c = grind (arith, common_steps, parts (goal.at.returns-in-Err c).After-split_field-3)
+pub returns-in_err-owner : goal.returns-in_err-owner
+returns-in_err-owner c = grind (arith, common_steps, parts (goal.at.returns-in_err-owner c).After-split_field-3)

@@ -9,7 +9,7 @@ use Rattle.mv_script.specs.Script.{sizes_behind}
 use Rattle.mv_script.specs.Statement.{text_states}
 use Rattle.mv_script.proofs.Good.{read_well}
 use Rattle.mv_script.proofs.Lines.{line_taken, line_refused, some_text, sizes, sizes_are}
-use Rattle.mv_script.proofs.reading.ReadingLineReader.take_line.Goals.{After-stated_table, In-Ok}
+use Rattle.mv_script.proofs.reading.ReadingLineReader.take_line.Goals.{After-stated_table, In_ok-statement}
 use Rattle.mv_script.proofs.reading.ReadingLineReader.take_line.Goals as goal
 
 -- the line is neither foreign nor too long, and something of it counts
@@ -28,31 +28,31 @@ sizes_so_far c earlier b =
     sizes_are earlier (notes_of c.args.self.now) b c.len.result c.stated_table.result (omega (arith, c.len.ensures)) c.stated_table.ensures
 
 -- by these it states this
-states : (c : In-Ok) (z : Sizes) → sizes c.args.self.now.stated c.len.result c.stated_table.result ≡ z
-    → text_states z c.shown-text.result.now ≡ Ok c.in-Ok.statement
-states c z same = subst (λ (s : Sizes). text_states s c.shown-text.result.now ≡ Ok c.in-Ok.statement) same c.in-Ok.ensures
+states : (c : In_ok-statement) (z : Sizes) → sizes c.args.self.now.stated c.len.result c.stated_table.result ≡ z
+    → text_states z c.shown-text.result.now ≡ Ok c.in_ok-statement.statement
+states c z same = subst (λ (s : Sizes). text_states s c.shown-text.result.now ≡ Ok c.in_ok-statement.statement) same c.in_ok-statement.ensures
 
 pub take-requires : goal.take-requires
 take-requires c =
     let earlier = c.requires.1 in
     let b = c.requires.2 in
     let z = sizes_so_far (goal.at.take-requires c).After-stated_table earlier b in
-    let e = states (goal.at.take-requires c).In-Ok (sizes_behind earlier) z in
-    (earlier, (b, read_well (sizes_behind earlier) c.shown-text.result.now c.in-Ok.statement e))
+    let e = states (goal.at.take-requires c).In_ok-statement (sizes_behind earlier) z in
+    (earlier, (b, read_well (sizes_behind earlier) c.shown-text.result.now c.in_ok-statement.statement e))
 
-pub returns-in-Ok : goal.returns-in-Ok
-returns-in-Ok c = λ setting earlier b.
+pub returns : goal.returns
+returns c = λ setting earlier b.
     let text = c.shown-text.result.now in
-    let k = counts (goal.at.returns-in-Ok c).After-stated_table in
-    let z = sizes_so_far (goal.at.returns-in-Ok c).After-stated_table earlier b in
-    let e = states (goal.at.returns-in-Ok c).In-Ok (sizes_behind earlier) z in
-    line_taken earlier c.args.line.now text c.shown-text.ensures k.0 k.1 c.in-Ok.statement k.2 e c.take.result _
-    (c.take.ensures earlier b (read_well (sizes_behind earlier) text c.in-Ok.statement e))
+    let k = counts (goal.at.returns c).After-stated_table in
+    let z = sizes_so_far (goal.at.returns c).After-stated_table earlier b in
+    let e = states (goal.at.returns c).In_ok-statement (sizes_behind earlier) z in
+    line_taken earlier c.args.line.now text c.shown-text.ensures k.0 k.1 c.in_ok-statement.statement k.2 e c.take.result _
+    (c.take.ensures earlier b (read_well (sizes_behind earlier) text c.in_ok-statement.statement e))
 
-pub returns-in-Err : goal.returns-in-Err
-returns-in-Err c = λ setting earlier b.
+pub returns-in_err-statement : goal.returns-in_err-statement
+returns-in_err-statement c = λ setting earlier b.
     let text = c.shown-text.result.now in
-    let k = counts (goal.at.returns-in-Err c).After-stated_table in
-    line_refused earlier c.args.line.now text c.shown-text.ensures k.0 k.1 k.2 c.in-Err.refusal
-    (subst (λ (s : Sizes). IsReadAs {A = Statement} (Err c.in-Err.refusal) (text_states s text))
-    (sizes_so_far (goal.at.returns-in-Err c).After-stated_table earlier b) c.in-Err.ensures)
+    let k = counts (goal.at.returns-in_err-statement c).After-stated_table in
+    line_refused earlier c.args.line.now text c.shown-text.ensures k.0 k.1 k.2 c.in_err-statement.field-0.0
+    (subst (λ (s : Sizes). IsReadAs {A = Statement} (Err c.in_err-statement.field-0.0) (text_states s text))
+    (sizes_so_far (goal.at.returns-in_err-statement c).After-stated_table earlier b) c.in_err-statement.ensures)
