@@ -10,7 +10,8 @@ ghost use Rattle.mv_replay.specs.Status.{note_of};
 use crate::command::JournalCommand;
 use crate::reading::read_legal;
 use crate::reporting::write_report;
-use crate::status::{ReplayStatus, tell_status};
+use crate::status::{ReplayStatus, note_of as note_for};
+use mv_ending::tell;
 use mv_io::{Sink, Source};
 use std::alloc::Global;
 
@@ -65,16 +66,31 @@ pub fn judge_journal<D: Source, R: Sink, N: Sink>(
     ensures counts { (D.faults input.old ≤ D.faults input.new) × (R.faults report.old ≤ R.faults report.new)
         × (N.faults notes.old ≤ N.faults notes.new) }
 {
-    let legal = match read_legal(alloc, command, input) {
-        Ok(legal) => legal,
-        Err(status) => {
-            tell_status(notes, status);
-            return status;
-        }
-    };
-    let status = write_report(command, legal, report);
-    tell_status(notes, status);
+    let status = judged(alloc, command, input, report);
+    tell(notes, note_for(status));
     status
+}
+
+// Judges the journal of the input, and writes the report if it is legal. Nothing is written on the notes.
+fn judged<D: Source, R: Sink>(
+    alloc: Global,
+    command: JournalCommand,
+    input: &mut D,
+    report: &mut R,
+) -> ReplayStatus
+    ensures input { InputOf result (D.left input.old) (D.left input.new) }
+    ensures read_failed { result ≡ ReplayStatus.ReadFailed → Rose (D.faults input.old) (D.faults input.new) }
+    ensures report_failed { result ≡ ReplayStatus.ReportFailed → Rose (R.faults report.old) (R.faults report.new) }
+    ensures report { ReportAfter (reports_of command) result (D.left input.old) (R.taken report.old) (R.taken report.new) }
+    ensures unwritten { IfUnwritten (extent_of result) (report.new ≡ report.old) }
+    ensures owed { Owes (Rose (D.faults input.old) (D.faults input.new)) (Rose (R.faults report.old) (R.faults report.new))
+        (D.left input.old) result }
+    ensures counts { (D.faults input.old ≤ D.faults input.new) × (R.faults report.old ≤ R.faults report.new) }
+{
+    match read_legal(alloc, command, input) {
+        Ok(legal) => write_report(command, legal, report),
+        Err(status) => status,
+    }
 }
 
 /// Runs the command `replay`: judges the journal of the input as `judge_journal` does, and reports `LEGAL n EVENTS` if it is

@@ -1,14 +1,13 @@
 //! The endings of commands on journals, and their notes, by specs/Status. The definitions of specs/Outcome are by cases of
 //! these.
 
-ghost use Rattle.std.specs.Prelude.{◌≡◌, ◌≤◌};
-ghost use Rattle.mv_ending.specs.Note.{NotesAfter};
+ghost use Rattle.std.specs.Prelude.{◌≡◌};
 ghost use Rattle.mv_replay.specs.Status.{note_of as note_by_status, of_read, of_text};
 ghost use Rattle.mv_replay.specs.declared.status.ReplayStatus.TheVariants.{NoMemory as no_memory, Text as text};
 
-use mv_ending::{Note, tell};
+use mv_ending::Note;
 use mv_entrytext::{TextFault, TextRefusal};
-use mv_io::{NoMemory, ReadRefusal, Sink};
+use mv_io::{NoMemory, ReadRefusal};
 
 /// How a command on a journal ended. Lines of the journal are counted from 1.
 #[derive(Clone, Copy, Debug, PartialEq, Eq)]
@@ -68,7 +67,8 @@ impl From<NoMemory> for ReplayStatus {
     }
 }
 
-fn note_of(status: ReplayStatus) -> Option<Note>
+/// Returns the line that an ending writes on the notes, if it writes one.
+pub(crate) fn note_of(status: ReplayStatus) -> Option<Note>
     ensures { result ≡ note_by_status status }
 {
     match status {
@@ -83,13 +83,4 @@ fn note_of(status: ReplayStatus) -> Option<Note>
             kind: fault.kind,
         }),
     }
-}
-
-/// Writes the line of an ending on the notes, if the command did not end well.
-pub(crate) fn tell_status<N: Sink>(notes: &mut N, status: ReplayStatus)
-    ensures notes { NotesAfter (note_by_status status) (N.faults notes.old) (N.faults notes.new) (N.taken notes.old) (N.taken notes.new) }
-    ensures quiet { status ≡ ReplayStatus.Done → notes.new ≡ notes.old }
-    ensures count { N.faults notes.old ≤ N.faults notes.new }
-{
-    tell(notes, note_of(status));
 }
