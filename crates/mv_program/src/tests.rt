@@ -293,13 +293,45 @@ fn source<X: Abort + AllocGlobal>(rt: &X, text: &[u8], step: usize, call: u64) -
     source
 }
 
-// Makes a sink with this much room, that takes at most `step` bytes a call, and fails at the call of this number.
-fn sink<X: Abort + AllocGlobal>(rt: &X, [room, step, call]: [usize; 3]) -> MemSink {
-    let fail = [call as u64];
-    let made = if step < room {
-        MemSink::stepped(rt.alloc(), room, step.max(1), &fail)
+// How much a sink takes: bytes in all, and bytes a call; and the number of the call at which it fails, counted from 0.
+#[derive(Clone, Copy)]
+struct Intake {
+    room: usize,
+    step: usize,
+    failing_call: u64,
+}
+
+impl Intake {
+    // This many bytes, all in one call if need be; no call fails.
+    fn of(room: usize) -> Intake {
+        Intake {
+            room,
+            step: room,
+            failing_call: u64::MAX,
+        }
+    }
+
+    // The same, but at most this many bytes a call.
+    fn by(self, step: usize) -> Intake {
+        Intake { step, ..self }
+    }
+
+    // The same, but the call of this number fails.
+    fn failing_at(self, failing_call: u64) -> Intake {
+        Intake {
+            failing_call,
+            ..self
+        }
+    }
+}
+
+// Makes a sink that takes this much.
+fn sink<X: Abort + AllocGlobal>(rt: &X, intake: Intake) -> MemSink {
+    let fail = [intake.failing_call];
+    let made = if intake.step < intake.room {
+        MemSink::stepped(rt.alloc(), intake.room, intake.step.max(1), &fail)
     } else {
-        MemSink::new(rt.alloc(), room, &fail)
+        MemSink::new(rt.alloc(), intake.room, &fail)
     };
     let Ok(sink) = made else {
         panic!(rt; "no memory for a sink")
@@ -307,21 +339,20 @@ fn sink<X: Abort + AllocGlobal>(rt: &X, [room, step, call]: [usize; 3]) -> MemSi
     sink
 }
 
-// Sinks that have room for what these runs write, and fail at no call: one for a report or a note, and one for a journal.
-const SHORT: [usize; 3] = [4096, 4096, 4096];
+// Room for what these runs write: for a report or a note, for a journal, and for the longest journal that a run may write.
+const SHORT: usize = 4096;
 
-const WIDE: [usize; 3] = [1 << 24, 1 << 24, 1 << 24];
+const WIDE: usize = 1 << 24;
 
-// A sink for the longest journal that a run may write.
-const WIDEST: [usize; 3] = [1 << 26, 1 << 26, 1 << 26];
+const WIDEST: usize = 1 << 26;
 
 // Makes streams over this input, of which no call fails.
 fn streams_over<X: Abort + AllocGlobal>(rt: &X, input: &[u8]) -> Streams {
     Streams {
         input: source(rt, input, 1 << 20, u64::MAX),
-        report: sink(rt, SHORT),
-        journal: sink(rt, WIDE),
-        notes: sink(rt, SHORT),
+        report: sink(rt, Intake::of(SHORT)),
+        journal: sink(rt, Intake::of(WIDE)),
+        notes: sink(rt, Intake::of(SHORT)),
     }
 }
 

@@ -27,9 +27,9 @@ fn assert_read<X: Abort + AllocGlobal + Threads + Wait + Clock + Sync>(
 ) {
     let mut on = Streams {
         input: source(rt, PAYROLL.as_bytes(), 1, call),
-        report: sink(rt, SHORT),
-        journal: sink(rt, WIDE),
-        notes: sink(rt, SHORT),
+        report: sink(rt, Intake::of(SHORT)),
+        journal: sink(rt, Intake::of(WIDE)),
+        notes: sink(rt, Intake::of(SHORT)),
     };
     assert_ends(rt, "spool 2", &mut on, exit, report, note);
     assert!(rt; on.journal.bytes().is_empty() == (exit != 0));
@@ -40,7 +40,8 @@ fn assert_read<X: Abort + AllocGlobal + Threads + Wait + Clock + Sync>(
 // `piece`, or nothing if `piece` is empty.
 fn assert_written<X: Abort + AllocGlobal + Threads + Wait + Clock + Sync>(
     rt: &X,
-    sinks: [[usize; 3]; 2],
+    report: Intake,
+    journal: Intake,
     exit: u8,
     note: &str,
     length: usize,
@@ -48,12 +49,12 @@ fn assert_written<X: Abort + AllocGlobal + Threads + Wait + Clock + Sync>(
 ) {
     let mut on = Streams {
         input: source(rt, PAYROLL.as_bytes(), 1 << 20, u64::MAX),
-        report: sink(rt, sinks[0]),
-        journal: sink(rt, sinks[1]),
-        notes: sink(rt, SHORT),
+        report: sink(rt, report),
+        journal: sink(rt, journal),
+        notes: sink(rt, Intake::of(SHORT)),
     };
-    let report = front_of(rt, PAYROLL_REPORT, length);
-    assert_ends(rt, "spool 2", &mut on, exit, report, note);
+    let written = front_of(rt, PAYROLL_REPORT, length);
+    assert_ends(rt, "spool 2", &mut on, exit, written, note);
     if exit == 7 {
         assert_text(rt, on.journal.bytes(), piece, note);
     } else {
@@ -73,47 +74,50 @@ fn front_of<'a, X: Abort>(rt: &X, text: &'a str, length: usize) -> &'a str {
 // room.
 #[test]
 fn report_sinks_that_fail(rt: HostRuntime) {
+    let (whole, journal) = (Intake::of(150), Intake::of(WIDE));
     let note = "REPORT FAILED\n";
-    assert_written(&rt, [[150, 150, 0], WIDE], 6, note, 0, "");
-    assert_written(&rt, [[150, 4, 2], WIDE], 6, note, 8, "");
+    assert_written(&rt, whole.failing_at(0), journal, 6, note, 0, "");
+    assert_written(&rt, whole.by(4).failing_at(2), journal, 6, note, 8, "");
     for room in 0..150 {
-        assert_written(&rt, [[room, 150, 150], WIDE], 6, note, room, "");
+        assert_written(&rt, Intake::of(room), journal, 6, note, room, "");
     }
 }
 
 #[test]
 fn journal_sinks_that_fail(rt: HostRuntime) {
+    let report = Intake::of(WIDE);
     let note = "JOURNAL FAILED\n";
-    assert_written(&rt, [WIDE, [10, 10, 10]], 7, note, 150, "JOURNAL 2\n");
-    assert_written(&rt, [WIDE, [4096, 4, 2]], 7, note, 150, "JOURNAL ");
+    assert_written(&rt, report, Intake::of(10), 7, note, 150, "JOURNAL 2\n");
+    let third_call = Intake::of(4096).by(4).failing_at(2);
+    assert_written(&rt, report, third_call, 7, note, 150, "JOURNAL ");
 }
 
 // The report and the journal are whole if each call takes this many bytes, and the report's sink has just enough room.
 #[test]
 fn sinks_that_take_little_at_a_time(rt: HostRuntime) {
     for step in [1, 2, 149, 150] {
-        let sinks = [[150, step, 1 << 17], [1 << 16, step, 1 << 17]];
-        assert_written(&rt, sinks, 0, "", 150, "= PURGED 0 0\n");
+        let (report, journal) = (Intake::of(150).by(step), Intake::of(1 << 16).by(step));
+        assert_written(&rt, report, journal, 0, "", 150, "= PURGED 0 0\n");
     }
 }
 
 // The notes can't be written whole, which changes no status.
 #[test]
 fn notes_that_fail_change_no_status(rt: HostRuntime) {
-    assert_noted(&rt, [0, 1, 9], "");
-    assert_noted(&rt, [4096, 4, 2], "DECK LIN");
+    assert_noted(&rt, Intake::of(0), "");
+    assert_noted(&rt, Intake::of(4096).by(4).failing_at(2), "DECK LIN");
 }
 
 // Writes the note of an empty deck's fault to this sink, and asserts the prefix of it that the sink takes.
 fn assert_noted<X: Abort + AllocGlobal + Threads + Wait + Clock + Sync>(
     rt: &X,
-    notes: [usize; 3],
+    notes: Intake,
     front: &str,
 ) {
     let mut on = Streams {
         input: source(rt, b"", 1, u64::MAX),
-        report: sink(rt, SHORT),
-        journal: sink(rt, SHORT),
+        report: sink(rt, Intake::of(SHORT)),
+        journal: sink(rt, Intake::of(SHORT)),
         notes: sink(rt, notes),
     };
     assert_ends(rt, "spool 1", &mut on, 3, "", front);

@@ -345,8 +345,8 @@ fn heavy_deck(alloc: Global, jobs: u32, step: &str) -> Result<String, AllocError
 // Asserts that a deck of 30,839 jobs runs to its end.
 fn assert_runs<X: Abort + AllocGlobal + Threads + Wait + Clock + Sync>(rt: &X, deck: &str) {
     let mut on = streams_over(rt, deck.as_bytes());
-    on.report = sink(rt, WIDE);
-    on.journal = sink(rt, WIDEST);
+    on.report = sink(rt, Intake::of(WIDE));
+    on.journal = sink(rt, Intake::of(WIDEST));
     let status = run(rt, "spool 1", &mut on);
     assert_exit(rt, status, 0, "spool 1");
     let report = on.report.bytes();
