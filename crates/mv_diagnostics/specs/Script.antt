@@ -1,7 +1,7 @@
 -- What is said of a script: its first fault, or how many calls each task makes.
 use Rattle.std.specs.Prelude.{ℕ, ◌+◌, nat_lt, List, [], ◌∷◌, ◌++◌, length, codes, decimal, Option, Some, None, if◌then◌else◌}
 use Rattle.mv_line.specs.declared.fault.TextFault.{TextFault}
-use Rattle.mv_script.specs.declared.call.Call.{Call}
+use Rattle.mv_scriptline.specs.declared.call.Call.{Call}
 use Rattle.mv_script.specs.Fault.{first_fault}
 use Rattle.mv_script.specs.Script.{script_of}
 use Rattle.mv_diagnostics.specs.declared.sentences.TheConstants.{CALLS, GOOD_SCRIPT, LONG_SCRIPT, RUN_SCRIPT, TASK}

@@ -17,8 +17,8 @@ use Rattle.mv_script.specs.Costs.{cost, costs_of}
 use Rattle.mv_script.specs.Fault.{obtain_meant}
 use Rattle.mv_script.specs.Script.{is_obtain}
 use Rattle.mv_script.specs.Sound.{IfThere}
-use Rattle.mv_script.specs.declared.call.Call.{Call}
-use Rattle.mv_script.specs.declared.call.Call.TheVariants as call
+use Rattle.mv_scriptline.specs.declared.call.Call.{Call}
+use Rattle.mv_scriptline.specs.declared.call.Call.TheVariants as call
 use Rattle.mv_wait.specs.Run.{MayCall}
 use Rattle.mv_pollscript.specs.Task.{IsStageFor, IsTaskAt, Stands}
 use Rattle.mv_pollscript.specs.declared.task.ScriptTask.{ScriptTask}

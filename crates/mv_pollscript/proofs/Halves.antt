@@ -26,8 +26,8 @@ use Rattle.mv_polled.specs.Waiting.{IsWaitAt, IsWaiting, WaitFace}
 use Rattle.mv_polled.specs.declared.turn.Stage.{Stage as CallStage}
 use Rattle.mv_polled.specs.declared.turn.Stage.TheVariants.{Begun, New, Over}
 use Rattle.mv_script.specs.Tasks.{Past}
-use Rattle.mv_script.specs.declared.call.Call.{Call}
-use Rattle.mv_script.specs.declared.call.Call.TheVariants as call
+use Rattle.mv_scriptline.specs.declared.call.Call.{Call}
+use Rattle.mv_scriptline.specs.declared.call.Call.TheVariants as call
 use Rattle.mv_wait.specs.Run.{Went}
 use Rattle.mv_wait.proofs.LatchSteps.{heard_with, went_latch}
 use Rattle.mv_wait.proofs.Runs.{heard_of, went_none, went_then, went_word}

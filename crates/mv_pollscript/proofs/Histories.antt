@@ -16,7 +16,7 @@ use Rattle.mv_runscript.specs.Rooms.{script_with}
 use Rattle.mv_runscript.proofs.Paths.{path_served}
 use Rattle.mv_script.specs.Costs.{costs_of}
 use Rattle.mv_script.specs.Tasks.{Past, calls_at, made_all, named_table, no_past}
-use Rattle.mv_script.specs.declared.call.Call.{Call}
+use Rattle.mv_scriptline.specs.declared.call.Call.{Call}
 use Rattle.mv_wait.specs.Run.{Went}
 use Rattle.mv_wait.proofs.Runs.{served_runs, went_then}
 use Rattle.mv_calls.specs.Rest.{IsAtRest}

@@ -18,8 +18,8 @@ use Rattle.mv_polled.specs.Waiting.{IsWaitAt, WaitFace}
 use Rattle.mv_script.specs.Answered.{done_or, obtained as obtained_told}
 use Rattle.mv_script.specs.Script.{is_obtain}
 use Rattle.mv_script.specs.declared.answer.Answer.{Answer}
-use Rattle.mv_script.specs.declared.call.Call.{Call}
-use Rattle.mv_script.specs.declared.call.Call.TheVariants as call
+use Rattle.mv_scriptline.specs.declared.call.Call.{Call}
+use Rattle.mv_scriptline.specs.declared.call.Call.TheVariants as call
 use Rattle.mv_runscript.specs.Making.{AreOfLatches, IsForScripts, MakesCall, token_in}
 use Rattle.mv_runscript.specs.Served.{MakesService}
 use Rattle.mv_runscript.proofs.Makes.{known_makes, plain_makes}

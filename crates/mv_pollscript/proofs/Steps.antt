@@ -8,7 +8,7 @@ use Rattle.mv_latchset.specs.declared.token.LatchToken.{LatchToken}
 use Rattle.mv_script.specs.Costs.{costs_of}
 use Rattle.mv_script.specs.Script.{is_obtain}
 use Rattle.mv_script.specs.declared.answer.Answer.{Answer}
-use Rattle.mv_script.specs.declared.call.Call.{Call}
+use Rattle.mv_scriptline.specs.declared.call.Call.{Call}
 use Rattle.mv_runscript.specs.Making.{AreOfLatches, MakesCall, MakesCalls}
 use Rattle.mv_runscript.proofs.Steps.{call_keeps_board, call_rests, call_spends, cost_more, counted_more, path_more}
 use Rattle.mv_pollscript.specs.Task.{IsTaskAt, Stands}

@@ -27,7 +27,7 @@ use Rattle.mv_script.specs.Script.{is_obtain}
 use Rattle.mv_script.specs.Sound.{IsSound}
 use Rattle.mv_script.specs.Tasks.{calls_at, no_past}
 use Rattle.mv_script.specs.declared.answer.Answer.{Answer}
-use Rattle.mv_script.specs.declared.call.Call.{Call}
+use Rattle.mv_scriptline.specs.declared.call.Call.{Call}
 use Rattle.mv_wait.proofs.Parts.{fresh_at, one_of, still_of}
 use Rattle.mv_wait.proofs.Runs.{same_then}
 use Rattle.mv_wait.specs.Run.{Went}

@@ -4,7 +4,7 @@ use Rattle.mv_machine.specs.Setup.{Setup}
 use Rattle.mv_machine.specs.System.{System}
 use Rattle.mv_pollscript.specs.Text.{task_text, tasks_text}
 use Rattle.mv_script.specs.declared.answer.Answer.{Answer}
-use Rattle.mv_script.specs.declared.call.Call.{Call}
+use Rattle.mv_scriptline.specs.declared.call.Call.{Call}
 
 -- behind the last
 pub tasks_end : (c : Setup) (s : System) (lists : List (List Call)) (answers : List (List Answer)) (from : ℕ) → length lists ≤ from

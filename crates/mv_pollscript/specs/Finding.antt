@@ -7,8 +7,8 @@ use Rattle.mv_pollscript.specs.declared.finding.Deed.{Deed}
 use Rattle.mv_pollscript.specs.declared.finding.Deed.TheVariants.{Posts, Releases}
 use Rattle.mv_pollscript.specs.declared.finding.Place.{Place}
 use Rattle.mv_script.specs.declared.answer.Answer.{Answer}
-use Rattle.mv_script.specs.declared.call.Call.{Call}
-use Rattle.mv_script.specs.declared.call.Call.TheVariants as call
+use Rattle.mv_scriptline.specs.declared.call.Call.{Call}
+use Rattle.mv_scriptline.specs.declared.call.Call.TheVariants as call
 
 -- whether a call posts this block by its number, or releases a token of this element
 abbrev pub does : Deed → Call → Bool

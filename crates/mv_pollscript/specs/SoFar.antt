@@ -18,7 +18,7 @@ use Rattle.mv_script.specs.Run.{word_in}
 use Rattle.mv_script.specs.Script.{ScriptData}
 use Rattle.mv_script.specs.Tasks.{Past, no_past, named_table, made, made_all, calls_at}
 use Rattle.mv_script.specs.declared.answer.Answer.{Answer}
-use Rattle.mv_script.specs.declared.call.Call.{Call}
+use Rattle.mv_scriptline.specs.declared.call.Call.{Call}
 
 -- the unexpected word that a call of a task read, by the task's answers
 abbrev pub words_in : List Answer → ℕ → Option ℕ

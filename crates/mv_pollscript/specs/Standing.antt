@@ -14,8 +14,8 @@ use Rattle.mv_machine.specs.System.{System}
 use Rattle.mv_pollscript.specs.declared.standing.Standing.{Standing}
 use Rattle.mv_pollscript.specs.declared.standing.Standing.TheVariants as standing
 use Rattle.mv_script.specs.declared.answer.Answer.{Answer}
-use Rattle.mv_script.specs.declared.call.Call.{Call}
-use Rattle.mv_script.specs.declared.call.Call.TheVariants as call
+use Rattle.mv_scriptline.specs.declared.call.Call.{Call}
+use Rattle.mv_scriptline.specs.declared.call.Call.TheVariants as call
 
 -- ---- what has not happened
 

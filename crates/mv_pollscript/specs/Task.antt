@@ -16,8 +16,8 @@ use Rattle.mv_pollscript.specs.declared.task.Stage.TheVariants as stage
 use Rattle.mv_runscript.specs.Making.{AreOfLatches, MakesCalls, is_wait}
 use Rattle.mv_script.specs.Costs.{costs_of}
 use Rattle.mv_script.specs.Script.{is_obtain}
-use Rattle.mv_script.specs.declared.call.Call.{Call}
-use Rattle.mv_script.specs.declared.call.Call.TheVariants as call
+use Rattle.mv_scriptline.specs.declared.call.Call.{Call}
+use Rattle.mv_scriptline.specs.declared.call.Call.TheVariants as call
 
 -- A task that comes to this call makes it in this stage, with no poll yet. A call without a stage does not wait.
 abbrev pub IsStageFor : Option Stage → Call → Type 0

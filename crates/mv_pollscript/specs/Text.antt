@@ -12,8 +12,8 @@ use Rattle.mv_pollscript.specs.declared.sentences.TheConstants.{NOT_MADE, STOPS,
 use Rattle.mv_pollscript.specs.Finding.{first_call}
 use Rattle.mv_pollscript.specs.Standing.{is_complete_in, next_call, waits_in}
 use Rattle.mv_script.specs.declared.answer.Answer.{Answer}
-use Rattle.mv_script.specs.declared.call.Call.{Call}
-use Rattle.mv_script.specs.declared.call.Call.TheVariants as call
+use Rattle.mv_scriptline.specs.declared.call.Call.{Call}
+use Rattle.mv_scriptline.specs.declared.call.Call.TheVariants as call
 
 -- a task waits at this call
 unfoldable pub waiter_text : Place → List ℕ

@@ -15,8 +15,8 @@ use Rattle.mv_calls.specs.Refusal as refusal
 use Rattle.mv_calls.specs.Services.{Service}
 use Rattle.mv_calls.specs.Services as service
 use Rattle.mv_script.specs.declared.answer.Answer.{Answer}
-use Rattle.mv_script.specs.declared.call.Call.{Call}
-use Rattle.mv_script.specs.declared.call.Call.TheVariants as call
+use Rattle.mv_scriptline.specs.declared.call.Call.{Call}
+use Rattle.mv_scriptline.specs.declared.call.Call.TheVariants as call
 use Rattle.mv_script.specs.Answered.{refused, done_or, posted, given, given_if_paused, reached, obtained, standing, entered}
 use Rattle.mv_script.specs.Answered.{found, answer_to}
 use Rattle.mv_script.specs.Costs.{Asked, service_of}

@@ -18,7 +18,7 @@ use Rattle.mv_wait.specs.Run.{IsServed, MayCall}
 use Rattle.mv_wait.proofs.Runs.{runs_none, runs_within, runs_look, went_look, serves}
 use Rattle.mv_script.specs.declared.answer.Answer.{Answer}
 use Rattle.mv_script.specs.declared.answer.Answer.TheVariants as answer
-use Rattle.mv_script.specs.declared.call.Call.{Call}
+use Rattle.mv_scriptline.specs.declared.call.Call.{Call}
 use Rattle.mv_script.specs.Answered.{answer_to}
 use Rattle.mv_script.specs.Costs.{Asked, service_of, cost}
 use Rattle.mv_script.specs.Fault.{obtain_meant}

@@ -25,7 +25,7 @@ use Rattle.mv_calls.specs.LatchCalls.{obtain_refusal}
 use Rattle.mv_calls.specs.Refusal.{Refusal}
 use Rattle.mv_calls.specs.Refusal as refusal
 use Rattle.mv_calls.specs.Waits.{refused_if}
-use Rattle.mv_script.specs.Limits.{latches}
+use Rattle.mv_scriptline.specs.Limits.{latches}
 use Rattle.mv_script.specs.Sound.{IfThere, HasEcb}
 use Rattle.mv_script.specs.Tasks.{request_in}
 use Rattle.mv_runscript.specs.Making.{asked_by, requests_of, token_in, AreOfLatches, IsForScripts}

@@ -13,7 +13,7 @@ use Rattle.mv_calls.specs.declared.table.Table.{Table}
 use Rattle.mv_wait.specs.Run.{IsServed, Went}
 use Rattle.mv_wait.proofs.Runs.{went_none, went_then, served_runs}
 use Rattle.mv_script.specs.declared.answer.Answer.{Answer}
-use Rattle.mv_script.specs.declared.call.Call.{Call}
+use Rattle.mv_scriptline.specs.declared.call.Call.{Call}
 use Rattle.mv_script.specs.Costs.{cost, costs_of}
 use Rattle.mv_script.specs.Run.{word_in}
 use Rattle.mv_script.specs.Tasks.{named_table, made, made_all}

@@ -4,7 +4,7 @@ use Rattle.std.proofs.Common.{append_assoc}
 use Rattle.std.proofs.lemmas.List.{append-nil}
 use Rattle.mv_machine.specs.Setup.{Setup}
 use Rattle.mv_calls.specs.declared.table.Table.{Table}
-use Rattle.mv_script.specs.declared.call.Call.{Call}
+use Rattle.mv_scriptline.specs.declared.call.Call.{Call}
 use Rattle.mv_calls.specs.Table.{IsTableOf, IsSoundTable}
 use Rattle.mv_calls.proofs.TableFacts.{checked_is_sound}
 use Rattle.mv_script.specs.Sound.{IfThere, IsSound}

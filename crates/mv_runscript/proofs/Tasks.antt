@@ -13,7 +13,7 @@ use Rattle.mv_calls.specs.Program.{IsDoneOn}
 use Rattle.mv_calls.specs.Runs.{heard_in}
 use Rattle.mv_calls.proofs.Interleaved.{finish}
 use Rattle.mv_script.specs.declared.answer.Answer.{Answer}
-use Rattle.mv_script.specs.declared.call.Call.{Call}
+use Rattle.mv_scriptline.specs.declared.call.Call.{Call}
 use Rattle.mv_script.specs.Run.{IsMet, IsScriptRun, word_in, past_in, task_answers, script_answers, moves_in}
 use Rattle.mv_script.specs.Script.{ScriptData}
 use Rattle.mv_script.specs.Sound.{IsSound}

@@ -13,10 +13,10 @@ use Rattle.mv_calls.specs.declared.table.Table.{Table}
 use Rattle.mv_calls.specs.declared.outcomes.WaitSlot.{WaitSlot}
 use Rattle.mv_wait.specs.Run.{IsServed}
 use Rattle.mv_script.specs.declared.answer.Answer.{Answer}
-use Rattle.mv_script.specs.declared.call.Call.{Call}
-use Rattle.mv_script.specs.declared.call.Call.TheVariants as call
+use Rattle.mv_scriptline.specs.declared.call.Call.{Call}
+use Rattle.mv_scriptline.specs.declared.call.Call.TheVariants as call
 use Rattle.mv_script.specs.Costs.{Asked, cost}
-use Rattle.mv_script.specs.Limits.{elements_per_task, volumes, latches, most_waited}
+use Rattle.mv_scriptline.specs.Limits.{elements_per_task, volumes, latches, most_waited}
 use Rattle.mv_script.specs.Run.{try_target, word_in}
 use Rattle.mv_script.specs.Sound.{IfThere, HasGoodNumbers, IsSoundCall, AreSoundCalls}
 use Rattle.mv_script.specs.Tasks.{Past, named_table, made}

@@ -3,7 +3,7 @@ use Rattle.std.specs.Prelude.{◌≡◌, ℕ, ◌≤◌, List, [], length, count
 use Rattle.mv_board.specs.Faces.{BoardFace, CallerFace, IsFresh}
 use Rattle.mv_machine.specs.Setup.{Setup}
 use Rattle.mv_calls.specs.declared.table.Table.{Table}
-use Rattle.mv_script.specs.declared.call.Call.{Call}
+use Rattle.mv_scriptline.specs.declared.call.Call.{Call}
 use Rattle.mv_script.specs.Script.{ScriptData}
 use Rattle.mv_runscript.specs.declared.room.Room.{Room}
 use Rattle.mv_runscript.specs.Making.{MakesCalls, HaveSlots, is_wait}

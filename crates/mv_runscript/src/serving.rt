@@ -5,7 +5,7 @@ ghost use Rattle.std.specs.Prelude.{◌≡◌, ◌<◌, ◌≤◌, ◌+◌, ◌*
 ghost use Rattle.std.specs.List.{AllByRecursion};
 ghost use Rattle.mv_wait.specs.Prelude.{code_limit, release_cost, Table, IsSoundTable, MayCall};
 ghost use Rattle.mv_calls.specs.Services as service;
-ghost use Rattle.mv_script.specs.declared.call.Call.TheVariants as call;
+ghost use Rattle.mv_scriptline.specs.declared.call.Call.TheVariants as call;
 ghost use Rattle.mv_script.specs.Prelude.{cost, obtain_meant, event_count, position_count, is_obtain, IfThere, named_table};
 ghost use Rattle.mv_runscript.specs.Making.{MakesCall, AreOfLatches, IsForScripts, is_wait, AreGoodIn};
 ghost use Rattle.mv_runscript.specs.Served.{MakesService};

@@ -3,7 +3,7 @@
 ghost use Rattle.std.specs.Prelude.{◌≡◌, ◌<◌, ◌≤◌, length, List, Option};
 ghost use Rattle.mv_wait.specs.Prelude.{code_limit, release_limit, highest_place, highest_generation, element_count, Table, MayCall};
 ghost use Rattle.mv_latchset.specs.declared.token.LatchToken.{LatchToken};
-ghost use Rattle.mv_script.specs.declared.call.Call.TheVariants as call;
+ghost use Rattle.mv_scriptline.specs.declared.call.Call.TheVariants as call;
 ghost use Rattle.mv_script.specs.Costs as expected;
 ghost use Rattle.mv_runscript.specs.Making.{MakesCall};
 

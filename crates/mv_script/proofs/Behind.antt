@@ -9,14 +9,14 @@ use Rattle.mv_machine.specs.Setup.{Setup, SetupExit}
 use Rattle.mv_calls.specs.declared.table.Table.{Table}
 use Rattle.mv_calls.specs.Table.{IsTableOf}
 use Rattle.mv_calls.proofs.TableFacts.{can_have_is}
-use Rattle.mv_script.specs.declared.call.Call.{Call}
-use Rattle.mv_script.specs.declared.statement.Statement.{Statement}
-use Rattle.mv_script.specs.declared.statement.Statement.TheVariants as statement
+use Rattle.mv_scriptline.specs.declared.call.Call.{Call}
+use Rattle.mv_scriptline.specs.declared.statement.Statement.{Statement}
+use Rattle.mv_scriptline.specs.declared.statement.Statement.TheVariants as statement
 use Rattle.mv_script.specs.Costs.{cost, costs_of, script_setup}
 use Rattle.mv_script.specs.Fault.{is_script, has_script, has_exit, has_table, has_task, has_end, is_out_of_order, leads_down}
 use Rattle.mv_script.specs.Fault.{uses_table, is_bad_table}
 use Rattle.mv_script.specs.Fault.{is_too_costly, is_miscounted, lacks_obtain, kinds_behind, obtain_meant, is_no_obtain}
-use Rattle.mv_script.specs.Limits.{most_tasks, most_ecbs, most_exits, most_calls}
+use Rattle.mv_scriptline.specs.Limits.{most_tasks, most_ecbs, most_exits, most_calls}
 use Rattle.mv_script.specs.Reading.{Progress, progress_of, with_statement, setup_in, budgets_in, IsSoundSoFar, Notes, open_task}
 use Rattle.mv_script.specs.Reading.{HasCosts, IsAsFar, Stands}
 use Rattle.mv_script.specs.Script.{task_count, owners_of, exits_of, tasks_of, with_call, last_task, budgets_of, sizes_behind, is_obtain}

@@ -14,20 +14,20 @@ use Rattle.mv_line.specs.Field.{fields_of}
 use Rattle.mv_line.specs.Line.{begins_with_space}
 use Rattle.mv_line.specs.Number.{is_digits, number_of}
 use Rattle.mv_machine.specs.Limits.{highest_place, highest_generation}
-use Rattle.mv_script.specs.declared.call.Call.{Call}
-use Rattle.mv_script.specs.declared.call.Call.TheVariants as call
-use Rattle.mv_script.specs.declared.operand.Sizes.{Sizes}
-use Rattle.mv_script.specs.declared.statement.Statement.{Statement}
-use Rattle.mv_script.specs.declared.statement.Statement.TheVariants as statement
-use Rattle.mv_script.specs.declared.words.Misread.TheVariants.{NoForm, BadNumber}
-use Rattle.mv_script.specs.Limits.{most_tasks, most_targets, most_waited, highest_count, highest_latch, elements_per_task, volumes}
-use Rattle.mv_script.specs.Operand.{passed, number, below, number_of_tasks, task, ecb, element, volume, latch, count, ecb_code}
-use Rattle.mv_script.specs.Operand.{release_code, place, any_number, requestor, is_point, parted, token, or_hyphen, mode, conditional}
-use Rattle.mv_script.specs.Operand.{event, event_position, event_count, position_count}
+use Rattle.mv_scriptline.specs.declared.call.Call.{Call}
+use Rattle.mv_scriptline.specs.declared.call.Call.TheVariants as call
+use Rattle.mv_scriptline.specs.declared.operand.Sizes.{Sizes}
+use Rattle.mv_scriptline.specs.declared.statement.Statement.{Statement}
+use Rattle.mv_scriptline.specs.declared.statement.Statement.TheVariants as statement
+use Rattle.mv_scriptline.specs.declared.words.Misread.TheVariants.{NoForm, BadNumber}
+use Rattle.mv_scriptline.specs.Limits.{most_tasks, most_targets, most_waited, highest_count, highest_latch, elements_per_task, volumes}
+use Rattle.mv_scriptline.specs.Operand.{passed, number, below, number_of_tasks, task, ecb, element, volume, latch, count, ecb_code}
+use Rattle.mv_scriptline.specs.Operand.{release_code, place, any_number, requestor, is_point, parted, token, or_hyphen, mode, conditional}
+use Rattle.mv_scriptline.specs.Operand.{event, event_position, event_count, position_count}
 use Rattle.mv_script.specs.Sound.{IsEcb, IsElement, IsToken, IfThere, HasEcb, HasGoodNumbers, IsGoodStatement}
-use Rattle.mv_script.specs.Statement.{wait, form, obtain, table_call, latch_call, element_call, other_call, call_of, exit, table, stated}
-use Rattle.mv_script.specs.Statement.{words_state, text_states}
-use Rattle.mv_script.specs.Words.{Read, making, both, each, none, one, two, three, led_by}
+use Rattle.mv_scriptline.specs.Statement.{wait, form, obtain, table_call, latch_call, element_call, other_call, call_of, exit, table, stated}
+use Rattle.mv_scriptline.specs.Statement.{words_state, text_states}
+use Rattle.mv_scriptline.specs.Words.{Read, making, both, each, none, one, two, three, led_by}
 
 -- so it is of what was read, where it was
 abbrev pub IfRead : {A : Type 0} → (A → Type 0) → Read A → Type 0

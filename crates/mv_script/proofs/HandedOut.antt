@@ -35,14 +35,14 @@ use Rattle.mv_eventlaws.proofs.Disciplining.{are_disciplined, served_in_order}
 use Rattle.mv_eventlaws.proofs.Programs.{done_is}
 use Rattle.mv_script.specs.declared.answer.Answer.{Answer}
 use Rattle.mv_script.specs.declared.answer.Answer.TheVariants as answer
-use Rattle.mv_script.specs.declared.call.Call.{Call}
-use Rattle.mv_script.specs.declared.call.Call.TheVariants as call
-use Rattle.mv_script.specs.declared.operand.Sizes.{Sizes}
+use Rattle.mv_scriptline.specs.declared.call.Call.{Call}
+use Rattle.mv_scriptline.specs.declared.call.Call.TheVariants as call
+use Rattle.mv_scriptline.specs.declared.operand.Sizes.{Sizes}
 use Rattle.mv_script.specs.Answered.{refused, answer_to}
 use Rattle.mv_script.specs.Costs.{Asked, service_of}
 use Rattle.mv_script.specs.Events.{IsEntered, ReportsEvent, IsToldInOrder, AreToldInOrder, AreHandedOut, EventsAreHandedOut}
 use Rattle.mv_script.specs.Fault.{obtain_meant}
-use Rattle.mv_script.specs.Operand.{event_count}
+use Rattle.mv_scriptline.specs.Operand.{event_count}
 use Rattle.mv_script.specs.Run.{try_target, IsScriptRun, past_in, task_answers, script_answers}
 use Rattle.mv_script.specs.Script.{ScriptData}
 use Rattle.mv_script.specs.Sound.{IfThere, HasGoodNumbers, AreSoundCalls, IsSound, sizes_of}

@@ -1,8 +1,4 @@
 -- words and numbers
-pub mod Operands
-pub mod Lists
-pub mod Fields
-pub mod Leading
 pub mod Good
 -- one more statement
 pub mod Progresses

@@ -4,21 +4,22 @@ use Rattle.std.proofs.Common.{subst, ◌∙◌, arith, MatchResult}
 use Rattle.std.specs.Prelude.{◌==◌, ◌<◌}
 use Rattle.mv_calls.specs.declared.table.Table.{Table}
 use Rattle.mv_line.specs.Line.{shown, is_foreign, is_too_long}
-use Rattle.mv_script.specs.declared.operand.Sizes.{Sizes}
+use Rattle.mv_scriptline.specs.declared.operand.Sizes.{Sizes}
 use Rattle.mv_line.specs.declared.fault.LineRefusal.{LineRefusal}
 use Rattle.mv_line.specs.declared.fault.LineRefusal.TheVariants.{Has, NoMemory}
-use Rattle.mv_script.specs.declared.fault.Kind.{Kind}
+use Rattle.mv_scriptline.specs.declared.fault.Kind.{Kind}
 use Rattle.mv_script.specs.declared.reading.Reading.{Reading}
-use Rattle.mv_script.specs.declared.statement.Statement.{Statement}
-use Rattle.mv_script.specs.declared.words.Misread.{Misread}
-use Rattle.mv_script.specs.declared.words.Misread.TheVariants.{NoForm, BadNumber}
-use Rattle.mv_script.specs.Fault.{kind_number, kinds_of, kinds_behind}
+use Rattle.mv_scriptline.specs.declared.statement.Statement.{Statement}
+use Rattle.mv_scriptline.specs.declared.words.Misread.{Misread}
+use Rattle.mv_scriptline.specs.declared.words.Misread.TheVariants.{NoForm, BadNumber}
+use Rattle.mv_script.specs.Fault.{kinds_of, kinds_behind}
+use Rattle.mv_scriptline.specs.Kind.{kind_number}
 use Rattle.mv_line.specs.Fault.{TellsLowest, first_of_list}
-use Rattle.mv_script.specs.Misread.{misread_refusal, IsReadAs}
+use Rattle.mv_scriptline.specs.Misread.{misread_refusal, IsReadAs}
 use Rattle.mv_script.specs.Reading.{IsBehind, IsTaken, Notes, Stands}
 use Rattle.mv_script.specs.Script.{sizes_behind, with_line, added, task_count, owners_of, table_of}
-use Rattle.mv_script.specs.Statement.{line_states, text_states}
-use Rattle.mv_script.specs.Words.{Read}
+use Rattle.mv_scriptline.specs.Statement.{line_states, text_states}
+use Rattle.mv_scriptline.specs.Words.{Read}
 
 is_something : (n : ℕ) → 0 < n → (n == 0) ≡ false
 is_something n lt = grind arith

@@ -5,15 +5,16 @@ use Rattle.mv_line.specs.Line.{lines_of, is_foreign, is_too_long}
 use Rattle.mv_line.specs.declared.fault.TextFault.{TextFault}
 use Rattle.mv_line.specs.Fault.{IsNoLater}
 use Rattle.mv_line.proofs.Faults.{Rises, rises_when, rises_last, lowest_from}
-use Rattle.mv_script.specs.declared.fault.Kind.TheVariants.{ForeignByte, TooLong, NoForm, BadNumber, OutOfOrder, Miscounted, LeadsDown}
-use Rattle.mv_script.specs.declared.fault.Kind.TheVariants.{NoObtain, TooCostly, UsesTable, BadTable}
-use Rattle.mv_script.specs.declared.statement.Statement.{Statement}
+use Rattle.mv_scriptline.specs.declared.fault.Kind.TheVariants.{ForeignByte, TooLong, NoForm, BadNumber, OutOfOrder, Miscounted, LeadsDown}
+use Rattle.mv_scriptline.specs.declared.fault.Kind.TheVariants.{NoObtain, TooCostly, UsesTable, BadTable}
+use Rattle.mv_scriptline.specs.declared.statement.Statement.{Statement}
 use Rattle.mv_script.specs.Fault.{has_no_form, has_bad_number, is_out_of_order, is_miscounted, uses_table, is_bad_table}
-use Rattle.mv_script.specs.Fault.{leads_down, lacks_obtain, is_too_costly, kinds_of, kinds_of_statement, kinds_behind, kind_number}
+use Rattle.mv_script.specs.Fault.{leads_down, lacks_obtain, is_too_costly, kinds_of, kinds_of_statement, kinds_behind}
+use Rattle.mv_scriptline.specs.Kind.{kind_number}
 use Rattle.mv_script.specs.Fault.{line_rules, first_fault, HasFault}
 use Rattle.mv_script.specs.Script.{sizes_behind}
-use Rattle.mv_script.specs.Statement.{line_states}
-use Rattle.mv_script.specs.Words.{Read}
+use Rattle.mv_scriptline.specs.Statement.{line_states}
+use Rattle.mv_scriptline.specs.Words.{Read}
 
 -- the kinds of a statement behind others rise
 behind_rises : (earlier : List Statement) (s : Statement) → Rises 4 (kinds_behind earlier s)

@@ -14,13 +14,13 @@ use Rattle.mv_machine.specs.Limits.{events_limit}
 use Rattle.mv_machine.specs.Setup.{Setup, SetupExit}
 use Rattle.mv_calls.specs.declared.table.Table.{Table}
 use Rattle.mv_calls.specs.Table.{IsTableOf}
-use Rattle.mv_script.specs.declared.call.Call.{Call}
-use Rattle.mv_script.specs.declared.statement.Statement.{Statement}
-use Rattle.mv_script.specs.declared.statement.Statement.TheVariants as statement
-use Rattle.mv_script.specs.declared.operand.Sizes.{Sizes}
+use Rattle.mv_scriptline.specs.declared.call.Call.{Call}
+use Rattle.mv_scriptline.specs.declared.statement.Statement.{Statement}
+use Rattle.mv_scriptline.specs.declared.statement.Statement.TheVariants as statement
+use Rattle.mv_scriptline.specs.declared.operand.Sizes.{Sizes}
 use Rattle.mv_script.specs.Costs.{cost, costs_of}
 use Rattle.mv_script.specs.Fault.{is_script, is_exit, is_task, is_end, obtain_meant, is_no_obtain}
-use Rattle.mv_script.specs.Limits.{most_tasks, most_ecbs, most_exits, most_targets, most_calls}
+use Rattle.mv_scriptline.specs.Limits.{most_tasks, most_ecbs, most_exits, most_targets, most_calls}
 use Rattle.mv_script.specs.Reading.{Progress, progress_of, with_statement, sizes_in, setup_in, budgets_in, IsSoundSoFar}
 use Rattle.mv_script.specs.Script.{task_count, owner_in, owners_of, exit_in, exits_of, with_call, tasks_behind, tasks_of, last_task}
 use Rattle.mv_script.specs.Script.{is_obtain, table_in, table_of}

@@ -5,20 +5,20 @@ use Rattle.mv_element.specs.declared.element.Token.{Token}
 use Rattle.mv_latch.specs.declared.request.LatchForm.TheVariants.{Waiting, Posted}
 use Rattle.mv_latch.specs.declared.request.Mode.TheVariants.{Shared, Exclusive}
 use Rattle.mv_machine.specs.Setup.{Setup}
-use Rattle.mv_script.specs.declared.call.Call.{Call}
-use Rattle.mv_script.specs.declared.call.Call.TheVariants as call
-use Rattle.mv_script.specs.declared.statement.Statement.{Statement}
-use Rattle.mv_script.specs.declared.statement.Statement.TheVariants as statement
-use Rattle.mv_script.specs.declared.words.Misread.TheVariants.{NoForm, BadNumber}
-use Rattle.mv_script.specs.declared.operand.Sizes.{Sizes}
+use Rattle.mv_scriptline.specs.declared.call.Call.{Call}
+use Rattle.mv_scriptline.specs.declared.call.Call.TheVariants as call
+use Rattle.mv_scriptline.specs.declared.statement.Statement.{Statement}
+use Rattle.mv_scriptline.specs.declared.statement.Statement.TheVariants as statement
+use Rattle.mv_scriptline.specs.declared.words.Misread.TheVariants.{NoForm, BadNumber}
+use Rattle.mv_scriptline.specs.declared.operand.Sizes.{Sizes}
 use Rattle.mv_script.specs.Costs.{script_setup}
 use Rattle.mv_line.specs.Fault.{fault_at}
 use Rattle.mv_script.specs.Fault.{first_fault}
-use Rattle.mv_script.specs.Operand.{table_with}
+use Rattle.mv_scriptline.specs.Operand.{table_with}
 use Rattle.mv_script.specs.Script.{ScriptData, script_of}
 use Rattle.mv_script.specs.Sound.{IsSound, IsObtainOf}
-use Rattle.mv_script.specs.Statement.{text_states}
-use Rattle.mv_script.specs.Words.{Read}
+use Rattle.mv_scriptline.specs.Statement.{text_states}
+use Rattle.mv_scriptline.specs.Words.{Read}
 
 abbrev lf : List ℕ
 lf = 10 ∷ []

@@ -7,7 +7,7 @@ use Rattle.mv_ecb.specs.Word.{Complete}
 use Rattle.mv_machine.specs.declared.entry.Entry.{Entry}
 use Rattle.mv_machine.specs.declared.entry.Object.TheVariants.{Ecb}
 use Rattle.mv_machine.specs.declared.packing.WordState.TheVariants as state
-use Rattle.mv_script.specs.declared.call.Call.TheVariants as call
+use Rattle.mv_scriptline.specs.declared.call.Call.TheVariants as call
 use Rattle.mv_machine.specs.Legal.{Legal}
 use Rattle.mv_calls.specs.Program.{Done, Early, Says}
 use Rattle.mv_calls.specs.Runs.{heard_in, left_in}

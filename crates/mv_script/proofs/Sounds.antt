@@ -8,26 +8,27 @@ use Rattle.mv_machine.specs.Limits.{events_limit}
 use Rattle.mv_calls.specs.Table.{table_refusal}
 use Rattle.mv_calls.proofs.TableFacts.{can_have_is}
 use Rattle.mv_line.specs.Line.{shown, is_ignored, is_foreign, is_too_long}
-use Rattle.mv_script.specs.declared.fault.Kind.{Kind}
-use Rattle.mv_script.specs.declared.fault.Kind.TheVariants.{ForeignByte, TooLong, NoForm, BadNumber}
-use Rattle.mv_script.specs.declared.fault.Kind.TheVariants.{BadTable}
-use Rattle.mv_script.specs.declared.statement.Statement.{Statement}
-use Rattle.mv_script.specs.declared.statement.Statement.TheVariants as statement
+use Rattle.mv_scriptline.specs.declared.fault.Kind.{Kind}
+use Rattle.mv_scriptline.specs.declared.fault.Kind.TheVariants.{ForeignByte, TooLong, NoForm, BadNumber}
+use Rattle.mv_scriptline.specs.declared.fault.Kind.TheVariants.{BadTable}
+use Rattle.mv_scriptline.specs.declared.statement.Statement.{Statement}
+use Rattle.mv_scriptline.specs.declared.statement.Statement.TheVariants as statement
 use Rattle.mv_script.specs.Costs.{costs_of}
 use Rattle.mv_script.specs.Fault.{has_script, has_task, has_end, is_out_of_order, is_miscounted, leads_down, lacks_obtain}
 use Rattle.mv_script.specs.Fault.{uses_table, is_bad_table}
 use Rattle.mv_script.specs.Fault.{is_too_costly, kinds_of, kinds_of_statement, kinds_behind, first_fault}
 use Rattle.mv_line.specs.Fault.{faults_by_line, first_of_list, when}
 use Rattle.mv_line.proofs.Faults.{none_when, line_passed, no_kinds, no_fault_at_end}
-use Rattle.mv_script.specs.Fault.{kind_number, line_rules, has_no_form, has_bad_number}
-use Rattle.mv_script.specs.Limits.{most_ecbs, most_exits, most_calls}
+use Rattle.mv_script.specs.Fault.{line_rules, has_no_form, has_bad_number}
+use Rattle.mv_scriptline.specs.Kind.{kind_number}
+use Rattle.mv_scriptline.specs.Limits.{most_ecbs, most_exits, most_calls}
 use Rattle.mv_script.specs.Reading.{progress_of, budgets_in, IsSoundSoFar}
 use Rattle.mv_script.specs.Script.{task_count, owners_of, exits_of, table_of, tasks_of, last_task, budgets_of, sizes_behind, added}
 use Rattle.mv_script.specs.Script.{with_line}
 use Rattle.mv_script.specs.Script.{statements_of, script_in, script_of, setup_with}
 use Rattle.mv_script.specs.Sound.{IsSound, IsGoodStatement}
-use Rattle.mv_script.specs.Statement.{line_states, text_states}
-use Rattle.mv_script.specs.Words.{Read}
+use Rattle.mv_scriptline.specs.Statement.{line_states, text_states}
+use Rattle.mv_scriptline.specs.Words.{Read}
 use Rattle.mv_script.proofs.Costs.{costs_same, map_same}
 use Rattle.mv_script.proofs.Good.{read_well}
 use Rattle.mv_script.proofs.Progresses.{one_ecb, one_exit, one_table, one_task, one_call, the_end, sound_at_first, sound_script}

@@ -1,6 +1,6 @@
 -- The kinds of fault of a statement, by the answers to what is asked of it.
 use Rattle.std.proofs.Common.{◌≡◌, true, false, List, [], Some, refl}
-use Rattle.mv_script.specs.declared.statement.Statement.{Statement}
+use Rattle.mv_scriptline.specs.declared.statement.Statement.{Statement}
 use Rattle.mv_script.specs.Fault.{is_out_of_order, is_miscounted, leads_down, lacks_obtain, is_too_costly, uses_table, is_bad_table}
 use Rattle.mv_script.specs.Fault.{kinds_behind}
 use Rattle.mv_line.specs.Fault.{first_of_list}

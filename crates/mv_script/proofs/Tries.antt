@@ -40,9 +40,9 @@ use Rattle.mv_calls.specs.Services as service
 use Rattle.mv_calls.specs.Services.{Service}
 use Rattle.mv_script.specs.declared.answer.Answer.{Answer}
 use Rattle.mv_script.specs.declared.answer.Answer.TheVariants as answer
-use Rattle.mv_script.specs.declared.call.Call.{Call}
-use Rattle.mv_script.specs.declared.call.Call.TheVariants as call
-use Rattle.mv_script.specs.declared.operand.Sizes.{Sizes}
+use Rattle.mv_scriptline.specs.declared.call.Call.{Call}
+use Rattle.mv_scriptline.specs.declared.call.Call.TheVariants as call
+use Rattle.mv_scriptline.specs.declared.operand.Sizes.{Sizes}
 use Rattle.mv_script.specs.Answered.{answer_to}
 use Rattle.mv_script.specs.Costs.{zero_at, reset_at, service_of}
 use Rattle.mv_script.specs.Fault.{obtain_meant}

@@ -11,7 +11,7 @@ use Rattle.mv_machine.specs.Check.{IsValid, is_bad_exit, is_within, keeps}
 use Rattle.mv_machine.specs.Limits.{events_limit}
 use Rattle.mv_machine.specs.Setup.{SetupExit}
 use Rattle.mv_machine.proofs.Validity.{nothing_refuses}
-use Rattle.mv_script.specs.declared.operand.Sizes.{Sizes}
+use Rattle.mv_scriptline.specs.declared.operand.Sizes.{Sizes}
 use Rattle.mv_script.specs.Reading.{Progress, setup_in, sizes_in, IsSoundSoFar}
 use Rattle.mv_script.specs.Sound.{IsEcb, IsSoundExit}
 

@@ -9,10 +9,10 @@ use Rattle.mv_calls.specs.declared.table.Table.{Table}
 use Rattle.mv_calls.specs.Keeping.{Kept, nothing_kept}
 use Rattle.mv_calls.specs.Services.{Service, most_events}
 use Rattle.mv_calls.specs.Services as service
-use Rattle.mv_script.specs.declared.call.Call.{Call}
-use Rattle.mv_script.specs.declared.call.Call.TheVariants as call
-use Rattle.mv_script.specs.Limits.{elements_per_task, volumes, latches, quota, posted_quota}
-use Rattle.mv_script.specs.Operand.{table_with}
+use Rattle.mv_scriptline.specs.declared.call.Call.{Call}
+use Rattle.mv_scriptline.specs.declared.call.Call.TheVariants as call
+use Rattle.mv_scriptline.specs.Limits.{elements_per_task, volumes, latches, quota, posted_quota}
+use Rattle.mv_scriptline.specs.Operand.{table_with}
 
 -- the configuration of a script with this many tasks, and with these blocks, exits and budgets
 abbrev pub script_setup : ℕ → List ℕ → List SetupExit → List ℕ → Setup

@@ -8,8 +8,8 @@ use Rattle.mv_eventlaws.specs.Completions.{Completion, completions}
 use Rattle.mv_eventlaws.specs.Order.{ShowsCompletions}
 use Rattle.mv_script.specs.declared.answer.Answer.{Answer}
 use Rattle.mv_script.specs.declared.answer.Answer.TheVariants as answer
-use Rattle.mv_script.specs.declared.call.Call.{Call}
-use Rattle.mv_script.specs.declared.call.Call.TheVariants as call
+use Rattle.mv_scriptline.specs.declared.call.Call.{Call}
+use Rattle.mv_scriptline.specs.declared.call.Call.TheVariants as call
 use Rattle.mv_script.specs.Script.{ScriptData}
 use Rattle.mv_script.specs.Sound.{IfThere}
 use Rattle.mv_script.specs.Tasks.{calls_at}

@@ -10,35 +10,20 @@ use Rattle.mv_line.specs.Fault as of_lines
 pub use Rattle.mv_line.specs.Fault.{TellsFirst}
 use Rattle.mv_machine.specs.Limits.{events_limit}
 use Rattle.mv_calls.specs.Table.{can_have}
-use Rattle.mv_script.specs.declared.call.Call.{Call}
-use Rattle.mv_script.specs.declared.call.Call.TheVariants as call
-use Rattle.mv_script.specs.declared.fault.Kind.{Kind}
-use Rattle.mv_script.specs.declared.fault.Kind.TheVariants.{ForeignByte, TooLong, NoForm, BadNumber, OutOfOrder, Miscounted, LeadsDown}
-use Rattle.mv_script.specs.declared.fault.Kind.TheVariants.{NoObtain, NoEnd, TooCostly, UsesTable, BadTable}
-use Rattle.mv_script.specs.declared.statement.Statement.{Statement}
-use Rattle.mv_script.specs.declared.statement.Statement.TheVariants as statement
-use Rattle.mv_script.specs.declared.words.Misread.TheVariants as misread
-use Rattle.mv_script.specs.Limits.{most_ecbs, most_exits, most_calls}
+use Rattle.mv_scriptline.specs.declared.call.Call.{Call}
+use Rattle.mv_scriptline.specs.declared.call.Call.TheVariants as call
+use Rattle.mv_scriptline.specs.declared.fault.Kind.TheVariants.{ForeignByte, TooLong, NoForm, BadNumber, OutOfOrder, Miscounted, LeadsDown}
+use Rattle.mv_scriptline.specs.declared.fault.Kind.TheVariants.{NoObtain, NoEnd, TooCostly, UsesTable, BadTable}
+use Rattle.mv_scriptline.specs.declared.statement.Statement.{Statement}
+use Rattle.mv_scriptline.specs.declared.statement.Statement.TheVariants as statement
+use Rattle.mv_scriptline.specs.declared.words.Misread.TheVariants as misread
+use Rattle.mv_scriptline.specs.Kind.{kind_number}
+use Rattle.mv_scriptline.specs.Limits.{most_ecbs, most_exits, most_calls}
 use Rattle.mv_script.specs.Script.{task_count, owners_of, exits_of, table_of, tasks_of, last_task, is_obtain, setup_with, budgets_of}
 use Rattle.mv_script.specs.Script.{sizes_behind, with_line}
-use Rattle.mv_script.specs.Statement.{line_states}
+use Rattle.mv_scriptline.specs.Statement.{line_states}
 use Rattle.mv_script.specs.Table.{uses_any}
-use Rattle.mv_script.specs.Words.{Read}
-
--- the number of a kind
-abbrev pub kind_number : Kind → ℕ
-kind_number ForeignByte = 1
-kind_number TooLong = 2
-kind_number NoForm = 3
-kind_number BadNumber = 4
-kind_number OutOfOrder = 5
-kind_number Miscounted = 6
-kind_number LeadsDown = 7
-kind_number NoObtain = 8
-kind_number NoEnd = 9
-kind_number TooCostly = 10
-kind_number UsesTable = 11
-kind_number BadTable = 12
+use Rattle.mv_scriptline.specs.Words.{Read}
 
 -- ---- faults of a line by itself
 

@@ -1,11 +1,6 @@
-pub mod Limits
-pub mod Words
-pub mod Operand
-pub mod Statement
 pub mod Costs
 pub mod Script
 pub mod Table
-pub mod Misread
 pub mod Fault
 pub mod Answered
 pub mod Tasks

@@ -7,17 +7,18 @@ use Rattle.mv_machine.specs.Limits.{events_limit}
 use Rattle.mv_machine.specs.Setup.{Setup, SetupExit}
 use Rattle.mv_calls.specs.declared.table.Table.{Table}
 use Rattle.mv_calls.specs.Table.{IsTableOf}
-use Rattle.mv_script.specs.declared.call.Call.{Call}
-use Rattle.mv_script.specs.declared.fault.Kind.{Kind}
-use Rattle.mv_script.specs.declared.operand.Sizes.{Sizes}
+use Rattle.mv_scriptline.specs.declared.call.Call.{Call}
+use Rattle.mv_scriptline.specs.declared.fault.Kind.{Kind}
+use Rattle.mv_scriptline.specs.declared.operand.Sizes.{Sizes}
 use Rattle.mv_script.specs.declared.reading.Reading.{Reading}
-use Rattle.mv_script.specs.declared.statement.Statement.{Statement}
-use Rattle.mv_script.specs.declared.statement.Statement.TheVariants as statement
+use Rattle.mv_scriptline.specs.declared.statement.Statement.{Statement}
+use Rattle.mv_scriptline.specs.declared.statement.Statement.TheVariants as statement
 use Rattle.mv_script.specs.Costs.{script_setup, costs_of}
-use Rattle.mv_script.specs.Fault.{has_script, has_exit, has_task, has_end, kind_number, kinds_behind}
+use Rattle.mv_script.specs.Fault.{has_script, has_exit, has_task, has_end, kinds_behind}
+use Rattle.mv_scriptline.specs.Kind.{kind_number}
 use Rattle.mv_line.specs.declared.fault.LineRefusal.{LineRefusal}
 use Rattle.mv_line.specs.Fault.{TellsLowest}
-use Rattle.mv_script.specs.Limits.{most_tasks, most_ecbs, most_exits}
+use Rattle.mv_scriptline.specs.Limits.{most_tasks, most_ecbs, most_exits}
 use Rattle.mv_script.specs.Script.{task_count, owners_of, exits_of, table_of, tasks_of, with_call, sizes_behind, is_obtain}
 use Rattle.mv_script.specs.Sound.{IfThere, IsSoundExit, IsSoundTask, IsGoodStatement}
 

@@ -10,8 +10,8 @@ use Rattle.mv_calls.specs.Program.{Program, Do, Done, Heard}
 use Rattle.mv_calls.specs.Runs.{FinishPrograms, heard_in, left_in}
 use Rattle.mv_script.specs.declared.answer.Answer.{Answer}
 use Rattle.mv_script.specs.declared.answer.Answer.TheVariants.{Moved}
-use Rattle.mv_script.specs.declared.call.Call.{Call}
-use Rattle.mv_script.specs.declared.call.Call.TheVariants as call
+use Rattle.mv_scriptline.specs.declared.call.Call.{Call}
+use Rattle.mv_scriptline.specs.declared.call.Call.TheVariants as call
 use Rattle.mv_script.specs.Costs.{zero_at, reset_at}
 use Rattle.mv_script.specs.Script.{ScriptData}
 use Rattle.mv_script.specs.Tasks.{Past, no_past, made_all, named_table, calls_at, Moves, task_program}

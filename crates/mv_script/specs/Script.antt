@@ -5,15 +5,15 @@ use Rattle.std.specs.Option.{option_or}
 use Rattle.mv_line.specs.Line.{lines_of}
 use Rattle.mv_machine.specs.Setup.{Setup, SetupExit}
 use Rattle.mv_calls.specs.declared.table.Table.{Table}
-use Rattle.mv_script.specs.declared.call.Call.{Call}
-use Rattle.mv_script.specs.declared.call.Call.TheVariants as call
+use Rattle.mv_scriptline.specs.declared.call.Call.{Call}
+use Rattle.mv_scriptline.specs.declared.call.Call.TheVariants as call
 use Rattle.mv_script.specs.declared.script.Script.{Script}
-use Rattle.mv_script.specs.declared.statement.Statement.{Statement}
-use Rattle.mv_script.specs.declared.statement.Statement.TheVariants as statement
-use Rattle.mv_script.specs.declared.operand.Sizes.{Sizes}
+use Rattle.mv_scriptline.specs.declared.statement.Statement.{Statement}
+use Rattle.mv_scriptline.specs.declared.statement.Statement.TheVariants as statement
+use Rattle.mv_scriptline.specs.declared.operand.Sizes.{Sizes}
 use Rattle.mv_script.specs.Costs.{script_setup, costs_of}
-use Rattle.mv_script.specs.Statement.{line_states}
-use Rattle.mv_script.specs.Words.{Read}
+use Rattle.mv_scriptline.specs.Statement.{line_states}
+use Rattle.mv_scriptline.specs.Words.{Read}
 
 -- what contracts see of a script: the configuration, the calls of each task, and the table of events, if there is one
 pub record ScriptData : Type 0 where

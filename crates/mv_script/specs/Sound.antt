@@ -9,16 +9,16 @@ use Rattle.mv_latch.specs.declared.request.LatchForm.TheVariants.{Conditional, W
 use Rattle.mv_machine.specs.Limits.{events_limit, highest_place, highest_generation}
 use Rattle.mv_machine.specs.Setup.{SetupExit}
 use Rattle.mv_calls.specs.Table.{IsTableOf}
-use Rattle.mv_script.specs.declared.call.Call.{Call}
-use Rattle.mv_script.specs.declared.call.Call.TheVariants as call
-use Rattle.mv_script.specs.declared.operand.Sizes.{Sizes}
-use Rattle.mv_script.specs.declared.statement.Statement.{Statement}
-use Rattle.mv_script.specs.declared.statement.Statement.TheVariants as statement
+use Rattle.mv_scriptline.specs.declared.call.Call.{Call}
+use Rattle.mv_scriptline.specs.declared.call.Call.TheVariants as call
+use Rattle.mv_scriptline.specs.declared.operand.Sizes.{Sizes}
+use Rattle.mv_scriptline.specs.declared.statement.Statement.{Statement}
+use Rattle.mv_scriptline.specs.declared.statement.Statement.TheVariants as statement
 use Rattle.mv_script.specs.Costs.{script_setup, costs_of}
 use Rattle.mv_script.specs.Fault.{obtain_meant}
-use Rattle.mv_script.specs.Limits.{most_tasks, most_ecbs, most_exits, most_targets, most_calls, most_waited, highest_count, highest_latch}
-use Rattle.mv_script.specs.Limits.{elements_per_task, volumes}
-use Rattle.mv_script.specs.Operand.{event_count, position_count}
+use Rattle.mv_scriptline.specs.Limits.{most_tasks, most_ecbs, most_exits, most_targets, most_calls, most_waited, highest_count, highest_latch}
+use Rattle.mv_scriptline.specs.Limits.{elements_per_task, volumes}
+use Rattle.mv_scriptline.specs.Operand.{event_count, position_count}
 use Rattle.mv_script.specs.Script.{ScriptData, is_obtain}
 use Rattle.mv_script.specs.Table.{uses_any}
 

@@ -6,8 +6,8 @@ use Rattle.mv_latch.specs.declared.request.LatchForm.TheVariants.{Conditional, W
 use Rattle.mv_calls.specs.declared.table.Table.{Table}
 use Rattle.mv_calls.specs.Events.{first_event_requestor}
 use Rattle.mv_eventlaws.specs.Served.{is_block}
-use Rattle.mv_script.specs.declared.call.Call.{Call}
-use Rattle.mv_script.specs.declared.call.Call.TheVariants as call
+use Rattle.mv_scriptline.specs.declared.call.Call.{Call}
+use Rattle.mv_scriptline.specs.declared.call.Call.TheVariants as call
 
 -- whether there is a block, and it is one of the table's
 abbrev pub is_block_if_any : Table → Option ℕ → Bool

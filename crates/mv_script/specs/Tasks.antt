@@ -12,7 +12,7 @@ use Rattle.mv_calls.specs.Services.{Service}
 use Rattle.mv_calls.specs.Services as service
 use Rattle.mv_script.specs.declared.answer.Answer.{Answer}
 use Rattle.mv_script.specs.declared.answer.Answer.TheVariants.{Moved, NoToken}
-use Rattle.mv_script.specs.declared.call.Call.{Call}
+use Rattle.mv_scriptline.specs.declared.call.Call.{Call}
 use Rattle.mv_script.specs.Answered.{answer_to}
 use Rattle.mv_script.specs.Costs.{Asked, service_of, no_table}
 use Rattle.mv_script.specs.Fault.{obtain_meant}

@@ -1,7 +1,7 @@
 //! The answers to the calls of a script.
 
-use crate::numbers::Slots;
 use mv_element::{ElementState, Token};
+use mv_wait::WaitSlot;
 use std::marker::Model;
 
 /// The answer to one call: what the service returned or why it refused, or that a try read another word than it expected.
@@ -100,4 +100,19 @@ impl Model for AnswerList {
     ghost Value = { List Answer };
 
     ghost view = { λ l. l.answers.items };
+}
+
+/// The blocks of a wait as it found them.
+#[derive(Debug, Drop)]
+pub struct Slots {
+    pub slots: Vec<WaitSlot>,
+}
+
+impl Model for Slots {
+    ghost use Rattle.std.specs.Prelude.{List};
+    ghost use Rattle.mv_calls.specs.declared.outcomes.WaitSlot.{WaitSlot};
+
+    ghost Value = { List WaitSlot };
+
+    ghost view = { λ s. s.slots.items };
 }

@@ -4,9 +4,9 @@ ghost use Rattle.std.specs.Prelude.{◌≡◌, map, replicate, IfOk};
 ghost use Rattle.mv_wait.specs.Prelude.{IsValid, exit_of};
 ghost use Rattle.mv_script.specs.Costs.{script_setup};
 
-use crate::limits::{ELEMENTS_PER_TASK, LATCHES, POSTED_QUOTA, QUOTA, VOLUMES};
 use mv_io::NoMemory;
 use mv_machine::{Config, Exit, ValidConfig};
+use mv_scriptline::{ELEMENTS_PER_TASK, LATCHES, POSTED_QUOTA, QUOTA, VOLUMES};
 use std::alloc::{AllocError, Global};
 
 /// Returns the configuration of a script with this many tasks, and with these blocks, exits and budgets.

@@ -3,13 +3,12 @@
 ghost use Rattle.std.specs.Prelude.{◌≡◌, ◌<◌, ◌≤◌, length, Option};
 ghost use Rattle.mv_wait.specs.Prelude.{Table, mother_events, highest_reach};
 ghost use Rattle.mv_script.specs.Costs.{cost as cost_of};
-ghost use Rattle.mv_script.specs.Limits.{elements_per_task};
+ghost use Rattle.mv_scriptline.specs.Limits.{elements_per_task};
 ghost use Rattle.mv_script.specs.Sound.{HasGoodNumbers, IfThere};
 
-use crate::call::Call;
-use crate::limits::ELEMENTS_PER_TASK;
 use mv_latch::LatchForm;
 use mv_machine::ValidConfig;
+use mv_scriptline::{Call, ELEMENTS_PER_TASK};
 
 /// Returns how many events a call may need in a configuration with these blocks and exits.
 pub(crate) fn cost(config: &ValidConfig, call: &Call) -> u32

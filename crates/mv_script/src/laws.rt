@@ -10,7 +10,7 @@ ghost use Rattle.mv_script.specs.Prelude.{Answer, Call, AreInRange, answers_text
 ghost use Rattle.mv_script.specs.Prelude.{first_fault, IsScriptRun, answer_at, script_answers, unless_moved, ScriptData, script_of};
 ghost use Rattle.mv_script.specs.Prelude.{IsSound, Moves, calls_at};
 ghost use Rattle.mv_script.specs.declared.answer.Answer.TheVariants.{Posted, Early};
-ghost use Rattle.mv_script.specs.declared.call.Call.TheVariants.{TryPost, TryRelease};
+ghost use Rattle.mv_scriptline.specs.declared.call.Call.TheVariants.{TryPost, TryRelease};
 
 /// Shows that the first fault is one that the text has, and that no other comes before it by line and then by kind.
 ///

@@ -3,31 +3,20 @@
 #![tactic(auto)]
 
 mod answer;
-mod call;
-mod calls;
 mod configuration;
 mod cost;
-mod fault;
 mod laws;
-mod limits;
-mod numbers;
-mod operand;
 mod reading;
 mod script;
-mod statement;
 mod table;
-mod words;
 
-pub use answer::{Answer, AnswerList};
-pub use call::{Call, CallList};
+pub use answer::{Answer, AnswerList, Slots};
 pub use configuration::copy_config;
-pub use fault::Kind;
 pub use laws::{
     costs_suffice, events_are_handed_out, first_fault_is_lowest, scripts_are_sound,
     text_determines_answers, tries_are_done_or_moved,
 };
-pub use limits::MOST_WAITED;
 pub use mv_line::{TextFault as ScriptFault, TextRefusal as ScriptRefusal};
-pub use numbers::{Numbers, Slots};
+pub use mv_scriptline::{Call, CallList, Kind, MOST_WAITED, Numbers};
 pub use reading::read_script;
 pub use script::Script;

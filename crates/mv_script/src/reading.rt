@@ -3,29 +3,27 @@
 
 ghost use Rattle.std.specs.Prelude.{◌≡◌, ◌<◌, ◌-◌, ◌^◌, ◌++◌, List, [], ◌∷◌, true, None, not, ◌||◌, nat_lt, is_some};
 ghost use Rattle.std.specs.Prelude.{length, count_by, IfOk, IfErr, OnOk};
-ghost use Rattle.mv_script.specs.declared.call.Call.{Call};
-ghost use Rattle.mv_script.specs.declared.statement.Statement.{Statement};
-ghost use Rattle.mv_script.specs.declared.statement.Statement.TheVariants as statement;
+ghost use Rattle.mv_scriptline.specs.declared.call.Call.{Call};
+ghost use Rattle.mv_scriptline.specs.declared.statement.Statement.{Statement};
+ghost use Rattle.mv_scriptline.specs.declared.statement.Statement.TheVariants as statement;
 ghost use Rattle.mv_script.specs.Fault.{first_fault, TellsFirst, line_rules, leads_down, is_no_obtain, obtain_meant};
 ghost use Rattle.mv_script.specs.Reading.{IsBehind, IsToTake, IsTaken};
 ghost use Rattle.mv_script.specs.Script.{script_data, script_of, script_in, tasks_of, sizes_behind, is_obtain};
 ghost use Rattle.mv_script.specs.Sound.{IsSound, IsGoodStatement};
 
 use crate::ScriptRefusal;
-use crate::call::{Call, CallList};
 use crate::configuration::{unbudgeted, with_budgets};
 use crate::cost::cost;
-use crate::fault::Kind;
-use crate::limits::{EVENTS_LIMIT, MOST_CALLS, MOST_ECBS, MOST_EXITS};
-use crate::numbers::Numbers;
-use crate::operand::Sizes;
 use crate::script::Script;
-use crate::statement::{Statement, statement_of};
 use crate::table::uses_any;
 use mv_calls::{Table, ValidTable};
 use mv_io::NoMemory;
 use mv_line::{LineReader, LineRefusal, is_foreign, is_too_long, read_lines, shown};
 use mv_machine::{Exit, ValidConfig};
+use mv_scriptline::{
+    Call, CallList, EVENTS_LIMIT, Kind, MOST_CALLS, MOST_ECBS, MOST_EXITS, Numbers, Sizes,
+    Statement, statement_of,
+};
 use std::alloc::Global;
 
 /// Reads a script.
@@ -81,7 +79,7 @@ struct Reading {
 }
 
 impl<'a> LineReader<'a> for Reading {
-    ghost use Rattle.mv_script.specs.declared.statement.Statement.{Statement};
+    ghost use Rattle.mv_scriptline.specs.declared.statement.Statement.{Statement};
 
     type Kind = Kind;
 

@@ -1,8 +1,8 @@
 //! A script: the configuration in which its calls are made, the calls of each task, and the table of events.
 
-use crate::call::CallList;
 use mv_calls::ValidTable;
 use mv_machine::ValidConfig;
+use mv_scriptline::CallList;
 
 /// A script that was read.
 #[derive(Drop)]

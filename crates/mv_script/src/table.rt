@@ -7,9 +7,9 @@ ghost use Rattle.mv_eventlaws.specs.Served.{is_block as is_table_block};
 ghost use Rattle.mv_script.specs.Table.{uses as uses_what_is, uses_any as uses_any_of, is_block_if_any, posts_block};
 ghost use Rattle.mv_script.specs.Table.{is_event_requestor as is_by_event};
 
-use crate::call::Call;
 use mv_calls::Table;
 use mv_latch::LatchForm;
+use mv_scriptline::Call;
 
 /// Returns whether a call other than EVPOST and EVNEXT uses what the table reserves, if there is a table.
 pub(crate) fn uses_any(table: Option<Table>, call: &Call) -> bool

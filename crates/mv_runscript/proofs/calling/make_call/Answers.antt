@@ -5,9 +5,9 @@ use Rattle.mv_calls.specs.Services as service
 use Rattle.mv_machine.proofs.Lists.{all_front, all_back}
 use Rattle.mv_calls.specs.declared.outcomes.WaitSlot.{WaitSlot}
 use Rattle.mv_wait.specs.Run.{MayCall}
-use Rattle.mv_script.specs.declared.call.Call.{Call}
-use Rattle.mv_script.specs.declared.call.Call.TheVariants as call
-use Rattle.mv_script.specs.Limits.{most_waited}
+use Rattle.mv_scriptline.specs.declared.call.Call.{Call}
+use Rattle.mv_scriptline.specs.declared.call.Call.TheVariants as call
+use Rattle.mv_scriptline.specs.Limits.{most_waited}
 use Rattle.mv_script.specs.Script.{is_obtain}
 use Rattle.mv_runscript.specs.Making.{AreGoodIn, HaveSlots, MakesCall, is_wait}
 use Rattle.mv_runscript.specs.Served.{MakesService}

@@ -1,7 +1,7 @@
 use Rattle.std.proofs.Common.{◌≤◌, ◌+◌, ◌∷◌, [], length, take, refl, sym, ap, ◌∙◌, subst, arith, length-append, length-take}
 use Rattle.std.specs.Prelude.{count_by}
 use Rattle.std.proofs.lemmas.List.Sums.{count_by-le-length}
-use Rattle.mv_script.specs.declared.call.Call.{Call}
+use Rattle.mv_scriptline.specs.declared.call.Call.{Call}
 use Rattle.mv_script.specs.Fault.{obtain_meant}
 use Rattle.mv_script.specs.Script.{is_obtain}
 use Rattle.mv_script.specs.Sound.{IfThere}

@@ -1,6 +1,6 @@
 use Rattle.std.proofs.Common.{ℕ, ◌+◌, ◌<◌, ◌≤◌, List, ◌∷◌, [], length, get_or, sym, ap, ◌∙◌, subst, length-append}
 use Rattle.std.proofs.lemmas.List.{get_or_default}
-use Rattle.mv_script.specs.declared.call.Call.{Call}
+use Rattle.mv_scriptline.specs.declared.call.Call.{Call}
 use Rattle.mv_runscript.specs.Rooms.{HasRoom}
 use Rattle.mv_runscript.proofs.Lists.{each_more}
 use Rattle.mv_runscript.proofs.room.rooms_for.Goals as goal

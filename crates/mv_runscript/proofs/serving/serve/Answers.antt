@@ -1,6 +1,6 @@
 use Rattle.std.proofs.Common.{refl, arith}
 use Rattle.mv_calls.specs.Keeping.{kept_of}
-use Rattle.mv_script.specs.declared.call.Call.TheVariants as call
+use Rattle.mv_scriptline.specs.declared.call.Call.TheVariants as call
 use Rattle.mv_script.specs.Costs.{no_table, nothing_asked}
 use Rattle.mv_script.proofs.Suffices.{suffices}
 use Rattle.mv_runscript.proofs.Makes.{may_paid, plain_makes}

@@ -1,7 +1,7 @@
 use Rattle.std.proofs.Common.{Some, refl, sym, ap, subst}
 use Rattle.mv_calls.specs.Services as service
 use Rattle.mv_machine.specs.declared.entry.Object.TheVariants.{Ecb}
-use Rattle.mv_script.specs.declared.call.Call.TheVariants as call
+use Rattle.mv_scriptline.specs.declared.call.Call.TheVariants as call
 use Rattle.mv_runscript.specs.Served.{MakesService}
 use Rattle.mv_runscript.proofs.Makes.{plain_makes, missed_makes}
 use Rattle.mv_runscript.proofs.Served.{served_with}

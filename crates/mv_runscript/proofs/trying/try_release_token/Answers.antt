@@ -8,7 +8,7 @@ use Rattle.mv_machine.proofs.Words.{packed_unpacks}
 use Rattle.mv_pause.specs.Releasing.{HasNoPause, IsTried}
 use Rattle.mv_wait.specs.Run.{IsServed}
 use Rattle.mv_script.specs.declared.answer.Answer.TheVariants as answer
-use Rattle.mv_script.specs.declared.call.Call.TheVariants as call
+use Rattle.mv_scriptline.specs.declared.call.Call.TheVariants as call
 use Rattle.mv_runscript.specs.Served.{MakesService}
 use Rattle.mv_runscript.proofs.Makes.{plain_makes, missed_makes}
 use Rattle.mv_runscript.proofs.Served.{served_with}

@@ -5,12 +5,12 @@ use Rattle.std.proofs.lemmas.Bool.{le-leb, lt-leb}
 use Rattle.std.proofs.lemmas.List.Sums.{count_by-le-length}
 use Rattle.mv_machine.specs.Setup.{Setup}
 use Rattle.mv_calls.specs.declared.table.Table.{Table}
-use Rattle.mv_script.specs.declared.call.Call.{Call}
-use Rattle.mv_script.specs.declared.statement.Statement.{Statement}
-use Rattle.mv_script.specs.declared.statement.Statement.TheVariants as statement
+use Rattle.mv_scriptline.specs.declared.call.Call.{Call}
+use Rattle.mv_scriptline.specs.declared.statement.Statement.{Statement}
+use Rattle.mv_scriptline.specs.declared.statement.Statement.TheVariants as statement
 use Rattle.mv_script.specs.Costs.{cost}
 use Rattle.mv_script.specs.Fault.{is_out_of_order, is_miscounted, lacks_obtain, is_no_obtain, obtain_meant, uses_table}
-use Rattle.mv_script.specs.Limits.{most_calls}
+use Rattle.mv_scriptline.specs.Limits.{most_calls}
 use Rattle.mv_script.specs.Reading.{Notes, notes_of, Stands, HasCosts, progress_of, setup_in}
 use Rattle.mv_script.specs.Script.{task_count, owners_of, exits_of, table_of, is_obtain}
 use Rattle.mv_script.specs.Sound.{HasGoodNumbers}

@@ -7,8 +7,8 @@ use Rattle.mv_machine.specs.Setup.{Setup}
 use Rattle.mv_calls.specs.declared.table.Table.{Table}
 use Rattle.mv_calls.specs.Table.{table_refusal}
 use Rattle.mv_calls.proofs.TableFacts.{can_have_is}
-use Rattle.mv_script.specs.declared.statement.Statement.{Statement}
-use Rattle.mv_script.specs.declared.statement.Statement.TheVariants as statement
+use Rattle.mv_scriptline.specs.declared.statement.Statement.{Statement}
+use Rattle.mv_scriptline.specs.declared.statement.Statement.TheVariants as statement
 use Rattle.mv_script.specs.Fault.{is_out_of_order, has_table}
 use Rattle.mv_script.specs.Reading.{notes_of, progress_of, setup_in, Stands}
 use Rattle.mv_script.proofs.Behind.{late_table, table_is, cheap_table, taken_table, setup_is, some_stated}

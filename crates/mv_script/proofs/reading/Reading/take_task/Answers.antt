@@ -3,7 +3,7 @@ use Rattle.std.proofs.Common.{◌≡◌, ◌++◌, [], ◌∷◌, true, false, m
 use Rattle.std.specs.Prelude.{is_some}
 use Rattle.mv_machine.specs.Check.{IsValid}
 use Rattle.mv_machine.specs.Config.{exit_of}
-use Rattle.mv_script.specs.declared.statement.Statement.TheVariants as statement
+use Rattle.mv_scriptline.specs.declared.statement.Statement.TheVariants as statement
 use Rattle.mv_script.specs.Fault.{is_out_of_order}
 use Rattle.mv_script.specs.Reading.{Notes, notes_of, progress_of, Stands}
 use Rattle.mv_script.proofs.Behind.{late_task, taken_task, first_task, same_notes, setup_is, some_stated}

@@ -1,12 +1,12 @@
 -- A line that is neither ignored nor bad by its bytes.
 use Rattle.std.proofs.Common.{◌≡◌, ◌<◌, false, List, length, Ok, Err, sym, subst, ◌∙◌, arith}
 use Rattle.mv_line.specs.Line.{is_foreign, is_too_long}
-use Rattle.mv_script.specs.declared.operand.Sizes.{Sizes}
-use Rattle.mv_script.specs.declared.statement.Statement.{Statement}
-use Rattle.mv_script.specs.Misread.{IsReadAs}
+use Rattle.mv_scriptline.specs.declared.operand.Sizes.{Sizes}
+use Rattle.mv_scriptline.specs.declared.statement.Statement.{Statement}
+use Rattle.mv_scriptline.specs.Misread.{IsReadAs}
 use Rattle.mv_script.specs.Reading.{notes_of, IsBehind}
 use Rattle.mv_script.specs.Script.{sizes_behind}
-use Rattle.mv_script.specs.Statement.{text_states}
+use Rattle.mv_scriptline.specs.Statement.{text_states}
 use Rattle.mv_script.proofs.Good.{read_well}
 use Rattle.mv_script.proofs.Lines.{line_taken, line_refused, some_text, sizes, sizes_are}
 use Rattle.mv_script.proofs.reading.ReadingLineReader.take_line.Goals.{After-stated_table, In_ok-statement}

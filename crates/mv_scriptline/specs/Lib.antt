@@ -1,0 +1,6 @@
+pub mod Limits
+pub mod Words
+pub mod Operand
+pub mod Statement
+pub mod Kind
+pub mod Misread
