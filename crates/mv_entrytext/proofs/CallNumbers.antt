@@ -13,19 +13,13 @@ use Rattle.mv_machine.specs.Setup.{Setup}
 use Rattle.mv_machine.specs.System.{System, opening, with_at}
 use Rattle.mv_calls.proofs.call_numbers.Kept.{round_low}
 use Rattle.mv_calls.proofs.call_numbers.Prefixes.{calls_length}
-use Rattle.mv_entrytext.specs.declared.version.Version.{Version}
-use Rattle.mv_entrytext.specs.declared.version.Version.TheVariants.{One, Two}
-use Rattle.mv_entrytext.specs.Ranges.{highest_u32}
+use Rattle.mv_operationtext.specs.declared.version.Version.{Version}
+use Rattle.mv_operationtext.specs.declared.version.Version.TheVariants.{One, Two}
+use Rattle.mv_operationtext.specs.Ranges.{highest_u32}
+use Rattle.mv_operationtext.proofs.OneCallNumber.{IsCallIn}
 use Rattle.mv_entrytext.specs.Journal.{Line, EntryOf, entry_lines}
 use Rattle.mv_entrytext.specs.Lines.{with_call}
 use Rattle.mv_entrytext.specs.Fault.{AreCallNumbers, AreCallsIn}
-
--- the number that an entry's line may have
-abbrev pub IsCallIn : Version → Option ℕ → Type 0
-IsCallIn One None = Unit {0}
-IsCallIn One (Some n) = ⊥
-IsCallIn Two None = ⊥
-IsCallIn Two (Some n) = n ≤ highest_u32
 
 -- those of a list
 abbrev pub AreEach : Version → List Entry → List ℕ → Type 0

@@ -7,7 +7,7 @@ use Rattle.std.proofs.lemmas.List.Sums.{sum_by-cons}
 use Rattle.mv_machine.specs.Setup.{Setup, SetupExit}
 use Rattle.mv_machine.specs.Check.{IsValid, first_limit, first_bad_owner, first_bad_exit, bad_budget, is_bad_exit, is_within}
 use Rattle.mv_calls.proofs.TableFacts.{both_none, none_mapped}
-use Rattle.mv_entrytext.specs.Ranges.{highest_u32}
+use Rattle.mv_operationtext.specs.Ranges.{highest_u32}
 
 abbrev pub AreU32 : List ℕ → Type 0
 AreU32 ns = AllByRecursion (λ n. n ≤ highest_u32) ns

@@ -2,7 +2,7 @@
 use Rattle.std.proofs.Common.{◌≡◌, ℕ, Bool, List, [], ◌∷◌, ◌++◌, Option, Some, None, refl, sym, ap, ◌∙◌, append_assoc}
 use Rattle.std.proofs.lemmas.List.{append-nil}
 use Rattle.std.specs.Option.{option_map}
-use Rattle.mv_entrytext.specs.Reading.{whole, any_u32}
+use Rattle.mv_operationtext.specs.Reading.{whole, any_u32}
 use Rattle.mv_entrytext.specs.Lines.{numbers}
 
 -- what was read before, and what is still read

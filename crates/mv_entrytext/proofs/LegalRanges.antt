@@ -29,10 +29,10 @@ use Rattle.mv_machine.specs.Check.{IsValid}
 use Rattle.mv_machine.specs.Limits.{highest_place}
 use Rattle.mv_machine.proofs.ElementRuns.{generation_fits}
 use Rattle.mv_entrytext.specs.Fault.{HasJournal}
-use Rattle.mv_entrytext.specs.Ranges.{highest_u32, highest_ecb_code, highest_release_code}
-use Rattle.mv_entrytext.specs.EcbText.{IsEcbOpInRange, IsEcbReplyInRange}
-use Rattle.mv_entrytext.specs.ElementText.{IsElementOpInRange, IsElementReplyInRange}
-use Rattle.mv_entrytext.specs.EntryText.{IsEventInRange, IsInRange, IsTyped, entry_of}
+use Rattle.mv_operationtext.specs.Ranges.{highest_u32, highest_ecb_code, highest_release_code}
+use Rattle.mv_operationtext.specs.EcbText.{IsEcbOpInRange, IsEcbReplyInRange}
+use Rattle.mv_operationtext.specs.ElementText.{IsElementOpInRange, IsElementReplyInRange}
+use Rattle.mv_operationtext.specs.EntryText.{IsEventInRange, IsInRange, IsTyped, entry_of}
 
 -- ---- event control blocks
 

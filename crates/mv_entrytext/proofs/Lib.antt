@@ -1,22 +1,12 @@
 -- numbers, digits, fields and the parts of a text
-pub mod Numbers
-pub mod Digits
-pub mod Leading
-pub mod Front
 pub mod Fields
 pub mod Parts
--- the table that `put_two` takes digits from
-pub mod Pairs
 -- what is written reads back: the law `text_determines_journal`
 pub mod OneLine
 pub mod ConfigNumbers
 pub mod CallNumbers
-pub mod Again
-pub mod EntryAgain
 pub mod LinesAgain
 -- what is read strictly is written so: the law `texts_without_fault_are_journals`
-pub mod Taken
-pub mod KindsTaken
 pub mod LinesTaken
 pub mod TextsTaken
 -- a text states a journal exactly if it is the text of it: the law `texts_state_their_journals`

@@ -18,12 +18,12 @@ use Rattle.mv_line.specs.Line.{lines_of, ended_part, ended_lines, cut_off}
 use Rattle.mv_line.specs.Part.{parts_at}
 use Rattle.mv_line.proofs.Ended.{line_first, ended_whole, none_cut_off}
 use Rattle.mv_line.proofs.Passes.{at_first, at_next, whole_at_end}
-use Rattle.mv_entrytext.specs.declared.version.Version.{Version}
-use Rattle.mv_entrytext.specs.declared.version.Version.TheVariants.{One, Two}
-use Rattle.mv_entrytext.specs.Ranges.{highest_u32}
-use Rattle.mv_entrytext.specs.Words.{◌<+>◌}
-use Rattle.mv_entrytext.specs.Reading.{Reader, behind, after, parted_by, any_u32}
-use Rattle.mv_entrytext.specs.EntryText.{HasText, entry_read, entry_text, caller_text, object_text, op_text, reply_text}
+use Rattle.mv_operationtext.specs.declared.version.Version.{Version}
+use Rattle.mv_operationtext.specs.declared.version.Version.TheVariants.{One, Two}
+use Rattle.mv_operationtext.specs.Ranges.{highest_u32}
+use Rattle.mv_operationtext.specs.Words.{◌<+>◌}
+use Rattle.mv_operationtext.specs.Reading.{Reader, behind, after, parted_by, any_u32}
+use Rattle.mv_operationtext.specs.EntryText.{HasText, entry_read, entry_text, caller_text, object_text, op_text, reply_text}
 use Rattle.mv_entrytext.specs.Journal.{Line, JournalOf, Callers, Elements, Volumes, Latches, Quota, Budget, Owner, ExitTo, Events}
 use Rattle.mv_entrytext.specs.Journal.{EntryOf, End, line_text, line, entry_lines, counts_text, lists_text, head_text, text_of}
 use Rattle.mv_entrytext.specs.Lines.{Stage, AtVersion, AtCallers, AtElements, AtVolumes, AtLatches, AtQuota, AtBudgets, AtOwners, AtExits}
@@ -31,12 +31,13 @@ use Rattle.mv_entrytext.specs.Lines.{AtEntries, AtEnd, numbers, exit_from, exit_
 use Rattle.mv_entrytext.specs.Lines.{blank, draft_with}
 use Rattle.mv_entrytext.specs.Draft.{draft_at}
 use Rattle.mv_entrytext.specs.Fault.{kind_said, kind_of, listed, draft_after, line_rules, HasJournal, AreCallsIn, text_fault, journal_of}
-use Rattle.mv_entrytext.proofs.Numbers.{numeral_of, u32_again, parted_again}
+use Rattle.mv_operationtext.proofs.Numbers.{numeral_of, u32_again, parted_again}
 use Rattle.mv_entrytext.proofs.Parts.{Lacks-decimal, parts_first, parts_last}
 use Rattle.mv_entrytext.proofs.OneLine.{is_one_line}
 use Rattle.mv_entrytext.proofs.ConfigNumbers.{AreU32, IsExit, HasNumbers, has_numbers}
-use Rattle.mv_entrytext.proofs.CallNumbers.{IsCallIn, AreEach, each_from_calls}
-use Rattle.mv_entrytext.proofs.EntryAgain.{entry_again}
+use Rattle.mv_entrytext.proofs.CallNumbers.{AreEach, each_from_calls}
+use Rattle.mv_operationtext.proofs.OneCallNumber.{IsCallIn}
+use Rattle.mv_operationtext.proofs.EntryAgain.{entry_again}
 
 -- ---- each line is read again
 

@@ -8,20 +8,20 @@ use Rattle.std.proofs.lemmas.List.Concat.{flat_map-cons}
 use Rattle.std.proofs.lemmas.Option.{same_Some}
 use Rattle.mv_machine.specs.Setup.{SetupExit}
 use Rattle.mv_line.specs.Part.{parts_at}
-use Rattle.mv_entrytext.specs.declared.version.Version.TheVariants.{One, Two}
-use Rattle.mv_entrytext.specs.Ranges.{highest_u32}
-use Rattle.mv_entrytext.specs.Reading.{whole, parted, any_u32}
-use Rattle.mv_entrytext.specs.EntryText.{HasText, entry_read}
+use Rattle.mv_operationtext.specs.declared.version.Version.TheVariants.{One, Two}
+use Rattle.mv_operationtext.specs.Ranges.{highest_u32}
+use Rattle.mv_operationtext.specs.Reading.{whole, parted, any_u32}
+use Rattle.mv_operationtext.specs.EntryText.{HasText, entry_read}
 use Rattle.mv_entrytext.specs.Journal.{Line, JournalOf, Callers, Elements, Volumes, Latches, Quota, Budget, Owner, ExitTo, Events}
 use Rattle.mv_entrytext.specs.Journal.{EntryOf, End, line_text}
 use Rattle.mv_entrytext.specs.Lines.{Stage, AtVersion, AtCallers, AtElements, AtVolumes, AtLatches, AtQuota, AtBudgets, AtOwners}
 use Rattle.mv_entrytext.specs.Lines.{AtExits, AtEntries, AtEnd, numbers, exit_from, exit_read, count_line, next_line, line_read}
-use Rattle.mv_entrytext.proofs.CallNumbers.{IsCallIn}
+use Rattle.mv_operationtext.proofs.OneCallNumber.{IsCallIn}
 use Rattle.mv_entrytext.proofs.LinesAgain.{targets_text}
 use Rattle.mv_entrytext.proofs.Parts.{joined_again}
-use Rattle.mv_entrytext.proofs.Taken.{Takes, bound, takes_nothing, takes_word, takes_part, takes_number_behind, word_or, u32_or, takes_made}
-use Rattle.mv_entrytext.proofs.Taken.{takes_whole, takes_u32}
-use Rattle.mv_entrytext.proofs.KindsTaken.{pair_text, takes_two, numbered_text, IsNumbered, takes_entry}
+use Rattle.mv_operationtext.proofs.Taken.{Takes, bound, takes_nothing, takes_word, takes_part, takes_number_behind, word_or, u32_or, takes_made}
+use Rattle.mv_operationtext.proofs.Taken.{takes_whole, takes_u32}
+use Rattle.mv_operationtext.proofs.KindsTaken.{pair_text, takes_two, numbered_text, IsNumbered, takes_entry}
 
 -- ---- the fields of an exit
 

@@ -32,13 +32,13 @@ use Rattle.mv_machine.specs.declared.entry.Op.TheVariants as op_on
 use Rattle.mv_machine.specs.declared.entry.Reply.{Reply}
 use Rattle.mv_machine.specs.declared.entry.Reply.TheVariants as reply_of
 use Rattle.mv_machine.specs.declared.entry.Entry.{Entry}
-use Rattle.mv_entrytext.specs.Words.{◌<+>◌}
-use Rattle.mv_entrytext.specs.EcbText.{ecb_op_text, ecb_reply_text}
-use Rattle.mv_entrytext.specs.ElementText.{phase_text, element_op_text, element_reply_text}
-use Rattle.mv_entrytext.specs.VolumeText.{volume_op_text, volume_reply_text}
-use Rattle.mv_entrytext.specs.LatchText.{mode_text, form_text, condition_text, latch_op_text, latch_reply_text}
-use Rattle.mv_entrytext.specs.declared.version.Version.TheVariants.{One, Two}
-use Rattle.mv_entrytext.specs.EntryText.{caller_text, object_text, op_text, reply_text, entry_text}
+use Rattle.mv_operationtext.specs.Words.{◌<+>◌}
+use Rattle.mv_operationtext.specs.EcbText.{ecb_op_text, ecb_reply_text}
+use Rattle.mv_operationtext.specs.ElementText.{phase_text, element_op_text, element_reply_text}
+use Rattle.mv_operationtext.specs.VolumeText.{volume_op_text, volume_reply_text}
+use Rattle.mv_operationtext.specs.LatchText.{mode_text, form_text, condition_text, latch_op_text, latch_reply_text}
+use Rattle.mv_operationtext.specs.declared.version.Version.TheVariants.{One, Two}
+use Rattle.mv_operationtext.specs.EntryText.{caller_text, object_text, op_text, reply_text, entry_text}
 use Rattle.mv_entrytext.specs.Journal as journal
 use Rattle.mv_entrytext.specs.Journal.{Line, line_text}
 use Rattle.mv_entrytext.proofs.Parts.{Lacks, Lacks-append, Lacks-decimal}

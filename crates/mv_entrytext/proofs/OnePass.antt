@@ -14,7 +14,7 @@ use Rattle.mv_calls.specs.declared.counters.CallCounters.{CallCounters}
 use Rattle.mv_calls.specs.Counters.{HasCounted, IsCountable}
 use Rattle.mv_calls.specs.Numbers.{calls}
 use Rattle.mv_calls.proofs.call_numbers.Prefixes.{calls_length}
-use Rattle.mv_entrytext.specs.declared.version.Version.TheVariants.{One, Two}
+use Rattle.mv_operationtext.specs.declared.version.Version.TheVariants.{One, Two}
 use Rattle.mv_entrytext.specs.Journal.{EntryOf, End, line, entry_lines, head_text, journal_text, text_of, text1}
 use Rattle.mv_entrytext.proofs.CallNumbers.{numbered_more}
 

@@ -13,7 +13,7 @@ use Rattle.mv_line.specs.Line.{lines_of, ended_lines, cut_off}
 use Rattle.mv_line.proofs.Passes.{told_at, cut_at_end, whole_at_end}
 use Rattle.mv_entrytext.specs.declared.fault.Kind.{Kind}
 use Rattle.mv_entrytext.specs.declared.fault.Kind.TheVariants.{NoForm, WrongCount, Cut}
-use Rattle.mv_entrytext.specs.declared.version.Version.{Version}
+use Rattle.mv_operationtext.specs.declared.version.Version.{Version}
 use Rattle.mv_entrytext.specs.Journal.{Line, JournalOf, Callers, Elements, Volumes, Latches, Quota, Budget, Owner, ExitTo, Events}
 use Rattle.mv_entrytext.specs.Journal.{EntryOf, End}
 use Rattle.mv_entrytext.specs.Lines.{Stage, AtVersion, AtCallers, AtElements, AtVolumes, AtLatches, AtQuota, AtBudgets, AtOwners}

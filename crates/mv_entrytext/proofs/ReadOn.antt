@@ -7,7 +7,7 @@ use Rattle.mv_machine.specs.declared.entry.Entry.{Entry}
 use Rattle.mv_machine.specs.Setup.{Setup}
 use Rattle.mv_entrytext.specs.declared.reader.EntryReader.{EntryReader}
 use Rattle.mv_entrytext.specs.declared.line.EntryLine.{EntryLine}
-use Rattle.mv_entrytext.specs.declared.version.Version.{Version}
+use Rattle.mv_operationtext.specs.declared.version.Version.{Version}
 use Rattle.mv_entrytext.specs.Journal.{EntryOf}
 use Rattle.mv_entrytext.specs.Lines.{AtEntries, line_read, with_call}
 use Rattle.mv_entrytext.specs.Reader.{IsReadTo, IsReadNext}

@@ -5,7 +5,7 @@ use Rattle.mv_entrytext.specs.declared.fault.Kind.TheVariants.{NoForm, BadNumber
 use Rattle.mv_line.specs.Fault.{fault_at}
 use Rattle.mv_entrytext.specs.Fault.{kind_number, text_fault}
 use Rattle.mv_entrytext.specs.Lines.{next_line, count_line}
-use Rattle.mv_entrytext.specs.Reading.{behind, after, number, parted_at}
+use Rattle.mv_operationtext.specs.Reading.{behind, after, number, parted_at}
 
 pub empty_text : text_fault [] ≡ Some (fault_at 1 (kind_number Cut))
 unfolding text_fault

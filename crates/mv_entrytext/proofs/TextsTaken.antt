@@ -19,16 +19,17 @@ use Rattle.mv_line.proofs.Ended.{ended_text, ended_again, cut_again}
 use Rattle.mv_machine.proofs.Lists.{all_push}
 use Rattle.mv_entrytext.specs.declared.fault.Kind.{Kind}
 use Rattle.mv_entrytext.specs.declared.fault.Kind.TheVariants.{NoForm, BadNumber, BadConfig, WrongCount}
-use Rattle.mv_entrytext.specs.declared.version.Version.{Version}
-use Rattle.mv_entrytext.specs.Ranges.{highest_u32}
-use Rattle.mv_entrytext.specs.EntryText.{HasText}
+use Rattle.mv_operationtext.specs.declared.version.Version.{Version}
+use Rattle.mv_operationtext.specs.Ranges.{highest_u32}
+use Rattle.mv_operationtext.specs.EntryText.{HasText}
 use Rattle.mv_entrytext.specs.Journal.{Line, JournalOf, Callers, Elements, Volumes, Latches, Quota, Budget, Owner, ExitTo, Events}
 use Rattle.mv_entrytext.specs.Journal.{EntryOf, End, line_text, line, entry_lines, counts_text, lists_text, head_text, text_of}
 use Rattle.mv_entrytext.specs.Lines.{Stage, AtVersion, AtCallers, AtElements, AtVolumes, AtLatches, AtQuota, AtBudgets, AtOwners}
 use Rattle.mv_entrytext.specs.Lines.{AtExits, AtEntries, AtEnd, line_read, Draft, blank, with_call, draft_with}
 use Rattle.mv_entrytext.specs.Fault.{kind_said, kind_of, is_read, is_ended, listed, draft_after, with_line, line_rules}
 use Rattle.mv_entrytext.specs.Fault.{text_fault, journal_of, HasJournal, AreCallsIn}
-use Rattle.mv_entrytext.proofs.CallNumbers.{IsCallIn, AreEach, calls_from_each, no_numbers, number_more, lines_more}
+use Rattle.mv_entrytext.proofs.CallNumbers.{AreEach, calls_from_each, no_numbers, number_more, lines_more}
+use Rattle.mv_operationtext.proofs.OneCallNumber.{IsCallIn}
 use Rattle.mv_entrytext.proofs.LinesTaken.{MayCome, line_taken}
 
 -- ---- the text of the lines so far

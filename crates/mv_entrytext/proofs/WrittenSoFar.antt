@@ -13,7 +13,7 @@ use Rattle.mv_machine.specs.Setup.{Setup}
 use Rattle.mv_machine.specs.System.{opening}
 use Rattle.mv_calls.specs.Numbers.{calls, unnumbered}
 use Rattle.mv_calls.proofs.call_numbers.Counted.{calls_more}
-use Rattle.mv_entrytext.specs.declared.version.Version.TheVariants.{Two}
+use Rattle.mv_operationtext.specs.declared.version.Version.TheVariants.{Two}
 use Rattle.mv_entrytext.specs.HistoryText.{IsWrittenSoFar, text_up_to}
 use Rattle.mv_entrytext.specs.Journal.{Line, EntryOf, End, entry_lines, head_text, journal_text, line}
 use Rattle.mv_entrytext.proofs.OnePass.{call_line_more, text_over}

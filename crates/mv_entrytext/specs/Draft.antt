@@ -11,7 +11,7 @@ use Rattle.mv_line.specs.Line.{lines_of, ended_lines, cut_off}
 use Rattle.mv_entrytext.specs.declared.fault.Kind.{Kind}
 use Rattle.mv_entrytext.specs.declared.fault.Kind.TheVariants.{BadConfig}
 use Rattle.mv_entrytext.specs.declared.head.HeadDraft.{HeadDraft}
-use Rattle.mv_entrytext.specs.declared.version.Version.{Version}
+use Rattle.mv_operationtext.specs.declared.version.Version.{Version}
 use Rattle.mv_entrytext.specs.Lines.{Stage, AtVersion, AtCallers, AtElements, AtVolumes, AtLatches, AtQuota, AtBudgets, AtOwners}
 use Rattle.mv_entrytext.specs.Lines.{AtExits, AtEntries, AtEnd, Draft, blank}
 use Rattle.mv_entrytext.specs.Fault.{line_rules}

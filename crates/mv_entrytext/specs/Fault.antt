@@ -11,11 +11,12 @@ pub use Rattle.mv_line.specs.Fault.{TellsFirst}
 use Rattle.mv_line.specs.Line.{ended_lines, cut_off}
 use Rattle.mv_entrytext.specs.declared.fault.Kind.{Kind}
 use Rattle.mv_entrytext.specs.declared.fault.Kind.TheVariants.{NoForm, BadNumber, BadConfig, WrongCount, Cut}
-use Rattle.mv_entrytext.specs.declared.version.Version.{Version}
-use Rattle.mv_entrytext.specs.declared.version.Version.TheVariants.{One, Two}
-use Rattle.mv_entrytext.specs.Ranges.{highest_u32}
-use Rattle.mv_entrytext.specs.EntryText.{HasText}
-use Rattle.mv_entrytext.specs.Journal.{Line, Events, End, number_of, text_of}
+use Rattle.mv_operationtext.specs.declared.version.Version.{Version}
+use Rattle.mv_operationtext.specs.declared.version.Version.TheVariants.{One, Two}
+use Rattle.mv_operationtext.specs.Ranges.{highest_u32}
+use Rattle.mv_operationtext.specs.EntryText.{HasText}
+use Rattle.mv_entrytext.specs.Journal.{Line, Events, End, text_of}
+use Rattle.mv_operationtext.specs.Version.{number_of}
 use Rattle.mv_entrytext.specs.Lines.{Draft, Stage, AtEnd, line_read, blank, draft_with}
 
 -- the number of a kind of fault

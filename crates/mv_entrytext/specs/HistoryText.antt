@@ -9,7 +9,7 @@ use Rattle.mv_machine.specs.Setup.{Setup}
 use Rattle.mv_calls.specs.Counters.{HasCounted}
 use Rattle.mv_calls.specs.Numbers.{calls}
 use Rattle.mv_entrytext.specs.declared.history_text.HistoryText.TheInside.{Inside}
-use Rattle.mv_entrytext.specs.declared.version.Version.TheVariants.{Two}
+use Rattle.mv_operationtext.specs.declared.version.Version.TheVariants.{Two}
 use Rattle.mv_entrytext.specs.Journal.{entry_lines, head_text, journal_text, line}
 
 -- the most bytes of a piece, unless it is the head

@@ -5,15 +5,10 @@ use Rattle.std.specs.List.{flat_map}
 use Rattle.mv_machine.specs.declared.entry.Entry.{Entry}
 use Rattle.mv_machine.specs.Setup.{Setup, SetupExit}
 use Rattle.mv_calls.specs.Numbers.{calls}
-use Rattle.mv_entrytext.specs.declared.version.Version.{Version}
-pub use Rattle.mv_entrytext.specs.declared.version.Version.TheVariants.{One, Two}
-use Rattle.mv_entrytext.specs.Words.{◌<+>◌}
-use Rattle.mv_entrytext.specs.EntryText.{entry_text}
-
--- the number of a version
-abbrev pub number_of : Version → ℕ
-number_of One = 1
-number_of Two = 2
+use Rattle.mv_operationtext.specs.declared.version.Version.{Version}
+pub use Rattle.mv_operationtext.specs.declared.version.Version.TheVariants.{One, Two}
+use Rattle.mv_operationtext.specs.Words.{◌<+>◌}
+use Rattle.mv_operationtext.specs.EntryText.{entry_text}
 
 -- a line, by what it says
 pub data Line : Type 0 where

@@ -1,12 +1,3 @@
-pub mod Ranges
-pub mod Words
-pub mod Widths
-pub mod Reading
-pub mod EcbText
-pub mod ElementText
-pub mod VolumeText
-pub mod LatchText
-pub mod EntryText
 pub mod Journal
 pub mod Lines
 pub mod Fault

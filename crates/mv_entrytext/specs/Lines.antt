@@ -3,12 +3,12 @@ use Rattle.std.specs.Prelude.{ℕ, Bool, List, [], ◌∷◌, ◌++◌, codes, O
 use Rattle.mv_machine.specs.declared.entry.Entry.{Entry}
 use Rattle.mv_machine.specs.Setup.{Setup, SetupExit}
 use Rattle.mv_line.specs.Part.{parts_at}
-use Rattle.mv_entrytext.specs.declared.version.Version.{Version}
-use Rattle.mv_entrytext.specs.declared.version.Version.TheVariants.{One, Two}
-use Rattle.mv_entrytext.specs.EntryText.{entry_read}
+use Rattle.mv_operationtext.specs.declared.version.Version.{Version}
+use Rattle.mv_operationtext.specs.declared.version.Version.TheVariants.{One, Two}
+use Rattle.mv_operationtext.specs.EntryText.{entry_read}
 use Rattle.mv_entrytext.specs.Journal.{Line, JournalOf, Callers, Elements, Volumes, Latches, Quota, Budget, Owner, ExitTo, Events}
 use Rattle.mv_entrytext.specs.Journal.{EntryOf, End}
-use Rattle.mv_entrytext.specs.Reading.{Reader, nothing, word, behind, ◌or◌, made, parted, whole, any_u32}
+use Rattle.mv_operationtext.specs.Reading.{Reader, nothing, word, behind, ◌or◌, made, parted, whole, any_u32}
 
 -- the stage of a journal: which line comes next
 pub data Stage : Type 0 where

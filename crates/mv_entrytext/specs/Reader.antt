@@ -4,9 +4,9 @@ use Rattle.mv_machine.specs.declared.entry.Entry.{Entry}
 use Rattle.mv_machine.specs.Setup.{Setup}
 use Rattle.mv_line.specs.Line.{cut_off}
 use Rattle.mv_entrytext.specs.declared.reader.EntryReader.{EntryReader}
-use Rattle.mv_entrytext.specs.declared.version.Version.{Version}
-use Rattle.mv_entrytext.specs.EntryText.{HasText}
-use Rattle.mv_entrytext.specs.Journal.{number_of}
+use Rattle.mv_operationtext.specs.declared.version.Version.{Version}
+use Rattle.mv_operationtext.specs.EntryText.{HasText}
+use Rattle.mv_operationtext.specs.Version.{number_of}
 use Rattle.mv_entrytext.specs.Lines.{AtEntries, with_call}
 use Rattle.mv_entrytext.specs.Fault.{HasJournal, AreCallsIn, IsTextIn}
 use Rattle.mv_entrytext.specs.Draft.{IsAt, draft_at}

@@ -12,10 +12,10 @@ ghost use Rattle.mv_entrytext.specs.Draft.{kind_of_config, draft_at, head_seen, 
 
 use crate::fault::Kind;
 use crate::line::{Line, Stage, read_line};
-use crate::version::Version;
 use mv_io::NoMemory;
 use mv_line::{FaultKind, LineRefusal, Lines, TextRefusal, split_cut_off};
 use mv_machine::{Config, ValidConfig};
+use mv_operationtext::Version;
 use std::alloc::Global;
 
 // What the lines of the head have said so far, and which line comes next.

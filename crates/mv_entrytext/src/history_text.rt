@@ -5,19 +5,18 @@ ghost use Rattle.std.specs.declared.option.Option.{Option as AnyOption};
 ghost use Rattle.mv_io.specs.Fault.{Rose};
 ghost use Rattle.mv_io.specs.Sink.{Appends, AppendsFront};
 ghost use Rattle.mv_calls.specs.Prelude.{Legal, events_limit, HasCounted};
-ghost use Rattle.mv_entrytext.specs.EntryText.{IsTyped};
+ghost use Rattle.mv_operationtext.specs.EntryText.{IsTyped};
 ghost use Rattle.mv_entrytext.specs.Fault.{HasJournal};
 ghost use Rattle.mv_entrytext.specs.HistoryText.{piece_size, IsWrittenSoFar};
 ghost use Rattle.mv_entrytext.specs.Journal.{End, Two, head_text, journal_text, line};
-ghost use Rattle.mv_entrytext.specs.Widths.{line_width};
+ghost use Rattle.mv_operationtext.specs.Widths.{line_width};
 
-use crate::reserved::LINE_WIDTH;
 use crate::typed::tell_history;
-use crate::version::Version;
 use crate::writing::{push_head, put_end_line, put_entry_line};
 use mv_calls::CallCounters;
 use mv_io::{Failed, NoMemory, Sink, write_all};
 use mv_machine::{History, ValidConfig};
+use mv_operationtext::{LINE_WIDTH, Version};
 use std::alloc::Global;
 use std::marker::Model;
 

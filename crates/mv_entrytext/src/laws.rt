@@ -3,9 +3,9 @@
 ghost use Rattle.std.specs.Prelude.{◌≡◌, ◌≤◌, ◌↔◌, ℕ, List, All, None, MatchOption, length};
 ghost use Rattle.mv_line.specs.declared.fault.TextFault.{TextFault};
 ghost use Rattle.mv_calls.specs.Prelude.{Entry, IsValid, Legal, calls as calls_of, Setup, highest_place};
-ghost use Rattle.mv_entrytext.specs.declared.version.Version.{Version as AnyVersion};
-ghost use Rattle.mv_entrytext.specs.Ranges.{highest_u32};
-ghost use Rattle.mv_entrytext.specs.EntryText.{IsInRange, IsTyped};
+ghost use Rattle.mv_operationtext.specs.declared.version.Version.{Version as AnyVersion};
+ghost use Rattle.mv_operationtext.specs.Ranges.{highest_u32};
+ghost use Rattle.mv_operationtext.specs.EntryText.{IsInRange, IsTyped};
 ghost use Rattle.mv_entrytext.specs.Fault.{HasFault, IsNoLater, journal_of, text_fault};
 ghost use Rattle.mv_entrytext.specs.Fault.{HasJournal, StatesJournal, AreCallsIn, AreCallNumbers};
 ghost use Rattle.mv_entrytext.specs.Journal.{text_of};

@@ -3,17 +3,15 @@
 ghost use Rattle.std.specs.Prelude.{◌≡◌, [], true, IfOk, option_map};
 ghost use Rattle.mv_machine.specs.Config.{exit_of};
 ghost use Rattle.mv_line.specs.Part.{parts_at};
-ghost use Rattle.mv_entrytext.specs.Reading.{whole, any_u32};
+ghost use Rattle.mv_operationtext.specs.Reading.{whole, any_u32};
 ghost use Rattle.mv_entrytext.specs.Lines.{AtVersion, AtBudgets, AtEntries, numbers, exit_from, exit_read, at_exits, at_owners};
 ghost use Rattle.mv_entrytext.specs.Lines.{count_line, next_line, line_read};
 ghost use Rattle.mv_entrytext.specs.Said.{said, entry_said, stage_of, line_seen, entry_line_seen};
 
-use crate::entry::read_entry;
-use crate::number::{after, any_u32, pair_behind, u32_behind};
-use crate::version::Version;
 use mv_io::NoMemory;
 use mv_line::split_part;
 use mv_machine::{Entry, Exit};
+use mv_operationtext::{Version, after, any_u32, pair_behind, read_entry, u32_behind};
 use std::alloc::Global;
 
 /// A line of the head, as it was read.
@@ -175,7 +173,7 @@ pub(crate) fn read_entry_line(strict: bool, version: Version, text: &[u8]) -> Op
 type Read<'a> = Result<Option<(Line, &'a [u8])>, NoMemory>;
 
 // Reads an exit, or the end of the head.
-#[tactic(auto, unfolding(crate::specs::Reading::behind))]
+#[tactic(auto, unfolding(mv_operationtext::specs::Reading::behind))]
 fn read_at_exits(alloc: Global, strict: bool, text: &[u8]) -> Read<'_>
     ensures { IfOk result (λ o. line_seen o ≡ at_exits strict text.now) }
 {

@@ -4,21 +4,20 @@
 ghost use Rattle.std.specs.Prelude.{◌≡◌, ◌+◌, ◌<◌, ◌-◌, ◌^◌, [], true, Some, ℕ, List, length, IfOk, IfSome, MatchOption, MatchResult};
 ghost use Rattle.mv_line.specs.Fault.{IsPassed};
 ghost use Rattle.mv_calls.specs.Prelude.{Entry as AnyEntry, Setup};
-ghost use Rattle.mv_entrytext.specs.declared.version.Version.{Version as AnyVersion};
-ghost use Rattle.mv_entrytext.specs.EntryText.{entry_text};
+ghost use Rattle.mv_operationtext.specs.declared.version.Version.{Version as AnyVersion};
+ghost use Rattle.mv_operationtext.specs.EntryText.{entry_text};
 ghost use Rattle.mv_entrytext.specs.Lines.{AtEntries, line_read};
 ghost use Rattle.mv_entrytext.specs.Fault.{TellsFirst, kind_of_form, text_fault};
 ghost use Rattle.mv_entrytext.specs.Journal.{EntryOf, first_line};
 ghost use Rattle.mv_entrytext.specs.Said.{entry_said};
 ghost use Rattle.mv_entrytext.specs.Reader.{left_in, IsReadTo, IsNextOf};
 
-use crate::entry::read_entry;
 use crate::fault::Kind;
 use crate::head::read_head;
 use crate::line::{EntryLine, read_entry_line};
-use crate::version::Version;
 use mv_line::{FaultKind, Lines, TextFault, TextRefusal};
 use mv_machine::{Entry, ValidConfig};
+use mv_operationtext::{Version, read_entry};
 use std::alloc::Global;
 
 /// The reader of a journal's entries, which follow the head of its text. It keeps none of them.

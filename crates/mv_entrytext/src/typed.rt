@@ -1,13 +1,13 @@
-//! The ranges that the types of an entry's numbers give, by `specs/EntryText.antt`. These functions change nothing and return
+//! The ranges that the types of an entry's numbers give, by `EntryText.antt` of mv_operationtext. These functions change nothing and return
 //! nothing: they are called for their clauses. `tell_history` goes through the logs once, which a compiler may leave out.
 
 ghost use Rattle.std.specs.Prelude.{◌≤◌, All};
-ghost use Rattle.mv_entrytext.specs.EcbText.{IsEcbReplyTyped};
-ghost use Rattle.mv_entrytext.specs.ElementText.{IsElementOpTyped};
-ghost use Rattle.mv_entrytext.specs.EntryText.{IsObjectTyped, IsOpTyped, IsReplyTyped, IsTyped};
-ghost use Rattle.mv_entrytext.specs.LatchText.{IsFormTyped, IsLatchOpTyped, IsLatchReplyTyped};
-ghost use Rattle.mv_entrytext.specs.Ranges.{highest_u32, highest_u64};
-ghost use Rattle.mv_entrytext.specs.VolumeText.{IsVolumeOpTyped, IsVolumeReplyTyped};
+ghost use Rattle.mv_operationtext.specs.EcbText.{IsEcbReplyTyped};
+ghost use Rattle.mv_operationtext.specs.ElementText.{IsElementOpTyped};
+ghost use Rattle.mv_operationtext.specs.EntryText.{IsObjectTyped, IsOpTyped, IsReplyTyped, IsTyped};
+ghost use Rattle.mv_operationtext.specs.LatchText.{IsFormTyped, IsLatchOpTyped, IsLatchReplyTyped};
+ghost use Rattle.mv_operationtext.specs.Ranges.{highest_u32, highest_u64};
+ghost use Rattle.mv_operationtext.specs.VolumeText.{IsVolumeOpTyped, IsVolumeReplyTyped};
 
 use mv_ecb::EcbReply;
 use mv_element::ElementOp;

@@ -4,21 +4,21 @@ ghost use Rattle.std.specs.Prelude.{◌≡◌, ◌≤◌, ◌<◌, ◌+◌, ◌^
 ghost use Rattle.std.specs.Prelude.{codes, decimal, vec_len, vec_capacity};
 ghost use Rattle.std.specs.List.{flat_map};
 ghost use Rattle.mv_calls.specs.Prelude.{setup_of, exit_of, Legal, highest_place, Setup};
-ghost use Rattle.mv_entrytext.specs.declared.version.Version.{Version as AnyVersion};
-ghost use Rattle.mv_entrytext.specs.EntryText.{IsInRange, IsTyped};
+ghost use Rattle.mv_operationtext.specs.declared.version.Version.{Version as AnyVersion};
+ghost use Rattle.mv_operationtext.specs.EntryText.{IsInRange, IsTyped};
 ghost use Rattle.mv_entrytext.specs.Journal.{JournalOf, Callers, Elements, Volumes, Latches, Quota, Budget, Owner, ExitTo};
 ghost use Rattle.mv_entrytext.specs.Journal.{Line, EntryOf, End, line, counts_text, lists_text, head_text, text1, journal_text};
-ghost use Rattle.mv_entrytext.specs.Widths.{line_width, number_width};
+ghost use Rattle.mv_operationtext.specs.Widths.{line_width, number_width};
 ghost use Rattle.mv_entrytext.specs.Writer.{IsWrittenTo};
 
-use crate::entry::put_entry;
-use crate::number::{push_number, push_pair, push_word};
-use crate::reserved::{LINE_WIDTH, put_number, put_wide, put_word};
 use crate::typed::tell_entry;
-use crate::version::Version;
 use mv_calls::Judge;
 use mv_io::NoMemory;
 use mv_machine::{Config, Entry, Exit, ValidConfig};
+use mv_operationtext::{
+    LINE_WIDTH, Version, push_number, push_pair, push_word, put_entry, put_number, put_wide,
+    put_word,
+};
 use std::alloc::Global;
 use std::mem::replace;
 

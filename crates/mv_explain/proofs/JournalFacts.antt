@@ -14,11 +14,11 @@ use Rattle.mv_machine.specs.Limits.{highest_place}
 use Rattle.mv_machine.specs.Replay.{IsFirstIllegal}
 use Rattle.mv_machine.specs.Setup.{Setup}
 use Rattle.mv_machine.specs.System.{opening}
-use Rattle.mv_entrytext.specs.declared.version.Version.{Version}
-use Rattle.mv_entrytext.specs.declared.version.Version.TheVariants.{One, Two}
-use Rattle.mv_entrytext.specs.EntryText.{HasText}
+use Rattle.mv_operationtext.specs.declared.version.Version.{Version}
+use Rattle.mv_operationtext.specs.declared.version.Version.TheVariants.{One, Two}
+use Rattle.mv_operationtext.specs.EntryText.{HasText}
 use Rattle.mv_entrytext.specs.Fault.{AreCallsIn, IsTextIn}
-use Rattle.mv_entrytext.specs.Journal.{number_of}
+use Rattle.mv_operationtext.specs.Version.{number_of}
 
 -- the places of its events fit
 pub places_fit : (es : List Entry) → All HasText es → All (λ (e : Entry). e.place ≤ highest_place) es

@@ -17,9 +17,10 @@ use Rattle.mv_calls.specs.CallsReplay.{IsFirstNumber}
 use Rattle.mv_calls.specs.Numbers.{calls}
 use Rattle.mv_calls.proofs.call_numbers.Prefixes.{calls-take}
 use Rattle.mv_calls.proofs.call_numbers.Refused.{front_is_legal}
-use Rattle.mv_entrytext.specs.declared.version.Version.{Version}
+use Rattle.mv_operationtext.specs.declared.version.Version.{Version}
 use Rattle.mv_entrytext.specs.Fault.{text_fault}
-use Rattle.mv_entrytext.specs.Journal.{first_line, number_of}
+use Rattle.mv_entrytext.specs.Journal.{first_line}
+use Rattle.mv_operationtext.specs.Version.{number_of}
 use Rattle.mv_entrytext.proofs.LinesAgain.{no_fault, one_journal}
 use Rattle.mv_explain.specs.declared.judging.Verdict.{Verdict}
 use Rattle.mv_explain.specs.declared.judging.Verdict.TheVariants as verdict

@@ -10,8 +10,8 @@ use Rattle.mv_machine.specs.Legal.{Legal}
 use Rattle.mv_machine.specs.Limits.{highest_place, events_limit}
 use Rattle.mv_machine.specs.Setup.{Setup}
 use Rattle.mv_calls.specs.Numbers.{calls}
-use Rattle.mv_entrytext.specs.declared.version.Version.TheVariants.{Two}
-use Rattle.mv_entrytext.specs.EntryText.{IsTyped}
+use Rattle.mv_operationtext.specs.declared.version.Version.TheVariants.{Two}
+use Rattle.mv_operationtext.specs.EntryText.{IsTyped}
 use Rattle.mv_entrytext.specs.Fault.{HasJournal}
 use Rattle.mv_entrytext.specs.Journal.{journal_text}
 use Rattle.mv_entrytext.proofs.CallNumbers.{calls_are_numbers}

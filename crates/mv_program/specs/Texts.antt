@@ -3,7 +3,7 @@
 use Rattle.std.specs.Prelude.{◌≡◌, ℕ, ◌≤◌, List, length}
 use Rattle.mv_deck.specs.Deck.{JobData, deck_of}
 use Rattle.mv_calls.specs.Numbers.{calls}
-use Rattle.mv_entrytext.specs.declared.version.Version.TheVariants.{Two}
+use Rattle.mv_operationtext.specs.declared.version.Version.TheVariants.{Two}
 use Rattle.mv_entrytext.specs.Fault.{StatesJournal}
 use Rattle.mv_machine.specs.declared.entry.Entry.{Entry}
 use Rattle.mv_machine.specs.Legal.{Legal}

@@ -4,9 +4,9 @@ use Rattle.mv_machine.specs.declared.entry.Entry.{Entry}
 use Rattle.mv_machine.specs.Legal.{Legal}
 use Rattle.mv_machine.specs.Setup.{Setup}
 use Rattle.mv_calls.specs.Numbers.{calls}
-use Rattle.mv_entrytext.specs.declared.version.Version.{Version}
-use Rattle.mv_entrytext.specs.declared.version.Version.TheVariants.{One, Two}
-use Rattle.mv_entrytext.specs.Ranges.{highest_u32}
+use Rattle.mv_operationtext.specs.declared.version.Version.{Version}
+use Rattle.mv_operationtext.specs.declared.version.Version.TheVariants.{One, Two}
+use Rattle.mv_operationtext.specs.Ranges.{highest_u32}
 use Rattle.mv_entrytext.specs.Fault.{HasJournal, AreCallsIn}
 use Rattle.mv_entrytext.specs.Journal.{text_of, journal_text}
 use Rattle.mv_entrytext.proofs.CallNumbers.{calls_are_numbers}

@@ -10,11 +10,12 @@ use Rattle.mv_machine.specs.Setup.{Setup}
 use Rattle.mv_calls.specs.declared.judge.Judge.{Judge}
 use Rattle.mv_calls.specs.Judge.{IsJudgedNext}
 use Rattle.mv_calls.specs.Numbers.{calls}
-use Rattle.mv_entrytext.specs.declared.version.Version.{Version}
-use Rattle.mv_entrytext.specs.declared.version.Version.TheVariants.{One, Two}
+use Rattle.mv_operationtext.specs.declared.version.Version.{Version}
+use Rattle.mv_operationtext.specs.declared.version.Version.TheVariants.{One, Two}
 use Rattle.mv_entrytext.specs.declared.writing.JournalWriter.{JournalWriter}
 use Rattle.mv_entrytext.specs.Fault.{AreCallsIn, HasJournal, IsTextIn}
-use Rattle.mv_entrytext.specs.Journal.{Line, EntryOf, End, line, first_line, entry_lines, head_text, number_of, text_of}
+use Rattle.mv_entrytext.specs.Journal.{Line, EntryOf, End, line, first_line, entry_lines, head_text, text_of}
+use Rattle.mv_operationtext.specs.Version.{number_of}
 use Rattle.mv_entrytext.specs.Lines.{with_call}
 use Rattle.mv_entrytext.specs.Writer.{IsWrittenTo}
 use Rattle.mv_entrytext.proofs.OnePass.{call_line_more}

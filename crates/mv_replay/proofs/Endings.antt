@@ -4,7 +4,7 @@ use Rattle.std.proofs.lemmas.Option.{same_Some}
 use Rattle.mv_machine.specs.declared.entry.Entry.{Entry}
 use Rattle.mv_machine.specs.Setup.{Setup}
 use Rattle.mv_line.specs.declared.fault.TextFault.{TextFault}
-use Rattle.mv_entrytext.specs.declared.version.Version.{Version}
+use Rattle.mv_operationtext.specs.declared.version.Version.{Version}
 use Rattle.mv_entrytext.specs.Fault.{StatesJournal, text_fault}
 use Rattle.mv_replay.specs.declared.status.ReplayStatus.{ReplayStatus}
 use Rattle.mv_replay.specs.declared.status.ReplayStatus.TheVariants.{Done, TooLong, ReadFailed, ReportFailed, NoMemory, Illegal, Text}

@@ -32,14 +32,14 @@ use Rattle.mv_machine.specs.declared.entry.VolumeOp.TheVariants as volume_op
 use Rattle.mv_machine.specs.declared.entry.VolumeReply.{VolumeReply}
 use Rattle.mv_machine.specs.declared.entry.VolumeReply.TheVariants as volume_reply
 use Rattle.mv_machine.specs.Limits.{highest_place}
-use Rattle.mv_entrytext.specs.Ranges.{highest_u32, highest_u64, highest_release_code}
-use Rattle.mv_entrytext.specs.EcbText.{ecb_op_text, ecb_reply_text, IsEcbOpInRange, IsEcbReplyInRange, IsEcbReplyTyped}
-use Rattle.mv_entrytext.specs.ElementText.{phase_text, element_op_text, element_reply_text}
-use Rattle.mv_entrytext.specs.ElementText.{IsElementOpInRange, IsElementOpTyped, IsElementReplyInRange}
-use Rattle.mv_entrytext.specs.VolumeText.{volume_op_text, volume_reply_text, IsVolumeOpTyped, IsVolumeReplyTyped}
-use Rattle.mv_entrytext.specs.LatchText.{mode_text, form_text, condition_text, latch_op_text, latch_reply_text}
-use Rattle.mv_entrytext.specs.LatchText.{IsFormTyped, IsLatchOpTyped, IsLatchReplyTyped}
-use Rattle.mv_entrytext.specs.EntryText.{object_text, op_text, reply_text, IsEventInRange, IsObjectTyped, IsOpTyped, IsReplyTyped}
+use Rattle.mv_operationtext.specs.Ranges.{highest_u32, highest_u64, highest_release_code}
+use Rattle.mv_operationtext.specs.EcbText.{ecb_op_text, ecb_reply_text, IsEcbOpInRange, IsEcbReplyInRange, IsEcbReplyTyped}
+use Rattle.mv_operationtext.specs.ElementText.{phase_text, element_op_text, element_reply_text}
+use Rattle.mv_operationtext.specs.ElementText.{IsElementOpInRange, IsElementOpTyped, IsElementReplyInRange}
+use Rattle.mv_operationtext.specs.VolumeText.{volume_op_text, volume_reply_text, IsVolumeOpTyped, IsVolumeReplyTyped}
+use Rattle.mv_operationtext.specs.LatchText.{mode_text, form_text, condition_text, latch_op_text, latch_reply_text}
+use Rattle.mv_operationtext.specs.LatchText.{IsFormTyped, IsLatchOpTyped, IsLatchReplyTyped}
+use Rattle.mv_operationtext.specs.EntryText.{object_text, op_text, reply_text, IsEventInRange, IsObjectTyped, IsOpTyped, IsReplyTyped}
 
 -- ---- numbers
 

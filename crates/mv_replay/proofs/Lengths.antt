@@ -10,10 +10,10 @@ use Rattle.mv_machine.specs.Check.{IsValid, first_limit, is_within}
 use Rattle.mv_machine.specs.Limits.{events_limit, callers_limit, ecbs_limit, exits_limit, targets_limit}
 use Rattle.mv_machine.specs.Setup.{Setup, SetupExit}
 use Rattle.mv_machine.proofs.Validity.{no_bad_limit}
-use Rattle.mv_entrytext.specs.declared.version.Version.{Version}
-use Rattle.mv_entrytext.specs.declared.version.Version.TheVariants.{One, Two}
-use Rattle.mv_entrytext.specs.Ranges.{highest_u32}
-use Rattle.mv_entrytext.specs.EntryText.{HasText, caller_text, entry_text}
+use Rattle.mv_operationtext.specs.declared.version.Version.{Version}
+use Rattle.mv_operationtext.specs.declared.version.Version.TheVariants.{One, Two}
+use Rattle.mv_operationtext.specs.Ranges.{highest_u32}
+use Rattle.mv_operationtext.specs.EntryText.{HasText, caller_text, entry_text}
 use Rattle.mv_entrytext.specs.Fault.{HasJournal, AreCallsIn}
 use Rattle.mv_entrytext.specs.Journal.{JournalOf, Budget, Owner, ExitTo, Events, EntryOf, End, line_text, line, entry_lines}
 use Rattle.mv_entrytext.specs.Journal.{counts_text, lists_text, head_text, text_of}

@@ -8,8 +8,8 @@ use Rattle.mv_machine.specs.Legal.{Legal}
 use Rattle.mv_machine.specs.Setup.{Setup}
 use Rattle.mv_calls.specs.Numbers.{calls}
 use Rattle.mv_calls.proofs.call_numbers.Prefixes.{calls-take, legal_take}
-use Rattle.mv_entrytext.specs.declared.version.Version.{Version}
-use Rattle.mv_entrytext.specs.declared.version.Version.TheVariants.{One, Two}
+use Rattle.mv_operationtext.specs.declared.version.Version.{Version}
+use Rattle.mv_operationtext.specs.declared.version.Version.TheVariants.{One, Two}
 use Rattle.mv_entrytext.specs.Fault.{AreCallsIn}
 use Rattle.mv_entrytext.specs.Lines.{with_call}
 use Rattle.mv_replay.specs.Judgement.{calls_in, AreRight, IsFirstWrong}

@@ -5,8 +5,8 @@ use Rattle.mv_machine.specs.Setup.{Setup}
 use Rattle.mv_calls.specs.declared.judge.Judge.{Judge}
 use Rattle.mv_calls.specs.Judge.{HasJudged}
 use Rattle.mv_calls.specs.Numbers.{calls}
-use Rattle.mv_entrytext.specs.declared.version.Version.{Version}
-use Rattle.mv_entrytext.specs.declared.version.Version.TheVariants.{One, Two}
+use Rattle.mv_operationtext.specs.declared.version.Version.{Version}
+use Rattle.mv_operationtext.specs.declared.version.Version.TheVariants.{One, Two}
 use Rattle.mv_entrytext.specs.declared.writing.JournalWriter.{JournalWriter}
 use Rattle.mv_entrytext.specs.Journal.{first_line, entry_lines, journal_text}
 use Rattle.mv_entrytext.specs.Writer.{IsWrittenTo}

@@ -8,8 +8,8 @@ use Rattle.mv_machine.specs.Setup.{Setup}
 use Rattle.mv_machine.specs.System.{System}
 use Rattle.mv_machine.specs.Told.{last_wakes}
 use Rattle.mv_latch.specs.declared.operation.Wake.{Wake}
-use Rattle.mv_entrytext.specs.declared.version.Version.{Version}
-use Rattle.mv_entrytext.specs.declared.version.Version.TheVariants.{One, Two}
+use Rattle.mv_operationtext.specs.declared.version.Version.{Version}
+use Rattle.mv_operationtext.specs.declared.version.Version.TheVariants.{One, Two}
 use Rattle.mv_entrytext.specs.Journal.{first_line}
 use Rattle.mv_entrytext.specs.Fault.{StatesJournal, text_fault}
 use Rattle.mv_replay.specs.declared.status.ReplayStatus.{ReplayStatus}

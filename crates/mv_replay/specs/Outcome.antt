@@ -5,7 +5,7 @@ use Rattle.mv_ending.specs.Ending.{EndsAs}
 use Rattle.mv_ending.specs.Input.{IsWhole, IsTooLong, IsCut, IsAllOrNothing}
 use Rattle.mv_ending.specs.Written.{Extent, Nothing, PartOfReport, Everything}
 use Rattle.mv_calls.specs.Numbers.{calls}
-use Rattle.mv_entrytext.specs.declared.version.Version.TheVariants.{Two}
+use Rattle.mv_operationtext.specs.declared.version.Version.TheVariants.{Two}
 use Rattle.mv_entrytext.specs.Fault.{StatesJournal, text_fault}
 use Rattle.mv_replay.specs.declared.command.JournalCommand.{JournalCommand}
 use Rattle.mv_replay.specs.declared.command.JournalCommand.TheVariants.{Replay, Convert}

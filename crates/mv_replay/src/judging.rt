@@ -3,9 +3,10 @@
 ghost use Rattle.std.specs.Prelude.{◌≡◌, ◌≤◌, ◌<◌, ◌+◌, ◌-◌, ◌^◌, ◌∷◌, ◌++◌, [], ℕ, Bool, List, Some, length};
 ghost use Rattle.std.specs.Prelude.{IfOk, OnOk, IsTrue, ◌↔◌, MatchResult};
 ghost use Rattle.mv_calls.specs.Prelude.{Entry as AnyEntry, highest_place, Setup, calls as calls_of};
-ghost use Rattle.mv_entrytext.specs.declared.version.Version.{Version as AnyVersion};
+ghost use Rattle.mv_operationtext.specs.declared.version.Version.{Version as AnyVersion};
 ghost use Rattle.mv_entrytext.specs.Fault.{AreCallsIn, HasJournal, IsTextIn};
-ghost use Rattle.mv_entrytext.specs.Journal.{first_line, number_of};
+ghost use Rattle.mv_entrytext.specs.Journal.{first_line};
+ghost use Rattle.mv_operationtext.specs.Version.{number_of};
 ghost use Rattle.mv_entrytext.specs.Lines.{with_call};
 ghost use Rattle.mv_replay.specs.declared.command.JournalCommand.{JournalCommand as AnyCommand};
 ghost use Rattle.mv_replay.specs.Course.{is_copied, IsCopied, IsCourse, IsJudged};

@@ -5,13 +5,13 @@ use Rattle.std.proofs.lemmas.List.{length-append}
 use Rattle.mv_machine.specs.declared.entry.Entry.{Entry}
 use Rattle.mv_line.specs.Line.{lines_of}
 use Rattle.mv_line.proofs.Ended.{line_first}
-use Rattle.mv_entrytext.specs.declared.version.Version.{Version}
-use Rattle.mv_entrytext.specs.EntryText.{entry_text, entry_read}
+use Rattle.mv_operationtext.specs.declared.version.Version.{Version}
+use Rattle.mv_operationtext.specs.EntryText.{entry_text, entry_read}
 use Rattle.mv_entrytext.specs.Journal.{EntryOf}
 use Rattle.mv_entrytext.specs.Lines.{AtEntries, line_read}
 use Rattle.mv_entrytext.proofs.OneLine.{is_one_line}
 use Rattle.mv_entrytext.proofs.LinesAgain.{entry_line_read}
-use Rattle.mv_entrytext.proofs.KindsTaken.{takes_entry}
+use Rattle.mv_operationtext.proofs.KindsTaken.{takes_entry}
 use Rattle.mv_entrytext.proofs.reader.entry_in_front.Goals.{In-10}
 use Rattle.mv_entrytext.proofs.reader.entry_in_front.Goals as goal
 

@@ -2,7 +2,7 @@
 use Rattle.std.proofs.Common.{List, take}
 use Rattle.std.specs.Prelude.{All}
 use Rattle.mv_machine.specs.declared.entry.Entry.{Entry}
-use Rattle.mv_entrytext.specs.EntryText.{IsTyped}
+use Rattle.mv_operationtext.specs.EntryText.{IsTyped}
 use Rattle.mv_entrytext.proofs.typed.tell_history.Given as goal
 
 abbrev pub invariant-loop-log : goal.invariant-loop-log

@@ -8,8 +8,8 @@ use Rattle.mv_machine.specs.declared.entry.Entry.{Entry}
 use Rattle.mv_calls.specs.Numbers.{calls}
 use Rattle.mv_calls.proofs.call_numbers.Judged.{judged_there, legal_there}
 use Rattle.mv_calls.proofs.call_numbers.Prefixes.{one_more}
-use Rattle.mv_entrytext.specs.declared.version.Version.TheVariants.{Two}
-use Rattle.mv_entrytext.specs.EntryText.{IsTyped}
+use Rattle.mv_operationtext.specs.declared.version.Version.TheVariants.{Two}
+use Rattle.mv_operationtext.specs.EntryText.{IsTyped}
 use Rattle.mv_entrytext.specs.Journal.{Line, End, entry_lines, head_text, line}
 use Rattle.mv_entrytext.specs.Writer.{IsWrittenTo}
 use Rattle.mv_entrytext.proofs.OnePass.{call_line_more, text_over}

@@ -3,8 +3,8 @@ use Rattle.std.proofs.Common.{take}
 use Rattle.std.specs.Prelude.{All}
 use Rattle.mv_calls.specs.Judge.{HasJudged}
 use Rattle.mv_calls.specs.Numbers.{calls}
-use Rattle.mv_entrytext.specs.declared.version.Version.TheVariants.{Two}
-use Rattle.mv_entrytext.specs.EntryText.{IsTyped}
+use Rattle.mv_operationtext.specs.declared.version.Version.TheVariants.{Two}
+use Rattle.mv_operationtext.specs.EntryText.{IsTyped}
 use Rattle.mv_entrytext.specs.Journal.{entry_lines}
 use Rattle.mv_entrytext.specs.Writer.{IsWrittenTo}
 use Rattle.mv_entrytext.proofs.writing.write_journal.Given as goal

@@ -6,8 +6,8 @@ use Rattle.std.specs.Prelude.{All}
 use Rattle.std.specs.List.{flat_map}
 use Rattle.mv_machine.specs.declared.entry.Entry.{Entry}
 use Rattle.mv_calls.proofs.call_numbers.Prefixes.{one_more}
-use Rattle.mv_entrytext.specs.declared.version.Version.TheVariants.{One}
-use Rattle.mv_entrytext.specs.EntryText.{IsTyped}
+use Rattle.mv_operationtext.specs.declared.version.Version.TheVariants.{One}
+use Rattle.mv_operationtext.specs.EntryText.{IsTyped}
 use Rattle.mv_entrytext.specs.Journal.{Line, End, entry_lines, head_text, line}
 use Rattle.mv_entrytext.specs.Writer.{IsWrittenTo}
 use Rattle.mv_entrytext.proofs.CallNumbers.{plain_more}

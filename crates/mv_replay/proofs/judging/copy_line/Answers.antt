@@ -1,5 +1,5 @@
 -- Where there is a copy, the line stands behind the others.
-use Rattle.mv_entrytext.specs.declared.version.Version.TheVariants.{Two}
+use Rattle.mv_operationtext.specs.declared.version.Version.TheVariants.{Two}
 use Rattle.mv_replay.proofs.Courses.{copied_now}
 use Rattle.mv_replay.proofs.judging.copy_line.Goals as goal
 

@@ -1,7 +1,7 @@
 -- The reader stands behind entries that have been judged so far. None of them is kept.
 use Rattle.std.proofs.Common.{ℕ, List}
 use Rattle.mv_machine.specs.declared.entry.Entry.{Entry}
-use Rattle.mv_entrytext.specs.declared.version.Version.{Version}
+use Rattle.mv_operationtext.specs.declared.version.Version.{Version}
 use Rattle.mv_entrytext.specs.Reader.{left_in, IsReadTo}
 use Rattle.mv_replay.specs.Course.{is_copied, IsCourse}
 use Rattle.mv_replay.proofs.judging.judge.Given as goal

@@ -1,7 +1,7 @@
 -- A list that is legal has a legal text in each version, which reads back, and is within the limit where the list is.
 use Rattle.std.proofs.Common.{[]}
 use Rattle.mv_calls.specs.Numbers.{calls}
-use Rattle.mv_entrytext.specs.declared.version.Version.TheVariants.{One, Two}
+use Rattle.mv_operationtext.specs.declared.version.Version.TheVariants.{One, Two}
 use Rattle.mv_replay.proofs.Converted.{right_calls, text_is_legal, is_converted}
 use Rattle.mv_replay.proofs.Lengths.{text_fits}
 use Rattle.mv_replay.proofs.laws.legal_lists_are_done.Goals as goal

@@ -2,7 +2,7 @@
 use Rattle.std.proofs.Common.{List, sym, subst}
 use Rattle.std.specs.Prelude.{All}
 use Rattle.mv_machine.specs.declared.entry.Entry.{Entry}
-use Rattle.mv_entrytext.specs.EntryText.{IsInRange}
+use Rattle.mv_operationtext.specs.EntryText.{IsInRange}
 use Rattle.mv_program.proofs.tests.journal_rows.written_again.Goals as goal
 
 pub write_old_journal-requires : goal.write_old_journal-requires

@@ -1,8 +1,8 @@
 -- A copy has its last line, and the text is a legal journal.
-use Rattle.std.proofs.Common.{◌∙◌}
-use Rattle.mv_entrytext.specs.declared.version.Version.TheVariants.{Two}
-use Rattle.mv_replay.specs.Course.{is_copied}
-use Rattle.mv_replay.proofs.Courses.{right_so, made_now, none_made, ends_right}
+use Rattle.std.proofs.Common.{ℕ, ◌∙◌, Option, subst}
+use Rattle.mv_operationtext.specs.declared.version.Version.TheVariants.{Two}
+use Rattle.mv_replay.specs.Course.{IsCourse, is_copied}
+use Rattle.mv_replay.proofs.Courses.{right_so, made_now, none_made, ends_right, ends_wrong}
 use Rattle.mv_replay.proofs.judging.Course.end.Goals as goal
 
 pub returns-in_ok-text-in-Some-copy : goal.returns-in_ok-text-in-Some-copy
@@ -23,3 +23,9 @@ returns-in-None c = λ command v bytes setup es ns h journal text number config.
     let right = right_so v copied setup es ns x.wrong x.judge x.copy c.in_default.is h in
     ends_right command v bytes setup es ns _ x.copy right journal text number config
     (none_made copied setup es x.copy c.in-None.is right.copy_is)
+
+pub returns-in-Some : goal.returns-in-Some
+returns-in-Some c = λ command v bytes setup es ns h journal text number config.
+    let x = c.args.self in
+    ends_wrong v bytes setup es ns c.in-Some.line journal text
+    (subst (λ (o : Option ℕ). IsCourse v (is_copied command v) setup es ns o x.judge x.copy) c.in-Some.is h)

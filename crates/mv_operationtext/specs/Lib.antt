@@ -1,0 +1,10 @@
+pub mod Ranges
+pub mod Words
+pub mod Widths
+pub mod Version
+pub mod Reading
+pub mod EcbText
+pub mod ElementText
+pub mod VolumeText
+pub mod LatchText
+pub mod EntryText
