@@ -25,7 +25,7 @@ use Rattle.mv_machine.specs.declared.entry.Reply.TheVariants as reply_of
 use Rattle.mv_machine.specs.Elements.{ElementEvent, as_element_event, element_events, accepted_code, releases, given_code, only_if}
 use Rattle.mv_machine.specs.Elements.{IsOrderlyElement}
 use Rattle.mv_machine.specs.Legal.{IsNext, LegalFrom, Legal, next, of}
-use Rattle.mv_machine.specs.Setup.{Setup}
+use Rattle.mv_config.specs.Setup.{Setup}
 use Rattle.mv_machine.specs.System.{System, opening}
 use Rattle.mv_machine.proofs.EntryRuns.{entry_of}
 use Rattle.mv_machine.proofs.Lists.{all_at, all_filter, all_front}

@@ -2,10 +2,10 @@
 use Rattle.std.proofs.Common.{◌≡◌, ℕ, ◌<◌, ◌≤◌, true, List, [], ◌∷◌, length, sum, refl, arith}
 use Rattle.std.proofs.lemmas.Bool.{eq-eqb, le-leb}
 use Rattle.std.specs.List.{AllByRecursion}
-use Rattle.mv_machine.specs.Check.{IsValid, keeps}
-use Rattle.mv_machine.specs.Limits.{callers_limit, ecbs_limit, events_limit}
-use Rattle.mv_machine.specs.declared.config.ConfigLimit.TheVariants.{Callers, Budgets, Ecbs, Exits, Targets}
-use Rattle.mv_machine.proofs.Validity.{nothing_refuses}
+use Rattle.mv_config.specs.Check.{IsValid, keeps}
+use Rattle.mv_config.specs.Limits.{callers_limit, ecbs_limit, events_limit}
+use Rattle.mv_config.specs.declared.config.ConfigLimit.TheVariants.{Callers, Budgets, Ecbs, Exits, Targets}
+use Rattle.mv_config.proofs.Validity.{nothing_refuses}
 use Rattle.mv_attach.specs.Blocks.{blocks_setup}
 
 -- there are callers, and no more than there may be

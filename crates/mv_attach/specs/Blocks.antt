@@ -1,6 +1,6 @@
 -- The configurations of programs that need event control blocks only.
 use Rattle.std.specs.Prelude.{ℕ, List, [], length}
-use Rattle.mv_machine.specs.Setup.{Setup}
+use Rattle.mv_config.specs.Setup.{Setup}
 
 -- a configuration with a caller for each budget and a block for each owner, and with the least that is allowed of all else
 abbrev pub blocks_setup : List ℕ → List ℕ → Setup

@@ -3,7 +3,7 @@
 
 ghost use Rattle.std.specs.Prelude.{◌≡◌, ◌<◌, ◌≤◌, length, sum, IfOk};
 ghost use Rattle.std.specs.List.{AllByRecursion};
-ghost use Rattle.mv_machine.specs.Limits.{callers_limit, ecbs_limit, events_limit};
+ghost use Rattle.mv_config.specs.Limits.{callers_limit, ecbs_limit, events_limit};
 ghost use Rattle.mv_attach.specs.Blocks.{blocks_setup};
 
 use mv_io::NoMemory;
@@ -50,5 +50,5 @@ pub fn config_of_blocks(
         owners: owners.to_vec(alloc)?,
         exits: Vec::new(alloc),
     };
-    ValidConfig::of(alloc, config)
+    Ok(ValidConfig::of(alloc, config)?)
 }

@@ -15,7 +15,7 @@ use Rattle.mv_machine.specs.declared.entry.Reply.TheVariants as reply_of
 use Rattle.mv_machine.specs.declared.packing.WordState.{WordState}
 use Rattle.mv_machine.specs.declared.packing.WordState.TheVariants as state
 use Rattle.mv_machine.specs.Packing.{reply_in}
-use Rattle.mv_machine.specs.Setup.{Setup}
+use Rattle.mv_config.specs.Setup.{Setup}
 use Rattle.mv_board.specs.declared.view.View.{View}
 use Rattle.mv_board.specs.declared.watch.Watch.TheVariants as watch
 use Rattle.mv_board.specs.Faces.{CallerFace, IsAsListed, is_given, is_complete_reply}

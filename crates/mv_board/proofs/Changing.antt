@@ -17,9 +17,9 @@ use Rattle.mv_machine.specs.declared.packing.WordState.{WordState}
 use Rattle.mv_machine.specs.declared.packing.WordState.TheVariants as state
 use Rattle.mv_machine.specs.Elements.{extra, only_if}
 use Rattle.mv_machine.specs.Kept.{allowed}
-use Rattle.mv_machine.specs.Limits.{events_limit}
+use Rattle.mv_config.specs.Limits.{events_limit}
 use Rattle.mv_machine.specs.Packing.{HasFields, HasOpFields, unpack, state_step, reply_in}
-use Rattle.mv_machine.specs.Setup.{Setup}
+use Rattle.mv_config.specs.Setup.{Setup}
 use Rattle.mv_machine.specs.System.{opening}
 use Rattle.mv_machine.proofs.ElementRuns.{fits_next}
 use Rattle.mv_machine.proofs.WordSteps.{fields_admitted}

@@ -12,7 +12,7 @@ use Rattle.mv_machine.specs.Legal.{Legal, after, of}
 use Rattle.mv_machine.specs.Merge.{merged, AreOneHistory}
 use Rattle.mv_machine.specs.Packing.{word_at}
 use Rattle.mv_machine.specs.Parts.{KeepsBudgets, parts_from, parts}
-use Rattle.mv_machine.specs.Setup.{Setup}
+use Rattle.mv_config.specs.Setup.{Setup}
 use Rattle.mv_machine.proofs.Words.{numbers_after}
 use Rattle.mv_board.specs.declared.item.Item.{Item}
 use Rattle.mv_board.specs.declared.view.Part.{Part}

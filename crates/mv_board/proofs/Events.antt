@@ -20,13 +20,13 @@ use Rattle.mv_machine.specs.declared.entry.Reply.TheVariants as reply_of
 use Rattle.mv_machine.specs.declared.entry.VolumeOp.TheVariants.{Read}
 use Rattle.mv_machine.specs.declared.packing.WordState.{WordState}
 use Rattle.mv_machine.specs.declared.packing.WordState.TheVariants as state
-use Rattle.mv_machine.specs.Check.{IsValid}
-use Rattle.mv_machine.specs.Limits.{events_limit}
+use Rattle.mv_config.specs.Check.{IsValid}
+use Rattle.mv_config.specs.Limits.{events_limit}
 use Rattle.mv_machine.specs.Legal.{IsNext, Legal, after, next, of, «at»}
 use Rattle.mv_machine.specs.Owned.{owner_at, is_owners, is_clear, HasNo, IsGranted, IsGone}
 use Rattle.mv_machine.specs.Packing.{pack, unpack, state_at, word_at, state_step, state_after, reply_in}
 use Rattle.mv_machine.specs.Parts.{KeepsBudgets}
-use Rattle.mv_machine.specs.Setup.{Setup, owner_of, element_owner}
+use Rattle.mv_config.specs.Setup.{Setup, owner_of, element_owner}
 use Rattle.mv_machine.specs.System.{System, admitted, opening, place_of, volume_step}
 use Rattle.mv_machine.specs.Told.{told, told_at}
 use Rattle.mv_machine.proofs.Longer.{legal_longer, told_from-append, told_other, told_nothing_from}

@@ -11,7 +11,7 @@ use Rattle.mv_latch.specs.declared.request.Request.{Request}
 use Rattle.mv_latch.proofs.Joined.{both_empty}
 use Rattle.mv_machine.specs.declared.entry.Entry.{Entry}
 use Rattle.mv_machine.specs.Legal.{after}
-use Rattle.mv_machine.specs.Setup.{Setup}
+use Rattle.mv_config.specs.Setup.{Setup}
 use Rattle.mv_machine.specs.System.{Cell}
 use Rattle.mv_machine.proofs.Lists.{all_append}
 use Rattle.mv_board.specs.declared.view.Part.{Part}

@@ -13,15 +13,15 @@ use Rattle.mv_machine.specs.declared.entry.Entry.{Entry}
 use Rattle.mv_machine.specs.declared.entry.Object.{Object}
 use Rattle.mv_machine.specs.declared.entry.Op.{Op}
 use Rattle.mv_machine.specs.declared.entry.Reply.{Reply}
-use Rattle.mv_machine.specs.Check.{IsValid}
+use Rattle.mv_config.specs.Check.{IsValid}
 use Rattle.mv_machine.specs.Kept.{allowed}
-use Rattle.mv_machine.specs.Limits.{events_limit}
+use Rattle.mv_config.specs.Limits.{events_limit}
 use Rattle.mv_machine.specs.Legal.{after, of}
 use Rattle.mv_machine.specs.Packing.{pack, unpack, state_at}
-use Rattle.mv_machine.specs.Setup.{Setup}
+use Rattle.mv_config.specs.Setup.{Setup}
 use Rattle.mv_machine.specs.System.{System, admitted, opening, place_of}
 use Rattle.mv_machine.proofs.Allowed.{allowed_is_admitted}
-use Rattle.mv_machine.proofs.Validity.{callers_kept}
+use Rattle.mv_config.proofs.Validity.{callers_kept}
 use Rattle.mv_board.specs.declared.item.Item.{Item}
 use Rattle.mv_board.specs.declared.item.Item.TheVariants.{Held, Said}
 use Rattle.mv_board.specs.declared.item.Lists.{Lists}

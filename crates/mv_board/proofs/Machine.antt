@@ -8,14 +8,14 @@ use Rattle.mv_machine.specs.declared.entry.Object.{Object}
 use Rattle.mv_machine.specs.declared.entry.Object.TheVariants.{Ecb, Element, Volume, Latches}
 use Rattle.mv_machine.specs.declared.packing.WordState.{WordState}
 use Rattle.mv_machine.specs.declared.packing.WordState.TheVariants as state
-use Rattle.mv_machine.specs.Check.{IsValid, first_limit}
+use Rattle.mv_config.specs.Check.{IsValid, first_limit}
 use Rattle.mv_machine.specs.Elements.{FitsItsPlace}
 use Rattle.mv_machine.specs.Legal.{Legal, SameAt, after}
 use Rattle.mv_machine.specs.Packing.{pack, unpack, state_in, state_at, word_at}
-use Rattle.mv_machine.specs.Setup.{Setup, element_count}
+use Rattle.mv_config.specs.Setup.{Setup, element_count}
 use Rattle.mv_machine.specs.System.{System, place_of}
 use Rattle.mv_machine.proofs.ElementRuns.{generation_fits}
-use Rattle.mv_machine.proofs.Validity.{no_bad_limit, callers_kept, elements_kept}
+use Rattle.mv_config.proofs.Validity.{no_bad_limit, callers_kept, elements_kept}
 use Rattle.mv_board.specs.Words.{HasWord, word_number, word_count, turn_word, object_of, fits}
 
 -- ---- which word is which object's

@@ -17,7 +17,7 @@ use Rattle.mv_machine.specs.declared.entry.Reply.{Reply}
 use Rattle.mv_machine.specs.Legal.{IsNext, Legal, after, next}
 use Rattle.mv_machine.specs.Packing.{word_at}
 use Rattle.mv_machine.specs.Parts.{Had}
-use Rattle.mv_machine.specs.Setup.{Setup}
+use Rattle.mv_config.specs.Setup.{Setup}
 use Rattle.mv_machine.specs.System.{System, Cell, admitted, place_of}
 use Rattle.mv_machine.specs.Told.{told}
 use Rattle.mv_machine.proofs.Longer.{legal_longer, after_longer, had_longer, had_now}

@@ -7,7 +7,7 @@ use Rattle.mv_latch.specs.LatchSet.{list_of}
 use Rattle.mv_machine.specs.declared.entry.Object.{Object}
 use Rattle.mv_machine.specs.declared.entry.Object.TheVariants.{Ecb, Element, Volume, Latches}
 use Rattle.mv_machine.specs.Owned.{owner_at}
-use Rattle.mv_machine.specs.Setup.{Setup}
+use Rattle.mv_config.specs.Setup.{Setup}
 use Rattle.mv_board.specs.declared.caller.Caller.TheInside.{Inside}
 use Rattle.mv_board.specs.declared.item.Lists.{Lists}
 use Rattle.mv_board.specs.declared.view.View.{View}

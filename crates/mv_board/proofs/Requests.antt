@@ -23,7 +23,7 @@ use Rattle.mv_machine.specs.declared.entry.Reply.{Reply}
 use Rattle.mv_machine.specs.declared.entry.Reply.TheVariants as reply_of
 use Rattle.mv_machine.specs.Legal.{IsNext, LegalFrom, Legal, after, after_from, next, of}
 use Rattle.mv_machine.specs.Owned.{IsGranted, IsGone}
-use Rattle.mv_machine.specs.Setup.{Setup}
+use Rattle.mv_config.specs.Setup.{Setup}
 use Rattle.mv_machine.specs.System.{System, opening, place_of, moved}
 use Rattle.mv_machine.proofs.Allowed.{lists_next}
 use Rattle.mv_machine.proofs.EntryRuns.{entry_of}

@@ -14,12 +14,12 @@ use Rattle.mv_machine.specs.declared.entry.Entry.{Entry}
 use Rattle.mv_machine.specs.declared.entry.Object.{Object}
 use Rattle.mv_machine.specs.declared.entry.Object.TheVariants.{Element}
 use Rattle.mv_machine.specs.declared.packing.WordState.{WordState}
-use Rattle.mv_machine.specs.Limits.{events_limit}
+use Rattle.mv_config.specs.Limits.{events_limit}
 use Rattle.mv_machine.specs.Legal.{Legal, after, of}
 use Rattle.mv_machine.specs.Merge.{merged}
 use Rattle.mv_machine.specs.Packing.{unpack, state_at, word_at}
 use Rattle.mv_machine.specs.Parts.{IsBelow, IsPossible, parts}
-use Rattle.mv_machine.specs.Setup.{Setup}
+use Rattle.mv_config.specs.Setup.{Setup}
 use Rattle.mv_machine.specs.System.{System, Cell, place_of}
 use Rattle.mv_machine.proofs.Lists.{all_map, all_filter}
 use Rattle.mv_machine.proofs.Longer.{below_after}

@@ -27,7 +27,7 @@ use Rattle.mv_machine.specs.Legal.{after, next, of}
 use Rattle.mv_machine.specs.Owned.{owner_at}
 use Rattle.mv_machine.specs.Packing.{unpack}
 use Rattle.mv_machine.specs.Parts.{IsBelow}
-use Rattle.mv_machine.specs.Setup.{Setup}
+use Rattle.mv_config.specs.Setup.{Setup}
 use Rattle.mv_machine.specs.System.{admitted, latches_of, place_of}
 use Rattle.mv_machine.proofs.Allowed.{allowed_is_admitted, lists_stay}
 use Rattle.mv_machine.proofs.LatchNumbers.{numbers_ahead_are_new}

@@ -1,6 +1,6 @@
 -- What contracts see of a board, and its invariant.
 use Rattle.std.specs.Prelude.{◌≡◌, ◌≤◌, [], vec_capacity}
-use Rattle.mv_machine.specs.Check.{IsValid}
+use Rattle.mv_config.specs.Check.{IsValid}
 use Rattle.mv_machine.specs.Room.{IsRoomFor}
 use Rattle.mv_board.specs.declared.board.Board.TheInside.{Inside}
 use Rattle.mv_board.specs.Faces.{BoardFace}

@@ -1,8 +1,8 @@
 -- What contracts see of a caller, and its invariant.
 use Rattle.std.specs.Prelude.{◌≡◌, ◌*◌, ◌<◌, ◌≤◌, [], ◌∷◌, vec_capacity}
 use Rattle.std.specs.List.{AllByRecursion}
-use Rattle.mv_machine.specs.Limits.{events_limit}
-use Rattle.mv_machine.specs.Setup.{Setup}
+use Rattle.mv_config.specs.Limits.{events_limit}
+use Rattle.mv_config.specs.Setup.{Setup}
 use Rattle.mv_board.specs.declared.caller.Caller.TheInside.{Inside}
 use Rattle.mv_board.specs.Faces.{CallerFace, last_of, part_of}
 use Rattle.mv_board.specs.View.{own}

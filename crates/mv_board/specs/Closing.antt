@@ -2,7 +2,7 @@
 use Rattle.std.specs.Prelude.{◌≡◌, ◌≤◌, List, [], map, vec_capacity, Option, Some, None}
 use Rattle.atomic_table.specs.declared.shared.Seat.{Seat}
 use Rattle.atomic_table.specs.Seated.{TableId}
-use Rattle.mv_machine.specs.Check.{IsValid}
+use Rattle.mv_config.specs.Check.{IsValid}
 use Rattle.mv_machine.specs.Room.{IsRoomFor}
 use Rattle.mv_board.specs.declared.closing.Closing.TheInside.{Inside}
 use Rattle.mv_board.specs.declared.item.Item.{Item}

@@ -23,7 +23,7 @@ use Rattle.mv_machine.specs.declared.packing.WordState.{WordState}
 use Rattle.mv_machine.specs.Packing.{unpack, reply_in}
 use Rattle.mv_machine.specs.Legal.{of}
 use Rattle.mv_machine.specs.Parts.{IsBelow, Had}
-use Rattle.mv_machine.specs.Setup.{Setup, owner_of, element_owner, element_count}
+use Rattle.mv_config.specs.Setup.{Setup, owner_of, element_owner, element_count}
 use Rattle.mv_machine.specs.System.{System}
 use Rattle.mv_machine.specs.Told.{told}
 use Rattle.mv_board.specs.declared.caller.Moved.{Moved}

@@ -12,14 +12,14 @@ use Rattle.mv_element.specs.Element.{is_released}
 use Rattle.mv_latch.specs.declared.request.Request.{Request}
 use Rattle.mv_machine.specs.declared.entry.Entry.{Entry}
 use Rattle.mv_machine.specs.declared.entry.Object.{Object}
-use Rattle.mv_machine.specs.Check.{IsValid}
+use Rattle.mv_config.specs.Check.{IsValid}
 use Rattle.mv_machine.specs.Kept.{HasMade}
 use Rattle.mv_machine.specs.Legal.{Legal, after, of}
 use Rattle.mv_machine.specs.Merge.{merged}
 use Rattle.mv_machine.specs.Owned.{IsGranted, IsGone}
 use Rattle.mv_machine.specs.Packing.{word_at}
 use Rattle.mv_machine.specs.Parts.{Had}
-use Rattle.mv_machine.specs.Setup.{Setup, owner_of, element_owner, element_count}
+use Rattle.mv_config.specs.Setup.{Setup, owner_of, element_owner, element_count}
 use Rattle.mv_machine.specs.System.{Cell, latches_of}
 use Rattle.mv_machine.specs.Told.{told}
 use Rattle.mv_board.specs.declared.item.Item.{Item}

@@ -15,7 +15,7 @@ use Rattle.mv_machine.specs.declared.entry.Reply.{Reply}
 use Rattle.mv_machine.specs.declared.entry.VolumeOp.TheVariants.{Read}
 use Rattle.mv_machine.specs.declared.packing.WordState.{WordState}
 use Rattle.mv_machine.specs.declared.packing.WordState.TheVariants as state_of
-use Rattle.mv_machine.specs.Limits.{events_limit}
+use Rattle.mv_config.specs.Limits.{events_limit}
 use Rattle.mv_machine.specs.Packing.{unpack}
 use Rattle.mv_machine.specs.Parts.{IsBelow, IsPossible}
 use Rattle.mv_board.specs.declared.item.Item.{Item}

@@ -12,9 +12,10 @@ use Rattle.mv_machine.specs.declared.packing.WordState.TheVariants as state
 use Rattle.mv_ecb.specs.declared.operation.EcbOp.TheVariants as ecb_op
 use Rattle.mv_element.specs.declared.operation.ElementOp.TheVariants as element_op
 use Rattle.mv_machine.specs.Elements.{extra}
-use Rattle.mv_machine.specs.Limits.{volumes_limit, events_limit}
+use Rattle.mv_config.specs.Limits.{volumes_limit, events_limit}
 use Rattle.mv_machine.specs.Packing.{pack, unpack, state_step}
-use Rattle.mv_machine.specs.Setup.{Setup, IsObjectOf}
+use Rattle.mv_config.specs.Setup.{Setup}
+use Rattle.mv_machine.specs.Objects.{IsObjectOf}
 
 -- ---- the words in order: volumes, elements of all callers, the turn of the latch set, event control blocks
 

@@ -23,7 +23,7 @@ use crossbeam_utils::Backoff;
 use mv_ecb::EcbOp;
 use mv_element::ElementOp;
 use mv_io::NoMemory;
-use mv_machine::{Log, MergeRoom, Object, Op, OpenLog, Reply, ValidConfig};
+use mv_machine::{Log, MergeRoom, Object, Op, OpenLog, Reply, ValidConfig, open_latches};
 use std::alloc::Global;
 use std::marker::Model;
 use std::sync::Wait;
@@ -404,7 +404,7 @@ fn lists_of(alloc: Global, config: &ValidConfig) -> Result<Lists, NoMemory>
 {
     Ok(Lists {
         place: 0,
-        latches: config.open_latches(alloc)?,
+        latches: open_latches(alloc, config)?,
     })
 }
 

@@ -67,7 +67,7 @@ fn configuration(alloc: Global, pairs: u32, reads: u32) -> Result<ValidConfig, N
         owners: Vec::new(alloc),
         exits: Vec::new(alloc),
     };
-    ValidConfig::of(alloc, config)
+    Ok(ValidConfig::of(alloc, config)?)
 }
 
 // Writes the pair of this number, under the latch alone.

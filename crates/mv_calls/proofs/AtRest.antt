@@ -8,7 +8,7 @@ use Rattle.mv_element.specs.declared.operation.ElementReply.TheVariants as eleme
 use Rattle.mv_element.specs.Table.{element_step}
 use Rattle.mv_machine.specs.declared.entry.Entry.{Entry}
 use Rattle.mv_machine.specs.Legal.{Legal, after, of}
-use Rattle.mv_machine.specs.Setup.{Setup, owner_of, element_owner}
+use Rattle.mv_config.specs.Setup.{Setup, owner_of, element_owner}
 use Rattle.mv_calls.specs.Keeping.{kept_of}
 use Rattle.mv_calls.specs.Known.{BlockAgrees, ElementAgrees, IsExtendedOrComplete, IsPlain, IsPauseReply, IsResumeReply, IsNotBusy}
 use Rattle.mv_calls.specs.Known.{IsUnpaused}

@@ -6,7 +6,7 @@ use Rattle.mv_latch.specs.declared.operation.Wake.{Wake}
 use Rattle.mv_machine.specs.declared.entry.Entry.{Entry}
 use Rattle.mv_machine.specs.Legal.{Legal, after, next, of}
 use Rattle.mv_machine.specs.Parts.{IsPossible, KeepsBudgets}
-use Rattle.mv_machine.specs.Setup.{Setup}
+use Rattle.mv_config.specs.Setup.{Setup}
 use Rattle.mv_machine.specs.System.{opening}
 use Rattle.mv_machine.specs.Told.{told, told_at}
 use Rattle.mv_machine.proofs.Histories.{LegalFrom-front, LegalFrom-rest}

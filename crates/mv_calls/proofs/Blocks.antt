@@ -15,7 +15,7 @@ use Rattle.mv_machine.specs.declared.entry.Op.TheVariants as op_on
 use Rattle.mv_machine.specs.declared.entry.Reply.{Reply}
 use Rattle.mv_machine.specs.declared.entry.Reply.TheVariants as reply_of
 use Rattle.mv_machine.specs.Legal.{IsNext, Legal, next, after, of}
-use Rattle.mv_machine.specs.Setup.{Setup, owner_of}
+use Rattle.mv_config.specs.Setup.{Setup, owner_of}
 use Rattle.mv_machine.specs.System.{System, advanced, moved, ecb_admitted}
 use Rattle.mv_machine.proofs.EntryRuns.{entry_of}
 use Rattle.mv_calls.specs.Keeping.{Kept, kept_after, kept_of, extended_with}

@@ -18,7 +18,7 @@ use Rattle.mv_machine.specs.Legal.{IsNext, Legal, after}
 use Rattle.mv_machine.specs.Packing.{IsBlock}
 use Rattle.mv_machine.specs.Parts.{IsPossible}
 use Rattle.mv_machine.specs.Replies.{NamesLowCode}
-use Rattle.mv_machine.specs.Setup.{Setup}
+use Rattle.mv_config.specs.Setup.{Setup}
 use Rattle.mv_machine.specs.System.{System, opening, volume_step}
 use Rattle.mv_machine.proofs.EntryRuns.{entry_of}
 use Rattle.mv_machine.proofs.Histories.{LegalFrom-front, LegalFrom-rest}

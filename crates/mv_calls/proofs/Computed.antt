@@ -17,7 +17,7 @@ use Rattle.mv_machine.specs.declared.entry.Reply.TheVariants as reply_of
 use Rattle.mv_machine.specs.declared.entry.VolumeOp.{VolumeOp}
 use Rattle.mv_machine.specs.declared.entry.VolumeReply.{VolumeReply}
 use Rattle.mv_machine.specs.Legal.{LegalFrom, Legal, next}
-use Rattle.mv_machine.specs.Setup.{Setup, SetupExit}
+use Rattle.mv_config.specs.Setup.{Setup, SetupExit}
 use Rattle.mv_machine.specs.System.{System, opening, admitted, place_of, reply_to}
 use Rattle.mv_calls.specs.Keeping.{Kept, nothing_kept, kept_from}
 use Rattle.mv_calls.specs.Program.{Program, Done, Heard, asks, heard, left, Says, IsDoneOn, entries}

@@ -16,7 +16,7 @@ use Rattle.mv_machine.specs.declared.entry.Op.TheVariants as op_on
 use Rattle.mv_machine.specs.declared.entry.Reply.{Reply}
 use Rattle.mv_machine.specs.declared.entry.Reply.TheVariants as reply_of
 use Rattle.mv_machine.specs.Parts.{IsPossible}
-use Rattle.mv_machine.specs.Setup.{Setup, SetupExit, owner_of, is_exit_of, starts_from, is_on, is_on_exit}
+use Rattle.mv_config.specs.Setup.{Setup, SetupExit, owner_of, is_exit_of, starts_from, is_on, is_on_exit}
 use Rattle.mv_machine.specs.System.{System, admitted}
 use Rattle.mv_calls.specs.Exits.{StartsExit}
 use Rattle.mv_calls.specs.Keeping.{kept_of, extended_with}

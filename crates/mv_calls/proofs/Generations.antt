@@ -13,7 +13,7 @@ use Rattle.mv_machine.specs.declared.entry.Op.TheVariants as op_on
 use Rattle.mv_machine.specs.declared.entry.Reply.{Reply}
 use Rattle.mv_machine.specs.declared.entry.Reply.TheVariants as reply_of
 use Rattle.mv_machine.specs.Legal.{IsNext, Legal, after}
-use Rattle.mv_machine.specs.Setup.{Setup}
+use Rattle.mv_config.specs.Setup.{Setup}
 use Rattle.mv_machine.specs.System.{System, moved, advanced, opening}
 use Rattle.mv_machine.proofs.Budgets.{no_high_generation}
 use Rattle.mv_machine.proofs.EntryRuns.{entry_of}

@@ -20,7 +20,7 @@ use Rattle.mv_machine.specs.declared.entry.Reply.TheVariants as reply_of
 use Rattle.mv_machine.specs.Kept.{StandingRequest, standing}
 use Rattle.mv_machine.specs.Legal.{IsNext, next, Legal, after, of}
 use Rattle.mv_machine.specs.Owned.{IsGranted, IsGone}
-use Rattle.mv_machine.specs.Setup.{Setup}
+use Rattle.mv_config.specs.Setup.{Setup}
 use Rattle.mv_machine.specs.System.{System, opening, moved}
 use Rattle.mv_machine.proofs.GrantRuns.{gone_stays, granted_or_gone}
 use Rattle.mv_machine.proofs.Histories.{LegalFrom-front}

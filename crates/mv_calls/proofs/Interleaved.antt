@@ -9,7 +9,7 @@ use Rattle.mv_machine.specs.declared.entry.Object.TheVariants.{Ecb, Element, Vol
 use Rattle.mv_machine.specs.declared.entry.Op.{Op}
 use Rattle.mv_machine.specs.declared.entry.Op.TheVariants as op_on
 use Rattle.mv_machine.specs.Legal.{Legal, IsNext, next, LegalFrom}
-use Rattle.mv_machine.specs.Setup.{Setup}
+use Rattle.mv_config.specs.Setup.{Setup}
 use Rattle.mv_machine.specs.System.{System, opening, admitted, with_at}
 use Rattle.mv_machine.proofs.Histories.{with_at-same, with_at-other}
 use Rattle.mv_calls.specs.Program.{Program, Heard, asks, heard, left, Says, IsDoneOn}

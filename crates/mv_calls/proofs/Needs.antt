@@ -20,8 +20,8 @@ use Rattle.mv_latch.specs.declared.request.Mode.TheVariants.{Exclusive}
 use Rattle.mv_calls.specs.Exits.{NameOwnExits, HaveFairWakes}
 use Rattle.mv_machine.specs.Legal.{after}
 use Rattle.mv_machine.specs.Parts.{IsPossible}
-use Rattle.mv_machine.specs.Reach.{reach, release_cost, total}
-use Rattle.mv_machine.specs.Setup.{Setup, is_on_exit}
+use Rattle.mv_config.specs.Reach.{reach, release_cost, total}
+use Rattle.mv_config.specs.Setup.{Setup, is_on_exit}
 use Rattle.mv_machine.specs.System.{System}
 use Rattle.mv_machine.specs.Told.{told, told_at}
 use Rattle.mv_machine.specs.Waking.{AreFairWakes, blocks_of}

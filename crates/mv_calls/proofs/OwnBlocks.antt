@@ -11,7 +11,7 @@ use Rattle.mv_machine.specs.declared.entry.Object.TheVariants.{Ecb}
 use Rattle.mv_machine.specs.declared.entry.Op.TheVariants as op_on
 use Rattle.mv_machine.specs.Legal.{IsNext, Legal, after, of}
 use Rattle.mv_machine.specs.Owned.{owner_at, is_owners}
-use Rattle.mv_machine.specs.Setup.{Setup, owner_of}
+use Rattle.mv_config.specs.Setup.{Setup, owner_of}
 use Rattle.mv_machine.proofs.Owners.{made_by_owner}
 use Rattle.mv_calls.specs.Keeping.{kept_of}
 use Rattle.mv_calls.specs.Known.{BlockAgrees, IsArmReply, IsSettleReply}

@@ -18,12 +18,12 @@ use Rattle.mv_machine.specs.declared.entry.Op.TheVariants as op_on
 use Rattle.mv_machine.specs.declared.entry.Reply.{Reply}
 use Rattle.mv_machine.specs.declared.entry.Reply.TheVariants as reply_of
 use Rattle.mv_machine.specs.Legal.{IsNext, Legal, after}
-use Rattle.mv_machine.specs.Check.{IsValid}
-use Rattle.mv_machine.specs.Reach.{exits_of, greatest, total, reach, reach_within}
-use Rattle.mv_machine.specs.Setup.{Setup, SetupExit, owner_of, is_exit_of, starts_from, targets_at, targets_of}
+use Rattle.mv_config.specs.Check.{IsValid}
+use Rattle.mv_config.specs.Reach.{exits_of, greatest, total, reach, reach_within}
+use Rattle.mv_config.specs.Setup.{Setup, SetupExit, owner_of, is_exit_of, starts_from, targets_at, targets_of}
 use Rattle.mv_machine.proofs.Lists.{all_front, all_back}
 use Rattle.mv_machine.proofs.EntryRuns.{entry_of}
-use Rattle.mv_machine.proofs.Reaches.{all_lead_up, reach_is}
+use Rattle.mv_config.proofs.Reaches.{all_lead_up, reach_is}
 use Rattle.mv_calls.specs.declared.outcomes.PostAnswer.{PostAnswer}
 use Rattle.mv_calls.specs.declared.outcomes.PostAnswer.TheVariants as answer
 use Rattle.mv_calls.specs.Exits.{NamesOwnExit}

@@ -28,7 +28,7 @@ use Rattle.mv_machine.specs.declared.entry.Reply.TheVariants as reply_of
 use Rattle.mv_machine.specs.Kept.{StandingRequest, is_named, is_for, stands_after, stands_with, standing}
 use Rattle.mv_machine.specs.Legal.{IsNext, next, Legal, after, of}
 use Rattle.mv_machine.specs.Owned.{IsGranted}
-use Rattle.mv_machine.specs.Setup.{Setup}
+use Rattle.mv_config.specs.Setup.{Setup}
 use Rattle.mv_machine.specs.System.{System, moved, with_at}
 use Rattle.mv_calls.proofs.Making.{waits_from-append}
 use Rattle.mv_machine.proofs.Lists.{all_front, all_back}

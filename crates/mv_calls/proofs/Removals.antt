@@ -27,7 +27,7 @@ use Rattle.mv_machine.specs.declared.entry.Reply.{Reply}
 use Rattle.mv_machine.specs.declared.entry.Reply.TheVariants as reply_of
 use Rattle.mv_machine.specs.Kept.{StandingRequest, is_named, is_for, less, stands_after, stands_with, standing_from, standing}
 use Rattle.mv_machine.specs.Legal.{IsNext, next, Legal, after, of}
-use Rattle.mv_machine.specs.Setup.{Setup}
+use Rattle.mv_config.specs.Setup.{Setup}
 use Rattle.mv_machine.specs.System.{System, moved}
 use Rattle.mv_machine.proofs.Lists.{all_push, all_filter}
 use Rattle.mv_machine.proofs.EntryRuns.{entry_of}

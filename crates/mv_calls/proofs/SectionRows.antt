@@ -11,7 +11,7 @@ use Rattle.mv_machine.specs.declared.entry.VolumeOp.TheVariants as volume_op
 use Rattle.mv_machine.specs.declared.entry.VolumeReply.TheVariants as volume_reply
 use Rattle.mv_machine.specs.Kept.{StandingRequest}
 use Rattle.mv_machine.specs.Legal.{Legal}
-use Rattle.mv_machine.specs.Setup.{Setup}
+use Rattle.mv_config.specs.Setup.{Setup}
 use Rattle.mv_calls.specs.Sections.{IsHolder, IsSection, IsGuarded, any_event}
 use Rattle.mv_calls.proofs.Computed.{legal_by, two_tasks, at_volume, at_latches}
 use Rattle.mv_calls.proofs.Sections.{not_purged}

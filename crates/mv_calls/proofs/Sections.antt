@@ -31,7 +31,7 @@ use Rattle.mv_machine.specs.Kept.{StandingRequest, standing}
 use Rattle.mv_machine.specs.Leaving.{takes_out, NoneTakesOut, WasPurged}
 use Rattle.mv_machine.specs.Legal.{IsNext, LegalFrom, next, Legal, after, after_from, of}
 use Rattle.mv_machine.specs.Owned.{IsGranted}
-use Rattle.mv_machine.specs.Setup.{Setup}
+use Rattle.mv_config.specs.Setup.{Setup}
 use Rattle.mv_machine.specs.System.{System, opening, moved}
 use Rattle.mv_machine.proofs.EntryRuns.{entry_of, rest_is_legal}
 use Rattle.mv_machine.proofs.Grants.{in_granted, granted_next, granted_stays, stays_next}

@@ -6,10 +6,10 @@ use Rattle.std.proofs.lemmas.Bool.{eqb-true}
 use Rattle.std.specs.List.{list_any, range_with_len}
 use Rattle.std.specs.Option.{option_or}
 use Rattle.std.specs.Prelude.{is_some}
-use Rattle.mv_machine.specs.Check.{is_within}
-use Rattle.mv_machine.specs.Reach.{reach, reach_within, exits_of, greatest, total, cut}
-use Rattle.mv_machine.specs.Setup.{Setup, SetupExit, owner_of, is_on, is_on_exit}
-use Rattle.mv_machine.proofs.Validity.{some_found, or_found}
+use Rattle.mv_config.specs.Check.{is_within}
+use Rattle.mv_config.specs.Reach.{reach, reach_within, exits_of, greatest, total, cut}
+use Rattle.mv_config.specs.Setup.{Setup, SetupExit, owner_of, is_on, is_on_exit}
+use Rattle.mv_config.proofs.Validity.{some_found, or_found}
 use Rattle.mv_calls.specs.declared.table.Table.{Table}
 use Rattle.mv_calls.specs.declared.table.TableRefusal.{TableRefusal}
 use Rattle.mv_calls.specs.declared.table.TableRefusal.TheVariants.{BadSize, BadRange, NotOwner, BadLatch, BadVolume, HasExit}

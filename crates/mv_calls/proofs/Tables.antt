@@ -3,10 +3,10 @@ use Rattle.std.proofs.Common.{◌≡◌, ℕ, ◌≤◌, Bool, ◌++◌, length,
 use Rattle.std.proofs.lemmas.List.Folds.{find-append}
 use Rattle.std.specs.List.{range_with_len}
 use Rattle.std.specs.Option.{option_or}
-use Rattle.mv_machine.specs.Check.{IsValid, first_limit}
-use Rattle.mv_machine.specs.Limits.{ecbs_limit}
-use Rattle.mv_machine.specs.Setup.{Setup}
-use Rattle.mv_machine.proofs.Validity.{no_bad_limit}
+use Rattle.mv_config.specs.Check.{IsValid, first_limit}
+use Rattle.mv_config.specs.Limits.{ecbs_limit}
+use Rattle.mv_config.specs.Setup.{Setup}
+use Rattle.mv_config.proofs.Validity.{no_bad_limit}
 use Rattle.mv_calls.specs.declared.table.Table.{Table}
 use Rattle.mv_calls.specs.Table.{blocks_of_table}
 

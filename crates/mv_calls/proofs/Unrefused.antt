@@ -5,7 +5,7 @@ use Rattle.std.proofs.Common.{refl, sym, ap}
 use Rattle.std.specs.List.{AllByRecursion}
 use Rattle.std.proofs.lemmas.Bool.{eq-eqb, le-ltb}
 use Rattle.std.specs.Option.{option_or}
-use Rattle.mv_machine.specs.Setup.{Setup, owner_of}
+use Rattle.mv_config.specs.Setup.{Setup, owner_of}
 use Rattle.mv_calls.specs.Keeping.{Kept}
 use Rattle.mv_calls.specs.Program.{unless_refused}
 use Rattle.mv_calls.specs.Refusal.{Refusal, TooMany, NotOwnerAt, ExtendedAt}

@@ -9,7 +9,7 @@ use Rattle.mv_machine.specs.declared.entry.VolumeOp.TheVariants as volume_op
 use Rattle.mv_machine.specs.declared.entry.VolumeReply.TheVariants as volume_reply
 use Rattle.mv_machine.specs.Legal.{Legal, after}
 use Rattle.mv_machine.specs.Packing.{word_at}
-use Rattle.mv_machine.specs.Setup.{Setup}
+use Rattle.mv_config.specs.Setup.{Setup}
 use Rattle.mv_calls.specs.Keeping.{nothing_kept, kept_of}
 use Rattle.mv_calls.specs.declared.outcomes.PostAnswer.TheVariants as answer
 use Rattle.mv_calls.specs.declared.outcomes.PostAnswer.{PostAnswer}

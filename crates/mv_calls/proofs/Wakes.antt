@@ -18,8 +18,8 @@ use Rattle.mv_latch.proofs.Quotas.{count_released, one_if, length_kept, first_fi
 use Rattle.mv_latch.proofs.Splits.{all_filter, all_granted, count_split, count_filter, granted_split}
 use Rattle.mv_machine.specs.declared.entry.Entry.{Entry}
 use Rattle.mv_machine.specs.Legal.{Legal, after}
-use Rattle.mv_machine.specs.Reach.{greatest, total, reach, release_cost}
-use Rattle.mv_machine.specs.Setup.{Setup}
+use Rattle.mv_config.specs.Reach.{greatest, total, reach, release_cost}
+use Rattle.mv_config.specs.Setup.{Setup}
 use Rattle.mv_machine.specs.Waking.{IsBlockOf, IsFair, IsFairWake, blocks_of}
 use Rattle.mv_machine.proofs.Lists.{all_append, all_back}
 use Rattle.mv_machine.proofs.Requests.{AllFair, all_of_list, all_released, requests_kept}

@@ -6,7 +6,7 @@ use Rattle.mv_machine.specs.declared.entry.Object.{Object}
 use Rattle.mv_machine.specs.declared.entry.Op.{Op}
 use Rattle.mv_machine.specs.Legal.{IsNext, Legal, after, of}
 use Rattle.mv_machine.specs.Parts.{KeepsBudgets}
-use Rattle.mv_machine.specs.Setup.{Setup}
+use Rattle.mv_config.specs.Setup.{Setup}
 use Rattle.mv_machine.specs.Told.{told, told_at}
 
 -- after this legal list the entry is the machine's next one, and makes this operation on this object

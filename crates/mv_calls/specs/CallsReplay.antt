@@ -6,7 +6,7 @@ use Rattle.mv_machine.specs.declared.replaying.ReplayRefusal.{ReplayRefusal}
 use Rattle.mv_machine.specs.declared.replaying.ReplayRefusal.TheVariants as replay
 use Rattle.mv_machine.specs.Legal.{Legal}
 use Rattle.mv_machine.specs.Replay.{IsFirstIllegal}
-use Rattle.mv_machine.specs.Setup.{Setup}
+use Rattle.mv_config.specs.Setup.{Setup}
 use Rattle.mv_machine.specs.System.{opening}
 use Rattle.mv_calls.specs.declared.calls_replaying.CallsRefusal.{CallsRefusal}
 use Rattle.mv_calls.specs.declared.calls_replaying.CallsRefusal.TheVariants as refusal

@@ -6,7 +6,7 @@ use Rattle.mv_machine.specs.declared.entry.Object.{Object}
 use Rattle.mv_machine.specs.declared.entry.Object.TheVariants.{Ecb}
 use Rattle.mv_machine.specs.declared.entry.Reply.{Reply}
 use Rattle.mv_machine.specs.declared.entry.Reply.TheVariants as reply_of
-use Rattle.mv_machine.specs.Setup.{Setup, is_exit_of}
+use Rattle.mv_config.specs.Setup.{Setup, is_exit_of}
 use Rattle.mv_machine.specs.Waking.{AreFairWakes}
 use Rattle.mv_calls.specs.Program.{Heard}
 

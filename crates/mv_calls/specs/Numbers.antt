@@ -18,7 +18,7 @@ use Rattle.mv_machine.specs.declared.entry.Op.TheVariants as op_on
 use Rattle.mv_machine.specs.declared.entry.Reply.{Reply}
 use Rattle.mv_machine.specs.declared.entry.Reply.TheVariants as reply_of
 use Rattle.mv_machine.specs.Legal.{next}
-use Rattle.mv_machine.specs.Setup.{Setup, targets_of}
+use Rattle.mv_config.specs.Setup.{Setup, targets_of}
 use Rattle.mv_machine.specs.System.{System, opening, with_at}
 use Rattle.mv_machine.specs.Waking.{blocks_of}
 use Rattle.mv_calls.specs.declared.counting.Last.{Last}

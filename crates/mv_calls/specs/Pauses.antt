@@ -10,7 +10,7 @@ use Rattle.mv_machine.specs.declared.entry.Object.TheVariants.{Element}
 use Rattle.mv_machine.specs.declared.entry.Op.TheVariants as op_on
 use Rattle.mv_machine.specs.declared.entry.Reply.{Reply}
 use Rattle.mv_machine.specs.declared.entry.Reply.TheVariants as reply_of
-use Rattle.mv_machine.specs.Setup.{Setup, element_owner, own_elements}
+use Rattle.mv_config.specs.Setup.{Setup, element_owner, own_elements}
 use Rattle.mv_calls.specs.declared.outcomes.Given.{Given}
 use Rattle.mv_calls.specs.declared.outcomes.ReleaseAnswer.{ReleaseAnswer}
 use Rattle.mv_calls.specs.declared.outcomes.ReleaseAnswer.TheVariants as release_answer

@@ -12,7 +12,7 @@ use Rattle.mv_machine.specs.declared.entry.Op.TheVariants as op_on
 use Rattle.mv_machine.specs.declared.entry.Reply.{Reply}
 use Rattle.mv_machine.specs.declared.entry.Reply.TheVariants as reply_of
 use Rattle.mv_machine.specs.Packing.{unpack, reply_in}
-use Rattle.mv_machine.specs.Setup.{Setup, targets_of}
+use Rattle.mv_config.specs.Setup.{Setup, targets_of}
 use Rattle.mv_calls.specs.declared.outcomes.PostAnswer.{PostAnswer}
 use Rattle.mv_calls.specs.declared.outcomes.PostAnswer.TheVariants as answer
 use Rattle.mv_calls.specs.Keeping.{Kept}

@@ -5,11 +5,11 @@ pub use Rattle.mv_ecb.specs.Table.{code_limit}
 pub use Rattle.mv_latch.specs.declared.operation.Wake.{Wake}
 pub use Rattle.mv_latch.specs.LatchSet.{list_of}
 -- ---- configurations
-pub use Rattle.mv_machine.specs.Check.{IsValid}
-pub use Rattle.mv_machine.specs.Config.{exit_of, setup_of}
-pub use Rattle.mv_machine.specs.Limits.{events_limit, exits_limit, highest_generation, highest_place}
-pub use Rattle.mv_machine.specs.Reach.{reach, total}
-pub use Rattle.mv_machine.specs.Setup.{Setup, element_owner, owner_of}
+pub use Rattle.mv_config.specs.Check.{IsValid}
+pub use Rattle.mv_config.specs.Config.{exit_of, setup_of}
+pub use Rattle.mv_config.specs.Limits.{events_limit, exits_limit, highest_generation, highest_place}
+pub use Rattle.mv_config.specs.Reach.{reach, total}
+pub use Rattle.mv_config.specs.Setup.{Setup, element_owner, owner_of}
 -- ---- entries, histories, and what they say of a task
 pub use Rattle.mv_machine.specs.declared.entry.Entry.{Entry}
 pub use Rattle.mv_machine.specs.declared.entry.Object.{Object}

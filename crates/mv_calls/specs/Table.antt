@@ -3,9 +3,9 @@ use Rattle.std.specs.Prelude.{◌≡◌, ℕ, ◌+◌, ◌==◌, ◌<◌, ◌≤
 use Rattle.std.specs.Prelude.{None, option_map, if◌then◌else◌}
 use Rattle.std.specs.List.{list_any, range_with_len}
 use Rattle.std.specs.Option.{option_or}
-use Rattle.mv_machine.specs.Check.{is_within}
-use Rattle.mv_machine.specs.Limits.{ecbs_limit}
-use Rattle.mv_machine.specs.Setup.{Setup, owner_of, is_on_exit}
+use Rattle.mv_config.specs.Check.{is_within}
+use Rattle.mv_config.specs.Limits.{ecbs_limit}
+use Rattle.mv_config.specs.Setup.{Setup, owner_of, is_on_exit}
 use Rattle.mv_calls.specs.declared.table.Table.{Table}
 use Rattle.mv_calls.specs.declared.table.TableRefusal.{TableRefusal}
 use Rattle.mv_calls.specs.declared.table.TableRefusal.TheVariants.{BadSize, BadRange, NotOwner, BadLatch, BadVolume, HasExit}

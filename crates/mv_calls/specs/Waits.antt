@@ -11,7 +11,7 @@ use Rattle.mv_machine.specs.declared.entry.Op.TheVariants as op_on
 use Rattle.mv_machine.specs.declared.entry.VolumeOp.TheVariants as volume_op
 use Rattle.mv_machine.specs.declared.entry.VolumeReply.{VolumeReply}
 use Rattle.mv_machine.specs.declared.entry.VolumeReply.TheVariants as volume_reply
-use Rattle.mv_machine.specs.Setup.{Setup, owner_of, is_exit_of}
+use Rattle.mv_config.specs.Setup.{Setup, owner_of, is_exit_of}
 use Rattle.mv_calls.specs.Keeping.{Kept}
 use Rattle.mv_calls.specs.Program.{Program, Do, Done, Early, Wrong, Call, on_ecb, on_volume, unless_refused}
 use Rattle.mv_calls.specs.Refusal.{Refusal}

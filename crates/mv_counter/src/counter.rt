@@ -45,7 +45,7 @@ fn configuration(alloc: Global, times: u32) -> Result<ValidConfig, NoMemory>
         owners: Vec::new(alloc),
         exits: Vec::new(alloc),
     };
-    ValidConfig::of(alloc, config)
+    Ok(ValidConfig::of(alloc, config)?)
 }
 
 // Adds one to the number, in a section of the latch.

@@ -35,7 +35,7 @@ fn configuration(alloc: Global, meals: u32) -> Result<ValidConfig, NoMemory>
         owners: Vec::new(alloc),
         exits: Vec::new(alloc),
     };
-    ValidConfig::of(alloc, config)
+    Ok(ValidConfig::of(alloc, config)?)
 }
 
 // Takes a fork that is above each fork that the philosopher has.

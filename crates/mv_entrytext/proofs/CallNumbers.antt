@@ -9,7 +9,7 @@ use Rattle.mv_machine.specs.declared.entry.Entry.{Entry}
 use Rattle.mv_machine.specs.Legal.{next}
 use Rattle.mv_machine.proofs.Lists.{all_push}
 use Rattle.mv_calls.specs.Numbers.{Numbering, unnumbered, numbered_at, calls_from, calls}
-use Rattle.mv_machine.specs.Setup.{Setup}
+use Rattle.mv_config.specs.Setup.{Setup}
 use Rattle.mv_machine.specs.System.{System, opening, with_at}
 use Rattle.mv_calls.proofs.call_numbers.Kept.{round_low}
 use Rattle.mv_calls.proofs.call_numbers.Prefixes.{calls_length}

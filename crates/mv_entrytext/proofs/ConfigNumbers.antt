@@ -4,8 +4,8 @@ use Rattle.std.proofs.Common.{refl, arith}
 use Rattle.std.specs.List.{AllByRecursion, position_from, list_all, list_any}
 use Rattle.std.proofs.lemmas.Bool.{leb-false, leb-true, and_parts, or_parts}
 use Rattle.std.proofs.lemmas.List.Sums.{sum_by-cons}
-use Rattle.mv_machine.specs.Setup.{Setup, SetupExit}
-use Rattle.mv_machine.specs.Check.{IsValid, first_limit, first_bad_owner, first_bad_exit, bad_budget, is_bad_exit, is_within}
+use Rattle.mv_config.specs.Setup.{Setup, SetupExit}
+use Rattle.mv_config.specs.Check.{IsValid, first_limit, first_bad_owner, first_bad_exit, bad_budget, is_bad_exit, is_within}
 use Rattle.mv_calls.proofs.TableFacts.{both_none, none_mapped}
 use Rattle.mv_operationtext.specs.Ranges.{highest_u32}
 

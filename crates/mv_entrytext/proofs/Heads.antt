@@ -1,8 +1,8 @@
 -- What the reader of the head takes.
 use Rattle.std.proofs.Common.{◌≡◌, Bool, false, not, cond, Option, Some, None, refl, sym, ap, ◌∙◌}
-use Rattle.mv_machine.specs.Check.{IsValid, is_valid}
-use Rattle.mv_machine.specs.Setup.{Setup}
-use Rattle.mv_machine.proofs.Validity.{valid_is}
+use Rattle.mv_config.specs.Check.{IsValid, is_valid}
+use Rattle.mv_config.specs.Setup.{Setup}
+use Rattle.mv_config.proofs.Validity.{valid_is}
 use Rattle.mv_entrytext.specs.declared.fault.Kind.{Kind}
 use Rattle.mv_entrytext.specs.declared.fault.Kind.TheVariants.{BadConfig}
 use Rattle.mv_entrytext.specs.Draft.{kind_of_config}

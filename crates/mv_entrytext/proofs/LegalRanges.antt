@@ -21,12 +21,12 @@ use Rattle.mv_machine.specs.declared.entry.Op.TheVariants as op_on
 use Rattle.mv_machine.specs.declared.entry.Reply.{Reply}
 use Rattle.mv_machine.specs.declared.entry.Reply.TheVariants as reply_of
 use Rattle.mv_machine.specs.declared.entry.Entry.{Entry}
-use Rattle.mv_machine.specs.Setup.{Setup, element_count}
+use Rattle.mv_config.specs.Setup.{Setup, element_count}
 use Rattle.mv_machine.specs.System.{System, Cell, opening, ecb_admitted, element_admitted, advanced, with_at}
 use Rattle.mv_machine.specs.Legal.{IsNext, next, after_from, LegalFrom, Legal}
 use Rattle.mv_machine.specs.Elements.{FitsItsPlace}
-use Rattle.mv_machine.specs.Check.{IsValid}
-use Rattle.mv_machine.specs.Limits.{highest_place}
+use Rattle.mv_config.specs.Check.{IsValid}
+use Rattle.mv_config.specs.Limits.{highest_place}
 use Rattle.mv_machine.proofs.ElementRuns.{generation_fits}
 use Rattle.mv_entrytext.specs.Fault.{HasJournal}
 use Rattle.mv_operationtext.specs.Ranges.{highest_u32, highest_ecb_code, highest_release_code}

@@ -10,8 +10,8 @@ use Rattle.std.proofs.lemmas.List.{append-nil}
 use Rattle.std.proofs.lemmas.List.Elements.{recursion_from_All}
 use Rattle.std.proofs.lemmas.List.Concat.{flat_map-cons}
 use Rattle.mv_machine.specs.declared.entry.Entry.{Entry}
-use Rattle.mv_machine.specs.Setup.{Setup, SetupExit}
-use Rattle.mv_machine.specs.Check.{IsValid}
+use Rattle.mv_config.specs.Setup.{Setup, SetupExit}
+use Rattle.mv_config.specs.Check.{IsValid}
 use Rattle.mv_entrytext.proofs.Heads.{valid_said}
 use Rattle.mv_line.specs.Fault.{HasPassed}
 use Rattle.mv_line.specs.Line.{lines_of, ended_part, ended_lines, cut_off}

@@ -6,7 +6,7 @@ use Rattle.std.specs.List.{join_with_byte}
 use Rattle.std.proofs.lemmas.List.{append-nil}
 use Rattle.std.proofs.lemmas.List.Concat.{flat_map-cons}
 use Rattle.std.proofs.lemmas.Option.{same_Some}
-use Rattle.mv_machine.specs.Setup.{SetupExit}
+use Rattle.mv_config.specs.Setup.{SetupExit}
 use Rattle.mv_line.specs.Part.{parts_at}
 use Rattle.mv_operationtext.specs.declared.version.Version.TheVariants.{One, Two}
 use Rattle.mv_operationtext.specs.Ranges.{highest_u32}

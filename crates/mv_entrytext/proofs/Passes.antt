@@ -4,7 +4,7 @@ use Rattle.std.proofs.Common.{None, refl, sym, subst, arith}
 use Rattle.std.proofs.lemmas.Bool.{eq-eqb, ne_eqb}
 use Rattle.std.proofs.lemmas.List.{length-append}
 use Rattle.mv_machine.specs.declared.entry.Entry.{Entry}
-use Rattle.mv_machine.specs.Setup.{Setup}
+use Rattle.mv_config.specs.Setup.{Setup}
 use Rattle.mv_line.specs.declared.fault.LineRefusal.{LineRefusal}
 use Rattle.mv_line.specs.declared.fault.LineRefusal.TheVariants.{Has, NoMemory}
 use Rattle.mv_line.specs.declared.line.Lines.{Lines}

@@ -4,7 +4,7 @@ use Rattle.std.proofs.lemmas.List.{length-append}
 use Rattle.mv_line.specs.declared.line.Lines.{Lines}
 use Rattle.mv_line.specs.Fault.{IsPassed}
 use Rattle.mv_machine.specs.declared.entry.Entry.{Entry}
-use Rattle.mv_machine.specs.Setup.{Setup}
+use Rattle.mv_config.specs.Setup.{Setup}
 use Rattle.mv_entrytext.specs.declared.reader.EntryReader.{EntryReader}
 use Rattle.mv_entrytext.specs.declared.line.EntryLine.{EntryLine}
 use Rattle.mv_operationtext.specs.declared.version.Version.{Version}

@@ -1,7 +1,7 @@
 -- A text states a journal exactly if it is the text of it.
 use Rattle.std.proofs.Common.{◌≡◌, ℕ, List, sym, subst}
 use Rattle.mv_machine.specs.declared.entry.Entry.{Entry}
-use Rattle.mv_machine.specs.Setup.{Setup}
+use Rattle.mv_config.specs.Setup.{Setup}
 use Rattle.mv_operationtext.specs.declared.version.Version.{Version}
 use Rattle.mv_entrytext.specs.Fault.{HasJournal, AreCallsIn, StatesJournal, journal_of}
 use Rattle.mv_entrytext.specs.Journal.{text_of}

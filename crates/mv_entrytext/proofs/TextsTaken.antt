@@ -8,10 +8,10 @@ use Rattle.std.proofs.lemmas.List.{append-nil, nil_from_length, flat_map_more}
 use Rattle.std.proofs.lemmas.List.Elements.{All-from_recursion}
 use Rattle.std.specs.Option.{option_or}
 use Rattle.mv_machine.specs.declared.entry.Entry.{Entry}
-use Rattle.mv_machine.specs.declared.config.CheckRefusal.{CheckRefusal}
-use Rattle.mv_machine.specs.Check.{IsValid, refusal_of}
+use Rattle.mv_config.specs.declared.config.CheckRefusal.{CheckRefusal}
+use Rattle.mv_config.specs.Check.{IsValid, refusal_of}
 use Rattle.mv_entrytext.proofs.Heads.{config_said}
-use Rattle.mv_machine.specs.Setup.{Setup, SetupExit}
+use Rattle.mv_config.specs.Setup.{Setup, SetupExit}
 use Rattle.mv_line.specs.Fault.{faults_by_line, first_of_list}
 use Rattle.mv_line.specs.Line.{ended_part, ended_lines, cut_off}
 use Rattle.mv_line.proofs.Faults.{line_passed, no_kinds, no_fault_at_end}

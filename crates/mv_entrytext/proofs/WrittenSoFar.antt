@@ -9,7 +9,7 @@ use Rattle.std.proofs.Common.{Result, Ok, Err}
 use Rattle.std.specs.List.{flat_map}
 use Rattle.mv_io.specs.Sink.{Appends, AppendsFront}
 use Rattle.mv_machine.specs.declared.entry.Entry.{Entry}
-use Rattle.mv_machine.specs.Setup.{Setup}
+use Rattle.mv_config.specs.Setup.{Setup}
 use Rattle.mv_machine.specs.System.{opening}
 use Rattle.mv_calls.specs.Numbers.{calls, unnumbered}
 use Rattle.mv_calls.proofs.call_numbers.Counted.{calls_more}

@@ -1,9 +1,9 @@
 -- What the reader of journals has read so far, and what it reports.
 use Rattle.std.specs.Prelude.{◌≡◌, ℕ, ◌+◌, List, [], length, Option, Some, None, is_some}
 use Rattle.std.specs.Prelude.{if◌then◌else◌}
-use Rattle.mv_machine.specs.Check.{refusal_of}
-use Rattle.mv_machine.specs.Config.{setup_of}
-use Rattle.mv_machine.specs.Setup.{Setup}
+use Rattle.mv_config.specs.Check.{refusal_of}
+use Rattle.mv_config.specs.Config.{setup_of}
+use Rattle.mv_config.specs.Setup.{Setup}
 use Rattle.mv_machine.specs.declared.entry.Entry.{Entry}
 use Rattle.mv_line.specs.declared.line.Lines.{Lines}
 use Rattle.mv_line.specs.Fault.{HasPassed}

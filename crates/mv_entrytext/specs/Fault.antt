@@ -3,8 +3,8 @@ use Rattle.std.specs.Prelude.{◌≡◌, ℕ, ◌<◌, ◌≤◌, ◌⊎◌, ◌
 use Rattle.std.specs.Prelude.{None, is_some, option_map, option_to_list, if◌then◌else◌}
 use Rattle.std.specs.Option.{option_or}
 use Rattle.mv_machine.specs.declared.entry.Entry.{Entry}
-use Rattle.mv_machine.specs.Check.{IsValid, is_valid}
-use Rattle.mv_machine.specs.Setup.{Setup}
+use Rattle.mv_config.specs.Check.{IsValid, is_valid}
+use Rattle.mv_config.specs.Setup.{Setup}
 use Rattle.mv_line.specs.declared.fault.TextFault.{TextFault}
 use Rattle.mv_line.specs.Fault.{LineRules, HasFaultAt, first_fault, when}
 pub use Rattle.mv_line.specs.Fault.{TellsFirst}

@@ -5,7 +5,7 @@ use Rattle.std.specs.declared.option.Option.{Option}
 use Rattle.mv_io.specs.Sink.{Appends}
 use Rattle.mv_machine.specs.declared.entry.Entry.{Entry}
 use Rattle.mv_machine.specs.Legal.{Legal}
-use Rattle.mv_machine.specs.Setup.{Setup}
+use Rattle.mv_config.specs.Setup.{Setup}
 use Rattle.mv_calls.specs.Counters.{HasCounted}
 use Rattle.mv_calls.specs.Numbers.{calls}
 use Rattle.mv_entrytext.specs.declared.history_text.HistoryText.TheInside.{Inside}

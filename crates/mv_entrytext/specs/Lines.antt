@@ -1,7 +1,7 @@
 -- How the lines of a journal are read, and what the lines so far have said.
 use Rattle.std.specs.Prelude.{ℕ, Bool, List, [], ◌∷◌, ◌++◌, codes, Option, Some, None, option_map, option_and_then}
 use Rattle.mv_machine.specs.declared.entry.Entry.{Entry}
-use Rattle.mv_machine.specs.Setup.{Setup, SetupExit}
+use Rattle.mv_config.specs.Setup.{Setup, SetupExit}
 use Rattle.mv_line.specs.Part.{parts_at}
 use Rattle.mv_operationtext.specs.declared.version.Version.{Version}
 use Rattle.mv_operationtext.specs.declared.version.Version.TheVariants.{One, Two}

@@ -1,7 +1,7 @@
 -- What a reader of entries has read of a text.
 use Rattle.std.specs.Prelude.{◌≡◌, ℕ, List, [], ◌∷◌, ◌++◌, length, Option, Some, None}
 use Rattle.mv_machine.specs.declared.entry.Entry.{Entry}
-use Rattle.mv_machine.specs.Setup.{Setup}
+use Rattle.mv_config.specs.Setup.{Setup}
 use Rattle.mv_line.specs.Line.{cut_off}
 use Rattle.mv_entrytext.specs.declared.reader.EntryReader.{EntryReader}
 use Rattle.mv_operationtext.specs.declared.version.Version.{Version}

@@ -1,7 +1,7 @@
 -- How contracts see the reader's types.
 use Rattle.std.specs.Prelude.{ℕ, List, Option, option_map}
 use Rattle.std.specs.Borrow.{Bor}
-use Rattle.mv_machine.specs.Config.{exit_of}
+use Rattle.mv_config.specs.Config.{exit_of}
 use Rattle.mv_entrytext.specs.declared.line.Line.{Line}
 use Rattle.mv_entrytext.specs.declared.line.Line.TheVariants.{Version, Callers, Elements, Volumes, Latches, Quota, Budget, Owner, Exit}
 use Rattle.mv_entrytext.specs.declared.line.Line.TheVariants.{Events}

@@ -1,7 +1,7 @@
 -- What a writer of a journal has written.
 use Rattle.std.specs.Prelude.{◌≡◌, List, ◌++◌}
 use Rattle.std.specs.List.{flat_map}
-use Rattle.mv_machine.specs.Setup.{Setup}
+use Rattle.mv_config.specs.Setup.{Setup}
 use Rattle.mv_operationtext.specs.declared.version.Version.{Version}
 use Rattle.mv_entrytext.specs.declared.writing.JournalWriter.{JournalWriter}
 use Rattle.mv_entrytext.specs.Journal.{Line, line, head_text}

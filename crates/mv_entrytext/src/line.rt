@@ -1,7 +1,7 @@
 //! The lines of a journal, read one by one, by `specs/Lines.antt`. `specs/Said.antt` says how contracts see them.
 
 ghost use Rattle.std.specs.Prelude.{◌≡◌, [], true, IfOk, option_map};
-ghost use Rattle.mv_machine.specs.Config.{exit_of};
+ghost use Rattle.mv_config.specs.Config.{exit_of};
 ghost use Rattle.mv_line.specs.Part.{parts_at};
 ghost use Rattle.mv_operationtext.specs.Reading.{whole, any_u32};
 ghost use Rattle.mv_entrytext.specs.Lines.{AtVersion, AtBudgets, AtEntries, numbers, exit_from, exit_read, at_exits, at_owners};

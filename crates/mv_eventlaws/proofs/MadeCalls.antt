@@ -6,7 +6,7 @@ use Rattle.std.proofs.lemmas.Bool.{cases_eq}
 use Rattle.mv_latch.specs.declared.operation.Wake.{Wake}
 use Rattle.mv_machine.specs.declared.entry.Entry.{Entry}
 use Rattle.mv_machine.specs.Legal.{Legal, of}
-use Rattle.mv_machine.specs.Setup.{Setup}
+use Rattle.mv_config.specs.Setup.{Setup}
 use Rattle.mv_machine.specs.System.{opening, with_at}
 use Rattle.mv_machine.specs.Told.{told}
 use Rattle.mv_machine.proofs.Histories.{with_at-same, with_at-other}

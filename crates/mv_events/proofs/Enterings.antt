@@ -4,8 +4,8 @@ use Rattle.std.proofs.Common.{subst, arith}
 use Rattle.std.proofs.lemmas.Bool.{lt-ltb}
 use Rattle.mv_latch.specs.declared.request.LatchForm.TheVariants.{Waiting}
 use Rattle.mv_latch.specs.declared.request.Mode.TheVariants.{Exclusive}
-use Rattle.mv_machine.specs.Reach.{reach, release_cost}
-use Rattle.mv_machine.specs.Setup.{Setup}
+use Rattle.mv_config.specs.Reach.{reach, release_cost}
+use Rattle.mv_config.specs.Setup.{Setup}
 use Rattle.mv_board.specs.Faces.{BoardFace, CallerFace}
 use Rattle.mv_board.specs.Faces as faces
 use Rattle.mv_calls.specs.declared.table.Table.{Table}

@@ -1,6 +1,6 @@
 -- A call on a table that was served is answered as the law on tables says.
 use Rattle.std.proofs.Common.{◌≡◌, ℕ, Result, subst}
-use Rattle.mv_machine.specs.Setup.{Setup}
+use Rattle.mv_config.specs.Setup.{Setup}
 use Rattle.mv_board.specs.Faces.{CallerFace}
 use Rattle.mv_calls.specs.declared.table.Table.{Table}
 use Rattle.mv_calls.specs.Events.{Entering, Finding, post_event, next_event}

@@ -10,9 +10,9 @@ use Rattle.mv_line.specs.declared.fault.TextRefusal.TheVariants.{Fault}
 use Rattle.mv_machine.specs.declared.entry.Entry.{Entry}
 use Rattle.mv_machine.specs.declared.replaying.Illegal.{Illegal}
 use Rattle.mv_machine.specs.Legal.{Legal}
-use Rattle.mv_machine.specs.Limits.{highest_place}
+use Rattle.mv_config.specs.Limits.{highest_place}
 use Rattle.mv_machine.specs.Replay.{IsFirstIllegal}
-use Rattle.mv_machine.specs.Setup.{Setup}
+use Rattle.mv_config.specs.Setup.{Setup}
 use Rattle.mv_machine.specs.System.{opening}
 use Rattle.mv_operationtext.specs.declared.version.Version.{Version}
 use Rattle.mv_operationtext.specs.declared.version.Version.TheVariants.{One, Two}

@@ -3,7 +3,7 @@ use Rattle.std.proofs.Common.{◌≡◌, ℕ, ◌≤◌, List, [], ◌++◌, len
 use Rattle.std.specs.Prelude.{IfSome}
 use Rattle.mv_ending.specs.Written.{Nothing, WroteOf}
 use Rattle.mv_entrytext.specs.Journal.{journal_text}
-use Rattle.mv_machine.specs.Setup.{Setup}
+use Rattle.mv_config.specs.Setup.{Setup}
 use Rattle.mv_machine.specs.State.{system_of}
 use Rattle.mv_machine.specs.System.{System}
 use Rattle.mv_pollscript.specs.SoFar.{IsRunSoFar}

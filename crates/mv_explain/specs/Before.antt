@@ -11,8 +11,8 @@ use Rattle.mv_machine.specs.declared.entry.Op.TheVariants as op_on
 use Rattle.mv_machine.specs.declared.entry.Reply.{Reply}
 use Rattle.mv_machine.specs.declared.entry.VolumeOp.TheVariants.{Read}
 use Rattle.mv_machine.specs.Legal.{after, same_object}
-use Rattle.mv_machine.specs.Limits.{highest_place}
-use Rattle.mv_machine.specs.Setup.{Setup}
+use Rattle.mv_config.specs.Limits.{highest_place}
+use Rattle.mv_config.specs.Setup.{Setup}
 use Rattle.mv_machine.specs.System.{System, answer, place_of}
 use Rattle.mv_entrytext.specs.Journal.{EntryOf, line}
 use Rattle.mv_explain.specs.declared.sentences.TheConstants.{AT, STATE}

@@ -8,7 +8,7 @@ use Rattle.mv_machine.specs.declared.entry.Object.{Object}
 use Rattle.mv_machine.specs.declared.entry.Object.TheVariants.{Ecb, Element, Volume, Latches}
 use Rattle.mv_machine.specs.declared.entry.Reply.{Reply}
 use Rattle.mv_machine.specs.declared.replaying.Illegal.{Illegal}
-use Rattle.mv_machine.specs.Setup.{Setup}
+use Rattle.mv_config.specs.Setup.{Setup}
 use Rattle.mv_entrytext.specs.Fault.{HasJournal, IsTextIn, text_fault}
 use Rattle.mv_entrytext.specs.Journal.{EntryOf, first_line, line}
 use Rattle.mv_explain.specs.declared.judging.Verdict.{Verdict}

@@ -3,7 +3,7 @@ use Rattle.std.specs.Prelude.{◌≡◌, ℕ, List, take}
 use Rattle.mv_machine.specs.declared.entry.Entry.{Entry}
 use Rattle.mv_machine.specs.Legal.{Legal}
 use Rattle.mv_machine.specs.Replay.{IsFirstIllegal}
-use Rattle.mv_machine.specs.Setup.{Setup}
+use Rattle.mv_config.specs.Setup.{Setup}
 use Rattle.mv_machine.specs.System.{opening}
 use Rattle.mv_calls.specs.CallsReplay.{IsFirstNumber}
 use Rattle.mv_calls.specs.Numbers.{calls}

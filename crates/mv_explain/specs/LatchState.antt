@@ -8,7 +8,7 @@ use Rattle.mv_latch.specs.declared.request.Request.{Request}
 use Rattle.mv_latch.specs.LatchSet.{list_of}
 use Rattle.mv_machine.specs.declared.entry.Op.{Op}
 use Rattle.mv_machine.specs.declared.entry.Op.TheVariants.{Ecb, Element, Volume, Latch}
-use Rattle.mv_machine.specs.Setup.{Setup}
+use Rattle.mv_config.specs.Setup.{Setup}
 use Rattle.mv_machine.specs.System.{System}
 use Rattle.mv_explain.specs.declared.sentences.TheConstants.{AT_LATCH, EXCLUSIVE, OF_REQUESTOR, OF_TASK, REQUEST, SHARED}
 

@@ -2,7 +2,7 @@
 
 ghost use Rattle.std.specs.Prelude.{◌≡◌, ℕ, ◌<◌, ◌≤◌, ◌^◌, List, All, length, IfOk};
 ghost use Rattle.mv_entrytext.specs.Fault.{HasJournal, IsTextIn};
-ghost use Rattle.mv_machine.specs.Limits.{highest_place};
+ghost use Rattle.mv_config.specs.Limits.{highest_place};
 ghost use Rattle.mv_explain.specs.Judged.{IsVerdict};
 
 use mv_calls::{CallsRefusal, replay_calls};

@@ -19,7 +19,7 @@ use Rattle.mv_machine.specs.declared.entry.Reply.TheVariants as reply_of
 use Rattle.mv_machine.specs.Kept.{StandingRequest, stands_with, standing}
 use Rattle.mv_machine.specs.Legal.{Legal, of}
 use Rattle.mv_machine.specs.Orderly.{queue}
-use Rattle.mv_machine.specs.Setup.{Setup}
+use Rattle.mv_config.specs.Setup.{Setup}
 use Rattle.mv_machine.specs.System.{opening}
 use Rattle.mv_machine.proofs.Histories.{by_last, LegalFrom-front}
 use Rattle.mv_machine.proofs.Lists.{all_front, all_back}

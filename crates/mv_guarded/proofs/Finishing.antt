@@ -5,7 +5,7 @@ use Rattle.std.proofs.lemmas.List.{append-nil}
 use Rattle.mv_machine.specs.declared.entry.Entry.{Entry}
 use Rattle.mv_machine.specs.Kept.{StandingRequest, standing}
 use Rattle.mv_machine.specs.Legal.{of}
-use Rattle.mv_machine.specs.Setup.{Setup}
+use Rattle.mv_config.specs.Setup.{Setup}
 use Rattle.mv_machine.proofs.Objects.{of-append}
 use Rattle.mv_ordered.specs.Held.{named, held}
 use Rattle.mv_ordered.specs.WaitChain.{KeepsLockDiscipline}

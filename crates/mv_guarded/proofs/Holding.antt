@@ -21,8 +21,8 @@ use Rattle.mv_machine.specs.declared.entry.Reply.TheVariants as reply_of
 use Rattle.mv_machine.specs.declared.entry.VolumeOp.TheVariants.{Read, Write}
 use Rattle.mv_machine.specs.declared.entry.VolumeReply.TheVariants.{Value}
 use Rattle.mv_machine.specs.Kept.{StandingRequest, standing, stands_with}
-use Rattle.mv_machine.specs.Reach.{release_cost}
-use Rattle.mv_machine.specs.Setup.{Setup}
+use Rattle.mv_config.specs.Reach.{release_cost}
+use Rattle.mv_config.specs.Setup.{Setup}
 use Rattle.mv_machine.proofs.EntryRuns.{entry_of}
 use Rattle.mv_machine.proofs.Lists.{all_push}
 use Rattle.mv_board.specs.Faces.{CallerFace}

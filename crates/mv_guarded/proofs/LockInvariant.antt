@@ -7,7 +7,7 @@ use Rattle.mv_machine.specs.declared.entry.Entry.{Entry}
 use Rattle.mv_machine.specs.declared.entry.Object.{Object}
 use Rattle.mv_machine.specs.declared.entry.Op.{Op}
 use Rattle.mv_machine.specs.Legal.{Legal, of}
-use Rattle.mv_machine.specs.Setup.{Setup}
+use Rattle.mv_config.specs.Setup.{Setup}
 use Rattle.mv_machine.proofs.Histories.{by_last}
 use Rattle.mv_machine.proofs.Places.{of_longer_mine, of_longer_other}
 use Rattle.mv_guarded.specs.Guarded.{HoldsLatch, Keeps, IsGuarding, GuardsVolume}

@@ -12,8 +12,8 @@ use Rattle.mv_machine.specs.declared.entry.Object.TheVariants.{Latches}
 use Rattle.mv_machine.specs.declared.entry.Op.{Op}
 use Rattle.mv_machine.specs.declared.entry.Op.TheVariants as op_on
 use Rattle.mv_machine.specs.declared.entry.VolumeOp.TheVariants.{Write}
-use Rattle.mv_machine.specs.Reach.{release_cost}
-use Rattle.mv_machine.specs.Setup.{Setup, starts_from}
+use Rattle.mv_config.specs.Reach.{release_cost}
+use Rattle.mv_config.specs.Setup.{Setup, starts_from}
 use Rattle.mv_board.specs.Faces.{CallerFace}
 use Rattle.mv_calls.specs.declared.outcomes.PostAnswer.{PostAnswer}
 use Rattle.mv_calls.specs.Exits.{StartsExit}

@@ -16,7 +16,7 @@ use Rattle.mv_machine.specs.declared.entry.Op.TheVariants as op_on
 use Rattle.mv_machine.specs.Kept.{StandingRequest}
 use Rattle.mv_machine.specs.Leaving.{takes_out, NoneTakesOut}
 use Rattle.mv_machine.specs.Legal.{Legal, of}
-use Rattle.mv_machine.specs.Setup.{Setup}
+use Rattle.mv_config.specs.Setup.{Setup}
 use Rattle.mv_machine.specs.System.{opening}
 use Rattle.mv_machine.proofs.Histories.{LegalFrom-front}
 use Rattle.mv_machine.proofs.Places.{of_mine, of_other}

@@ -13,7 +13,7 @@ use Rattle.mv_machine.specs.declared.entry.Reply.TheVariants as reply_of
 use Rattle.mv_machine.specs.declared.entry.VolumeOp.TheVariants.{Read, Write}
 use Rattle.mv_machine.specs.declared.entry.VolumeReply.TheVariants.{Value}
 use Rattle.mv_machine.specs.Legal.{IsNext, LegalFrom, Legal, next, after, after_from, of}
-use Rattle.mv_machine.specs.Setup.{Setup}
+use Rattle.mv_config.specs.Setup.{Setup}
 use Rattle.mv_machine.specs.System.{System, opening, moved, reply_to}
 use Rattle.mv_machine.proofs.EntryRuns.{entry_of, rest_is_legal}
 use Rattle.mv_machine.proofs.Histories.{after_from-append, with_at-same, with_at-other}

@@ -7,7 +7,7 @@ use Rattle.mv_latch.specs.declared.request.LatchForm.{LatchForm}
 use Rattle.mv_latch.specs.declared.request.LatchForm.TheVariants.{Waiting}
 use Rattle.mv_latch.specs.declared.request.Mode.{Mode}
 use Rattle.mv_machine.specs.Kept.{HasMade}
-use Rattle.mv_machine.specs.Setup.{Setup}
+use Rattle.mv_config.specs.Setup.{Setup}
 use Rattle.mv_board.specs.Faces.{CallerFace, IsSame}
 use Rattle.mv_calls.specs.Keeping.{kept_of}
 use Rattle.mv_calls.specs.LatchCalls.{GrantedAs, obtain_refusal}

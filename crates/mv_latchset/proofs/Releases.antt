@@ -5,8 +5,8 @@ use Rattle.mv_latch.specs.declared.operation.LatchReply.{LatchReply}
 use Rattle.mv_latch.specs.declared.operation.LatchReply.TheVariants as latch_reply
 use Rattle.mv_latch.specs.declared.operation.Wake.{Wake}
 use Rattle.mv_machine.specs.Parts.{IsPossible}
-use Rattle.mv_machine.specs.Reach.{reach, release_cost, total}
-use Rattle.mv_machine.specs.Setup.{Setup}
+use Rattle.mv_config.specs.Reach.{reach, release_cost, total}
+use Rattle.mv_config.specs.Setup.{Setup}
 use Rattle.mv_machine.specs.Waking.{AreFairWakes, blocks_of}
 use Rattle.mv_board.specs.Faces.{CallerFace}
 use Rattle.mv_calls.specs.declared.outcomes.Purged.{Purged}

@@ -1,8 +1,8 @@
 -- The posts of wakes.
 use Rattle.std.specs.Prelude.{List}
 use Rattle.mv_latch.specs.declared.operation.Wake.{Wake}
-use Rattle.mv_machine.specs.Reach.{reach, total}
-use Rattle.mv_machine.specs.Setup.{Setup}
+use Rattle.mv_config.specs.Reach.{reach, total}
+use Rattle.mv_config.specs.Setup.{Setup}
 use Rattle.mv_machine.specs.Waking.{blocks_of}
 use Rattle.mv_board.specs.Faces.{CallerFace}
 use Rattle.mv_calls.specs.Keeping.{Kept}

@@ -17,7 +17,7 @@ use Rattle.mv_machine.specs.declared.entry.Op.TheVariants as op_on
 use Rattle.mv_machine.specs.declared.entry.Reply.{Reply}
 use Rattle.mv_machine.specs.Kept.{StandingRequest, standing, is_posting, keeps_quotas, latch_allowed, allowed}
 use Rattle.mv_machine.specs.Legal.{IsNext, Legal, after, of}
-use Rattle.mv_machine.specs.Setup.{Setup}
+use Rattle.mv_config.specs.Setup.{Setup}
 use Rattle.mv_machine.specs.System.{System, opening, admitted, latches_of, moved, posts_own_ecb}
 use Rattle.mv_machine.proofs.EntryRuns.{entry_of, along_all}
 use Rattle.mv_machine.proofs.LatchIds.{same_count}

@@ -1,12 +1,12 @@
 -- Places and generations of legal lists stay within their limits.
 use Rattle.std.proofs.Common.{◌≡◌, ℕ, ◌≤◌, List, length, subst, arith}
-use Rattle.mv_machine.specs.Limits.{events_limit, highest_generation}
+use Rattle.mv_config.specs.Limits.{events_limit, highest_generation}
 use Rattle.mv_machine.specs.declared.entry.Entry.{Entry}
 use Rattle.mv_machine.specs.declared.entry.Object.{Object}
 use Rattle.mv_machine.specs.declared.entry.Object.TheVariants.{Element}
 use Rattle.mv_machine.specs.Elements.{FitsItsPlace}
 use Rattle.mv_machine.specs.Legal.{Legal, after, «at», CountsFrom}
-use Rattle.mv_machine.specs.Setup.{Setup}
+use Rattle.mv_config.specs.Setup.{Setup}
 use Rattle.mv_machine.specs.System.{opening, place_of}
 use Rattle.mv_machine.proofs.ElementRuns.{generation_fits}
 use Rattle.mv_machine.proofs.Histories.{place-after, place_bounded, zero_place}

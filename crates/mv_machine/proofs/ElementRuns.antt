@@ -4,7 +4,7 @@ use Rattle.mv_element.specs.declared.operation.ElementOp.{ElementOp}
 use Rattle.mv_element.specs.declared.element.ElementState.{ElementState}
 use Rattle.mv_element.specs.Table.{element_step}
 use Rattle.mv_machine.specs.declared.entry.Entry.{Entry}
-use Rattle.mv_machine.specs.Setup.{Setup}
+use Rattle.mv_config.specs.Setup.{Setup}
 use Rattle.mv_machine.specs.System.{System, Cell, opening, advanced}
 use Rattle.mv_machine.specs.Legal.{after_from, LegalFrom, Legal, after}
 use Rattle.mv_machine.specs.Elements.{element_events, IsOrderlyElement, FitsItsPlace}

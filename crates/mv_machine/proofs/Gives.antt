@@ -11,10 +11,10 @@ use Rattle.mv_machine.specs.declared.merging.Picked.{Picked}
 use Rattle.mv_machine.specs.declared.state.State.{State}
 use Rattle.mv_machine.specs.History.{IsGiven}
 use Rattle.mv_machine.specs.Legal.{Legal, after}
-use Rattle.mv_machine.specs.Limits.{events_limit, highest_place}
+use Rattle.mv_config.specs.Limits.{events_limit, highest_place}
 use Rattle.mv_machine.specs.Merge.{merged, merge_from, risen, entry_count, AreOneHistory}
 use Rattle.mv_machine.specs.Room.{IsRoomFor, IsPicked, IsHistory, history_of, past_of, coming_of, lefts}
-use Rattle.mv_machine.specs.Setup.{Setup}
+use Rattle.mv_config.specs.Setup.{Setup}
 use Rattle.mv_machine.specs.State.{Exists, IsOpenedWith, system_of, wakes_of}
 use Rattle.mv_machine.specs.System.{System, place_of, after_step, wakes_after}
 use Rattle.mv_machine.specs.Told.{last_wakes}

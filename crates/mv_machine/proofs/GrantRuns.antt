@@ -15,7 +15,7 @@ use Rattle.mv_machine.specs.declared.entry.Entry.{Entry}
 use Rattle.mv_machine.specs.declared.entry.Object.TheVariants.{Latches}
 use Rattle.mv_machine.specs.Legal.{next, Legal, after}
 use Rattle.mv_machine.specs.Owned.{IsGranted, IsGone}
-use Rattle.mv_machine.specs.Setup.{Setup}
+use Rattle.mv_config.specs.Setup.{Setup}
 use Rattle.mv_machine.specs.System.{System, opening, place_of}
 use Rattle.mv_machine.proofs.EntryRuns.{along_all, rest_is_legal, at_end}
 use Rattle.mv_machine.proofs.Histories.{LegalFrom-front}

@@ -22,7 +22,7 @@ use Rattle.mv_machine.specs.declared.entry.Op.TheVariants as op_on
 use Rattle.mv_machine.specs.declared.entry.Reply.{Reply}
 use Rattle.mv_machine.specs.Kept.{StandingRequest}
 use Rattle.mv_machine.specs.Legal.{IsNext, next, Legal, after}
-use Rattle.mv_machine.specs.Setup.{Setup}
+use Rattle.mv_config.specs.Setup.{Setup}
 use Rattle.mv_machine.specs.System.{System, moved}
 use Rattle.mv_machine.proofs.EntryRuns.{entry_of, along, rest_is_legal, at_end}
 use Rattle.mv_machine.proofs.LatchRuns.{list_at}

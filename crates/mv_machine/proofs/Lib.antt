@@ -7,14 +7,7 @@ pub mod Objects
 pub mod SameParts
 pub mod Longer
 pub mod Places
-pub mod Validity
 pub mod Budgets
--- Config::check, ValidConfig::of: exits, their chains and their reaches
-pub mod Reaches
-pub mod Chains
--- ValidConfig::targets, ValidConfig::own_elements
-pub mod Targets
-pub mod OwnElements
 -- State::opening, State::step
 pub mod Tables
 pub mod Writes

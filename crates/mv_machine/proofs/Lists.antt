@@ -1,14 +1,11 @@
 -- What holds of each element of a list, and of lists that are made of it.
-use Rattle.std.proofs.Common.{◌≡◌, ℕ, zero, suc, inl, inr, subst, List, [], ◌∷◌, ◌++◌, Some, slice_get}
+use Rattle.std.proofs.Common.{inl, inr, subst, List, [], ◌∷◌, ◌++◌}
 use Rattle.std.specs.List.{AllByRecursion, Contains}
 use Rattle.mv_latch.proofs.Members.{not_in_empty, first_or_rest}
+-- what follows from it, and of the one that is read
+pub use Rattle.mv_config.proofs.Elements.{all_map, all_got}
 -- of what a filter leaves
 pub use Rattle.mv_latch.proofs.Splits.{all_filter}
-
--- what follows from it
-pub all_map : {X : Type 0} {P Q : X → Type 0} → ((x : X) → P x → Q x) → (xs : List X) → AllByRecursion P xs → AllByRecursion Q xs
-all_map f [] a = tt
-all_map f (x ∷ xs) a = (f x a.0, all_map f xs a.1)
 
 -- of two lists
 pub all_append : {X : Type 0} (P : X → Type 0) (xs ys : List X) → AllByRecursion P xs → AllByRecursion P ys
@@ -34,9 +31,3 @@ all_back P (x ∷ xs) ys a = all_back P xs ys a.1
 pub all_at : {X : Type 0} (P : X → Type 0) (xs : List X) (x : X) → AllByRecursion P xs → Contains xs x → P x
 all_at P [] x a i = absurd (not_in_empty x i)
 all_at P (y ∷ ys) x a i = elim (first_or_rest y ys x i) [ inl e ↦ subst P e a.0 | inr j ↦ all_at P ys x a.1 j ]
-
--- and of the one that is read
-pub all_got : {X : Type 0} (P : X → Type 0) (xs : List X) (i : ℕ) (x : X) → slice_get xs i ≡ Some x → AllByRecursion P xs → P x
-all_got P [] i x e a = absurd (cc e)
-all_got P (y ∷ ys) zero x e a = let same : y ≡ x = cc e in subst P same a.0
-all_got P (y ∷ ys) (suc i) x e a = all_got P ys i x e a.1

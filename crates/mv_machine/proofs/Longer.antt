@@ -5,7 +5,7 @@ use Rattle.std.proofs.lemmas.List.{take-append-le, drop-append-le, take_all, dro
 use Rattle.std.proofs.lemmas.Bool.{cases_eq, false≢true, ne_eqb}
 use Rattle.std.proofs.lemmas.List.Elements.{All-weaker, All-from_recursion}
 use Rattle.std.specs.List.{All, AllByRecursion}
-use Rattle.mv_machine.specs.Limits.{events_limit, highest_place}
+use Rattle.mv_config.specs.Limits.{events_limit, highest_place}
 use Rattle.mv_machine.specs.declared.entry.Entry.{Entry}
 use Rattle.mv_machine.specs.declared.entry.Object.{Object}
 use Rattle.mv_machine.specs.declared.entry.Object.TheVariants.{Ecb, Element, Volume, Latches}
@@ -15,7 +15,7 @@ use Rattle.mv_machine.specs.declared.packing.WordState.{WordState}
 use Rattle.mv_machine.specs.Legal.{IsNext, LegalFrom, Legal, SameAt, after, after_from, next, same_object, of, «at»}
 use Rattle.mv_machine.specs.Packing.{state_at, word_at}
 use Rattle.mv_machine.specs.Parts.{IsBelow, IsFrom, Had}
-use Rattle.mv_machine.specs.Setup.{Setup}
+use Rattle.mv_config.specs.Setup.{Setup}
 use Rattle.mv_machine.specs.System.{System, opening, place_of}
 use Rattle.mv_machine.specs.Told.{told_at, told_from}
 use Rattle.mv_machine.proofs.Budgets.{place_is_count, places_fit}

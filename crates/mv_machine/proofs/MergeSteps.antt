@@ -5,7 +5,8 @@ use Rattle.mv_machine.specs.declared.entry.Object.{Object}
 use Rattle.mv_machine.specs.declared.entry.Object.TheVariants.{Ecb, Element, Volume, Latches}
 use Rattle.mv_machine.specs.Legal.{IsNext, Legal, after}
 use Rattle.mv_machine.specs.Merge.{risen}
-use Rattle.mv_machine.specs.Setup.{Setup, IsObjectOf}
+use Rattle.mv_config.specs.Setup.{Setup}
+use Rattle.mv_machine.specs.Objects.{IsObjectOf}
 use Rattle.mv_machine.specs.State.{Exists, IsOpenedWith}
 use Rattle.mv_machine.specs.declared.state.State.{State}
 use Rattle.mv_machine.specs.System.{opening, place_of, after_step, wakes_after}

@@ -11,7 +11,7 @@ use Rattle.mv_machine.specs.declared.entry.Op.TheVariants as op_on
 use Rattle.mv_machine.specs.Legal.{Legal, LegalFrom, IsNext, after, next, same_object, of, «at»}
 use Rattle.mv_machine.specs.Merge.{start, risen, merge_from, entry_count, merged}
 use Rattle.mv_machine.specs.Parts.{parts_from, parts, Had}
-use Rattle.mv_machine.specs.Setup.{Setup}
+use Rattle.mv_config.specs.Setup.{Setup}
 use Rattle.mv_machine.specs.System.{System, opening, place_of, admitted}
 use Rattle.mv_machine.specs.Told.{told}
 use Rattle.mv_machine.proofs.Histories.{place-moved, zero_place}

@@ -13,7 +13,7 @@ use Rattle.mv_machine.specs.declared.entry.Op.TheVariants as op_on
 use Rattle.mv_machine.specs.declared.entry.Reply.{Reply}
 use Rattle.mv_machine.specs.declared.entry.Entry.{Entry}
 use Rattle.mv_machine.specs.Told.{told_at, told_from}
-use Rattle.mv_machine.specs.Setup.{Setup}
+use Rattle.mv_config.specs.Setup.{Setup}
 use Rattle.mv_machine.specs.System.{System, moved, place_of, advanced, volume_step}
 use Rattle.mv_machine.specs.Legal.{IsNext, next, after_from, LegalFrom, same_object, SameAt, of, «at», CountsFrom}
 use Rattle.mv_machine.proofs.EntryRuns.{entry_of}

@@ -6,7 +6,7 @@ use Rattle.std.proofs.lemmas.List.Sums.{sum_by-cons}
 use Rattle.std.specs.List.{AllByRecursion}
 use mathlib.Core.Logic.{dite}
 use native.Mathlib.Decide.{ℕ_discrete}
-use Rattle.mv_machine.specs.Limits.{events_limit}
+use Rattle.mv_config.specs.Limits.{events_limit}
 use Rattle.mv_machine.specs.declared.entry.Entry.{Entry}
 use Rattle.mv_machine.specs.declared.entry.Object.{Object}
 use Rattle.mv_machine.specs.declared.entry.Object.TheVariants.{Ecb, Element, Volume, Latches}
@@ -15,12 +15,13 @@ use Rattle.mv_machine.specs.declared.entry.Op.TheVariants as op_on
 use Rattle.mv_machine.specs.Legal.{Legal, LegalFrom, next, of}
 use Rattle.mv_machine.specs.Merge.{entry_count, merged, AreOneHistory}
 use Rattle.mv_machine.specs.Parts.{parts_from, parts, KeepsBudgets}
-use Rattle.mv_machine.specs.Setup.{Setup, IsObjectOf}
+use Rattle.mv_config.specs.Setup.{Setup}
+use Rattle.mv_machine.specs.Objects.{IsObjectOf}
 use Rattle.mv_machine.specs.System.{System, opening, admitted}
 use Rattle.mv_machine.proofs.Merged.{merged_legal, merged_callers, total_parts}
 use Rattle.mv_machine.proofs.Places.{of_mine, of_other}
-use Rattle.mv_machine.proofs.Validity.{budgets_kept}
-use Rattle.mv_machine.specs.Check.{IsValid}
+use Rattle.mv_config.proofs.Validity.{budgets_kept}
+use Rattle.mv_config.specs.Check.{IsValid}
 
 -- ---- a history within the budgets is within their sum
 total_from : (n k : ℕ) (es : List Entry) (bs : List ℕ) → ((j : ℕ) → k ≤ j → j < k + n → length (of j es) ≤ get_or bs (j - k) 0)

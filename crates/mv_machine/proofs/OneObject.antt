@@ -6,7 +6,7 @@ use Rattle.mv_machine.specs.declared.entry.Object.{Object}
 use Rattle.mv_machine.specs.declared.entry.Op.{Op}
 use Rattle.mv_machine.specs.Elements.{Event}
 use Rattle.mv_machine.specs.Legal.{IsNext, next, same_object, LegalFrom}
-use Rattle.mv_machine.specs.Setup.{Setup}
+use Rattle.mv_config.specs.Setup.{Setup}
 use Rattle.mv_machine.specs.System.{System, Cell, advanced}
 
 -- what an event does to a state: its caller and its place, the operation, the state

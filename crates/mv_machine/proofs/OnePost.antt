@@ -12,7 +12,7 @@ use Rattle.mv_machine.specs.declared.entry.Entry.{Entry}
 use Rattle.mv_machine.specs.Legal.{Legal}
 use Rattle.mv_machine.specs.OnePost.{EcbEvent, ecb_events, clears, taken_code, taken, EndsCleared, TakesOnePost}
 use Rattle.mv_machine.specs.OnePost.{TakePosts}
-use Rattle.mv_machine.specs.Setup.{Setup}
+use Rattle.mv_config.specs.Setup.{Setup}
 use Rattle.mv_machine.specs.System.{Cell, opening}
 use Rattle.mv_machine.proofs.Subjects.{block, ecb_table, block_meets}
 use Rattle.mv_machine.proofs.OneObject.{IsAnsweredBy, next_cell, cell_after, RunFrom, RunFrom-front}

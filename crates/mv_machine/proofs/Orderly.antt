@@ -25,9 +25,9 @@ use Rattle.mv_machine.specs.declared.entry.Reply.{Reply}
 use Rattle.mv_machine.specs.declared.entry.Reply.TheVariants as reply_of
 use Rattle.mv_machine.specs.Legal.{IsNext, next, Legal, LegalFrom, after}
 use Rattle.mv_machine.specs.Orderly.{queue, obtained_by, purged_by, AreOrderlyLatches, IsOrderly}
-use Rattle.mv_machine.specs.Setup.{Setup}
+use Rattle.mv_config.specs.Setup.{Setup}
 use Rattle.mv_machine.specs.System.{System, opening, moved}
-use Rattle.mv_machine.proofs.Chains.{all_set}
+use Rattle.mv_config.proofs.Chains.{all_set}
 use Rattle.mv_machine.proofs.ElementRuns.{elements_are_orderly}
 use Rattle.mv_machine.proofs.EntryRuns.{entry_of, along, at_end}
 use Rattle.mv_machine.proofs.Grants.{granted_next}

@@ -19,7 +19,7 @@ use Rattle.mv_machine.specs.declared.entry.Reply.{Reply}
 use Rattle.mv_machine.specs.Elements.{Event}
 use Rattle.mv_machine.specs.Legal.{IsNext, next, Legal, after, same_object, of}
 use Rattle.mv_machine.specs.Owned.{owner_at, is_owners, is_clear, HasNo}
-use Rattle.mv_machine.specs.Setup.{Setup, owner_of, element_owner}
+use Rattle.mv_config.specs.Setup.{Setup, owner_of, element_owner}
 use Rattle.mv_machine.specs.System.{System, ecb_admitted, element_admitted}
 use Rattle.mv_machine.proofs.EntryRuns.{entry_of, along, rest_is_legal, at_end}
 use Rattle.mv_machine.proofs.Objects.{same_is}

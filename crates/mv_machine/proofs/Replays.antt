@@ -6,7 +6,7 @@ use Rattle.std.proofs.lemmas.List.{take_more, drop_more, take-append-drop, lengt
 use Rattle.mv_ecb.specs.declared.operation.EcbOp.TheVariants.{Arm}
 use Rattle.mv_ecb.specs.declared.operation.EcbReply.TheVariants.{Armed}
 use Rattle.mv_latch.specs.declared.operation.Wake.{Wake}
-use Rattle.mv_machine.specs.Limits.{highest_place, place_limit}
+use Rattle.mv_config.specs.Limits.{highest_place, place_limit}
 use Rattle.mv_machine.specs.declared.entry.Entry.{Entry}
 use Rattle.mv_machine.specs.declared.entry.Object.{Object}
 use Rattle.mv_machine.specs.declared.entry.Object.TheVariants.{Ecb, Element, Volume, Latches}
@@ -17,7 +17,7 @@ use Rattle.mv_machine.specs.declared.entry.Reply.TheVariants as reply_of
 use Rattle.mv_machine.specs.declared.replaying.Illegal.{Illegal}
 use Rattle.mv_machine.specs.Legal.{IsNext, next, LegalFrom, after_from, same_object}
 use Rattle.mv_machine.specs.Replay.{IsFirstIllegal}
-use Rattle.mv_machine.specs.Setup.{Setup}
+use Rattle.mv_config.specs.Setup.{Setup}
 use Rattle.mv_machine.specs.System.{System, opening, admitted, answer, after_step, wakes_after, place_of, reply_to}
 use Rattle.mv_machine.specs.Told.{shown_after, last_wakes_from}
 use Rattle.mv_machine.proofs.Histories.{after_from-append, LegalFrom-append, LegalFrom-rest, place-moved}

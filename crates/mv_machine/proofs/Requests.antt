@@ -23,9 +23,9 @@ use Rattle.mv_machine.specs.declared.entry.Op.{Op}
 use Rattle.mv_machine.specs.declared.entry.Op.TheVariants as op_on
 use Rattle.mv_machine.specs.declared.entry.Reply.{Reply}
 use Rattle.mv_machine.specs.Legal.{IsNext, Legal, after}
-use Rattle.mv_machine.specs.Setup.{Setup, owner_of}
+use Rattle.mv_config.specs.Setup.{Setup, owner_of}
 use Rattle.mv_machine.specs.System.{System, opening, moved, latches_of, posts_own_ecb}
-use Rattle.mv_machine.proofs.Chains.{all_set}
+use Rattle.mv_config.proofs.Chains.{all_set}
 use Rattle.mv_machine.proofs.Lists.{all_push}
 use Rattle.mv_machine.proofs.EntryRuns.{entry_of, along_all}
 use Rattle.mv_machine.proofs.StandingRuns.{NamesLatch, names_latch}

@@ -7,7 +7,7 @@ use Rattle.mv_machine.specs.declared.packing.WordState.TheVariants as word_state
 use Rattle.mv_machine.specs.Merge.{merged}
 use Rattle.mv_machine.specs.Packing.{pack, unpack, state_at}
 use Rattle.mv_machine.specs.Parts.{parts, Had}
-use Rattle.mv_machine.specs.Reach.{reach, release_cost}
+use Rattle.mv_config.specs.Reach.{reach, release_cost}
 use Rattle.mv_ecb.specs.declared.operation.EcbOp.{EcbOp}
 use Rattle.mv_ecb.specs.declared.operation.EcbOp.TheVariants as ecb_op
 use Rattle.mv_ecb.specs.declared.operation.EcbReply.{EcbReply}
@@ -20,19 +20,19 @@ use Rattle.mv_latch.specs.declared.operation.LatchOp.TheVariants.{Obtain, Releas
 use Rattle.mv_latch.specs.declared.operation.LatchReply.TheVariants.{Granted, Queued, Released}
 use Rattle.mv_latch.specs.declared.request.LatchForm.TheVariants.{Waiting}
 use Rattle.mv_latch.specs.declared.request.Mode.TheVariants.{Exclusive}
-use Rattle.mv_machine.specs.declared.config.CheckRefusal.TheVariants.{BadExit, Budget, BadOwner}
+use Rattle.mv_config.specs.declared.config.CheckRefusal.TheVariants.{BadExit, Budget, BadOwner}
 use Rattle.mv_machine.specs.declared.entry.Entry.{Entry}
 use Rattle.mv_machine.specs.declared.entry.Object.TheVariants.{Ecb, Element, Volume, Latches}
 use Rattle.mv_machine.specs.declared.entry.Op.TheVariants as op_on
 use Rattle.mv_machine.specs.declared.entry.Reply.TheVariants as reply_of
 use Rattle.mv_machine.specs.declared.entry.VolumeOp.TheVariants.{Read, Write}
 use Rattle.mv_machine.specs.declared.entry.VolumeReply.TheVariants.{Value, Stored}
-use Rattle.mv_machine.specs.Check.{refusal_of}
+use Rattle.mv_config.specs.Check.{refusal_of}
 use Rattle.mv_machine.specs.Elements.{ElementEvent, element_events, givens, releases}
 use Rattle.mv_machine.specs.Legal.{Legal, after}
 use Rattle.mv_machine.specs.OnePost.{ecb_events, taken}
 use Rattle.mv_machine.specs.Orderly.{IsOrderly, IsExact}
-use Rattle.mv_machine.specs.Setup.{Setup}
+use Rattle.mv_config.specs.Setup.{Setup}
 use Rattle.mv_machine.specs.System.{opening, answer, after_step}
 use Rattle.mv_machine.specs.Told.{told}
 

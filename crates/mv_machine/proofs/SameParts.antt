@@ -5,7 +5,7 @@ use Rattle.mv_machine.specs.declared.entry.Object.{Object}
 use Rattle.mv_machine.specs.declared.entry.Object.TheVariants.{Ecb, Element, Volume, Latches}
 use Rattle.mv_machine.specs.Legal.{Legal, SameAt, after, of, «at»}
 use Rattle.mv_machine.specs.Parts.{Had}
-use Rattle.mv_machine.specs.Setup.{Setup}
+use Rattle.mv_config.specs.Setup.{Setup}
 use Rattle.mv_machine.specs.System.{System, opening}
 use Rattle.mv_machine.specs.Told.{told}
 use Rattle.mv_machine.proofs.Objects.{part_is_legal, legal_from_parts, same_parts_legal, after_part, told_by_part, same_flip, same_trans}

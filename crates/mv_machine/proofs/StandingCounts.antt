@@ -10,7 +10,7 @@ use Rattle.mv_latch.specs.Request.{is_posted, of_caller, posted_of}
 use Rattle.mv_machine.specs.declared.entry.Entry.{Entry}
 use Rattle.mv_machine.specs.Kept.{StandingRequest, standing, is_posting}
 use Rattle.mv_machine.specs.Legal.{Legal, after, of}
-use Rattle.mv_machine.specs.Setup.{Setup}
+use Rattle.mv_config.specs.Setup.{Setup}
 use Rattle.mv_machine.proofs.LatchRuns.{list_at}
 use Rattle.mv_machine.proofs.Standing.{stood, Within, within_kept, mine, mine_within_left, all_left}
 use Rattle.mv_machine.proofs.StandingRuns.{stand}

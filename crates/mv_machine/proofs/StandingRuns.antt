@@ -24,7 +24,7 @@ use Rattle.mv_machine.specs.declared.entry.Reply.{Reply}
 use Rattle.mv_machine.specs.declared.entry.Reply.TheVariants as reply_of
 use Rattle.mv_machine.specs.Kept.{StandingRequest, stands_after, stands_with, standing_from, standing}
 use Rattle.mv_machine.specs.Legal.{IsNext, next, after_from, LegalFrom, Legal, after, of}
-use Rattle.mv_machine.specs.Setup.{Setup}
+use Rattle.mv_config.specs.Setup.{Setup}
 use Rattle.mv_machine.specs.System.{System, opening, moved, latches_of, admitted}
 use Rattle.mv_machine.proofs.EntryRuns.{entry_of}
 use Rattle.mv_machine.proofs.LatchRuns.{list_at, empty_list}

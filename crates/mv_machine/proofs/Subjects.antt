@@ -19,7 +19,7 @@ use Rattle.mv_machine.specs.declared.entry.Entry.{Entry}
 use Rattle.mv_machine.specs.Elements.{as_element_event}
 use Rattle.mv_machine.specs.Legal.{IsNext}
 use Rattle.mv_machine.specs.OnePost.{as_ecb_event}
-use Rattle.mv_machine.specs.Setup.{Setup}
+use Rattle.mv_config.specs.Setup.{Setup}
 use Rattle.mv_machine.specs.System.{System}
 use Rattle.mv_machine.proofs.EntryRuns.{entry_of}
 use Rattle.mv_machine.proofs.OneObject.{Table, Subject, PassesBy, HappensAt}

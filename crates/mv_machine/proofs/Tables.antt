@@ -5,7 +5,7 @@ use Rattle.std.proofs.lemmas.Bool.{cases_eq, cases_lt}
 use Rattle.std.proofs.lemmas.List.{get_or-set_same, get_or-set_other, get_or-replicate, get_or_past, length-replicate}
 use Rattle.mv_machine.specs.System.{opening, with_at}
 use Rattle.mv_machine.specs.declared.state.State.{State}
-use Rattle.mv_machine.specs.Setup.{Setup}
+use Rattle.mv_config.specs.Setup.{Setup}
 use Rattle.mv_machine.specs.State.{table, system_of, ecb_cell, no_ecb, element_cell, no_element, volume_cell, no_volume}
 
 at_one : {A B : Type 0} (view : A → B) (d : A) (xs : List A) (n : ℕ) (a : A) (k : ℕ) → n < length xs

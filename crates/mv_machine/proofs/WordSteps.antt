@@ -11,7 +11,7 @@ use Rattle.mv_machine.specs.declared.entry.Op.{Op}
 use Rattle.mv_machine.specs.declared.entry.Op.TheVariants as op_on
 use Rattle.mv_machine.specs.declared.packing.WordState.TheVariants as state
 use Rattle.mv_machine.specs.Packing.{HasOpFields, state_at, state_after, reply_in}
-use Rattle.mv_machine.specs.Setup.{Setup}
+use Rattle.mv_config.specs.Setup.{Setup}
 use Rattle.mv_machine.specs.System.{System, admitted, ecb_admitted, element_admitted, reply_to, moved, place_of, advanced, volume_step}
 use Rattle.mv_machine.proofs.Histories.{with_at-own}
 

@@ -13,7 +13,7 @@ use Rattle.mv_element.specs.declared.element.Phase.{Phase}
 use Rattle.mv_element.specs.declared.element.Phase.TheVariants.{Free, Reset, Prereleased, Paused, Released}
 use Rattle.mv_element.specs.declared.operation.ElementOp.{ElementOp}
 use Rattle.mv_element.proofs.States.{same_state}
-use Rattle.mv_machine.specs.Limits.{events_limit, highest_generation}
+use Rattle.mv_config.specs.Limits.{events_limit, highest_generation}
 use Rattle.mv_machine.specs.declared.entry.Entry.{Entry}
 use Rattle.mv_machine.specs.declared.entry.Object.{Object}
 use Rattle.mv_machine.specs.declared.entry.Object.TheVariants.{Ecb, Element, Volume, Latches}
@@ -26,7 +26,7 @@ use Rattle.mv_machine.specs.Elements.{only_if}
 use Rattle.mv_machine.specs.Legal.{Legal, LegalFrom, after, after_from, next}
 use Rattle.mv_machine.specs.Packing.{HasFields, IsBlock, IsStateOf, pack, phase_number, state_bits, state_in, element_in, unpack}
 use Rattle.mv_machine.specs.Packing.{state_at, word_at}
-use Rattle.mv_machine.specs.Setup.{Setup}
+use Rattle.mv_config.specs.Setup.{Setup}
 use Rattle.mv_machine.specs.System.{System, opening, admitted, ecb_admitted, element_admitted, volume_admitted, volume_step, moved}
 use Rattle.mv_machine.specs.System.{place_of}
 use Rattle.mv_machine.proofs.Budgets.{places_fit, no_high_generation}

@@ -26,7 +26,7 @@ use Rattle.mv_machine.specs.declared.state.EcbCell.{EcbCell}
 use Rattle.mv_machine.specs.declared.state.ElementCell.{ElementCell}
 use Rattle.mv_machine.specs.declared.state.VolumeCell.{VolumeCell}
 use Rattle.mv_machine.specs.declared.state.State.{State}
-use Rattle.mv_machine.specs.Setup.{Setup}
+use Rattle.mv_config.specs.Setup.{Setup}
 use Rattle.mv_machine.specs.System.{System, latches_of, admitted, answer, moved, after_step, wakes_after, with_at, advanced, volume_step}
 use Rattle.mv_machine.specs.State.{IsOpenedWith, IsStep, system_of, wakes_of, ecb_cell, no_ecb, element_cell, no_element, volume_cell}
 use Rattle.mv_machine.specs.State.{no_volume}

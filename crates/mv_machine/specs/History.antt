@@ -1,7 +1,7 @@
 -- How contracts see the one history of some callers, which is kept as the callers' logs and gives its entries one by one.
 use Rattle.std.specs.Prelude.{◌≡◌, List, [], ◌∷◌, ◌++◌, Contains}
 use Rattle.mv_machine.specs.declared.entry.Entry.{Entry}
-use Rattle.mv_machine.specs.Setup.{Setup}
+use Rattle.mv_config.specs.Setup.{Setup}
 
 -- a history's configuration, the entries that were given, and those that are still to come
 pub record HistoryFace : Type 0 where

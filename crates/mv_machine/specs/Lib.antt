@@ -1,16 +1,10 @@
-pub mod Limits
-pub mod Setup
-pub mod Config
-pub mod Check
+pub mod Objects
 pub mod System
 pub mod Legal
 pub mod Told
 pub mod Elements
 pub mod OnePost
 pub mod State
-pub mod Reach
-pub mod Chains
-pub mod Valid
 pub mod Replay
 pub mod Packing
 pub mod Parts

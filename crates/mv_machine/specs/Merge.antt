@@ -4,7 +4,7 @@ use Rattle.mv_machine.specs.declared.entry.Entry.{Entry}
 use Rattle.mv_machine.specs.declared.entry.Object.{Object}
 use Rattle.mv_machine.specs.Legal.{Legal, same_object}
 use Rattle.mv_machine.specs.Parts.{parts, KeepsBudgets}
-use Rattle.mv_machine.specs.Setup.{Setup}
+use Rattle.mv_config.specs.Setup.{Setup}
 
 -- the next place of each object
 abbrev pub Places : Type 0

@@ -12,7 +12,7 @@ use Rattle.mv_machine.specs.declared.entry.Object.TheVariants.{Ecb, Element, Vol
 use Rattle.mv_machine.specs.declared.entry.Op.{Op}
 use Rattle.mv_machine.specs.declared.entry.Op.TheVariants as op_on
 use Rattle.mv_machine.specs.Legal.{same_object}
-use Rattle.mv_machine.specs.Setup.{Setup, owner_of, element_owner}
+use Rattle.mv_config.specs.Setup.{Setup, owner_of, element_owner}
 use Rattle.mv_machine.specs.System.{System}
 
 -- the owner of an object. Volumes and the latch set have none

@@ -7,7 +7,7 @@ use Rattle.mv_machine.specs.declared.entry.Object.{Object}
 use Rattle.mv_machine.specs.declared.packing.WordState.{WordState}
 use Rattle.mv_machine.specs.Legal.{Legal, after, of, «at»}
 use Rattle.mv_machine.specs.Packing.{unpack, state_at}
-use Rattle.mv_machine.specs.Setup.{Setup}
+use Rattle.mv_config.specs.Setup.{Setup}
 use Rattle.mv_machine.specs.Told.{told}
 
 -- the parts of n callers, from caller k on

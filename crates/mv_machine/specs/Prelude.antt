@@ -14,10 +14,10 @@ pub use Rattle.mv_latch.specs.Latch.{granted, is_settled}
 pub use Rattle.mv_latch.specs.LatchSet.{IsNewId, count_in, latch_step, list_of, wakes}
 pub use Rattle.mv_latch.specs.Request.{has_id, of_caller, posted_of}
 -- ---- configurations
-pub use Rattle.mv_machine.specs.Check.{IsValid, is_valid, refusal_of}
-pub use Rattle.mv_machine.specs.Limits.{ecbs_limit, events_limit, highest_generation, highest_place}
-pub use Rattle.mv_machine.specs.Reach.{reach, total}
-pub use Rattle.mv_machine.specs.Setup.{Setup, element_owner, is_exit_of, is_on_exit, owner_of, targets_of}
+pub use Rattle.mv_config.specs.Check.{IsValid}
+pub use Rattle.mv_config.specs.Limits.{ecbs_limit, events_limit, highest_generation, highest_place}
+pub use Rattle.mv_config.specs.Reach.{reach, total}
+pub use Rattle.mv_config.specs.Setup.{Setup, element_owner, is_exit_of, is_on_exit, owner_of, targets_of}
 -- ---- entries and histories
 pub use Rattle.mv_machine.specs.declared.entry.Entry.{Entry}
 pub use Rattle.mv_machine.specs.declared.entry.Object.{Object}

@@ -5,7 +5,7 @@ use Rattle.mv_machine.specs.declared.replaying.Illegal.{Illegal}
 use Rattle.mv_machine.specs.declared.replaying.ReplayRefusal.{ReplayRefusal}
 use Rattle.mv_machine.specs.declared.replaying.ReplayRefusal.TheVariants as refusal
 use Rattle.mv_machine.specs.Legal.{LegalFrom, after_from}
-use Rattle.mv_machine.specs.Setup.{Setup}
+use Rattle.mv_config.specs.Setup.{Setup}
 use Rattle.mv_machine.specs.System.{System, answer, opening}
 
 -- the entries before this one are legal, and at this one the machine's answer is not the place and the reply that were kept

@@ -6,9 +6,9 @@ use Rattle.mv_machine.specs.declared.merging.MergeRoom.{MergeRoom}
 use Rattle.mv_machine.specs.declared.merging.Picked.{Picked}
 use Rattle.mv_machine.specs.History.{HistoryFace}
 use Rattle.mv_machine.specs.Legal.{after}
-use Rattle.mv_machine.specs.Limits.{events_limit}
+use Rattle.mv_config.specs.Limits.{events_limit}
 use Rattle.mv_machine.specs.Merge.{Places, pick, merged, merge_from, entry_count, AreOneHistory}
-use Rattle.mv_machine.specs.Setup.{Setup}
+use Rattle.mv_config.specs.Setup.{Setup}
 use Rattle.mv_machine.specs.State.{IsOpenedWith, system_of, wakes_of}
 use Rattle.mv_machine.specs.System.{opening, place_of}
 use Rattle.mv_machine.specs.Told.{last_wakes}

@@ -14,7 +14,7 @@ use Rattle.mv_machine.specs.declared.state.ElementCell.{ElementCell}
 use Rattle.mv_machine.specs.declared.state.State.{State}
 use Rattle.mv_machine.specs.declared.state.VolumeCell.{VolumeCell}
 use Rattle.mv_machine.specs.Elements.{FitsItsPlace}
-use Rattle.mv_machine.specs.Setup.{Setup, element_count}
+use Rattle.mv_config.specs.Setup.{Setup, element_count}
 use Rattle.mv_machine.specs.System.{System, Cell, latches_of, answer, after_step, wakes_after}
 
 -- the cell of a block that does not exist, with which a table of blocks is filled up

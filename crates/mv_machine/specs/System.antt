@@ -27,7 +27,7 @@ use Rattle.mv_machine.specs.declared.entry.VolumeOp.{VolumeOp}
 use Rattle.mv_machine.specs.declared.entry.VolumeOp.TheVariants.{Read, Write}
 use Rattle.mv_machine.specs.declared.entry.VolumeReply.{VolumeReply}
 use Rattle.mv_machine.specs.declared.entry.VolumeReply.TheVariants.{Value, Stored}
-use Rattle.mv_machine.specs.Setup.{Setup, owner_of, element_count, element_owner, is_exit_of}
+use Rattle.mv_config.specs.Setup.{Setup, owner_of, element_count, element_owner, is_exit_of}
 
 -- an object's place and state
 pub record Cell (A : Type 0) : Type 0 where

@@ -5,7 +5,7 @@ ghost use Rattle.std.specs.Prelude.{◌≡◌, ◌<◌, length};
 ghost use Rattle.mv_machine.specs.System.{ecb_admitted, element_admitted};
 ghost use Rattle.mv_machine.specs.System.{posts_own_ecb as posts_own_ecb_of, names_own_ecb as names_own_ecb_of};
 
-use crate::valid::ValidConfig;
+use mv_config::ValidConfig;
 use mv_ecb::{CODE_LIMIT, EcbOp};
 use mv_element::{ElementOp, RELEASE_LIMIT};
 use mv_latch::{LatchForm, LatchOp};

@@ -1,9 +1,8 @@
-//! Laws of configurations, by specs/Check.antt, and of whole histories: generations, places, parts, words, owners and requests,
-//! by specs/Elements.antt, OnePost.antt, Parts.antt, Merge.antt, Packing.antt, Owned.antt, Kept.antt and Orderly.antt. A law has
-//! no body: call it for its clauses.
+//! Laws of whole histories: generations, places, parts, words, owners and requests, by specs/Elements.antt, OnePost.antt,
+//! Parts.antt, Merge.antt, Packing.antt, Owned.antt, Kept.antt and Orderly.antt. A law has no body: call it for its clauses.
 
 ghost use Rattle.std.specs.Prelude.{◌≡◌, ◌↔◌, ◌⊎◌, ◌<◌, ◌≤◌, ◌++◌, ◌∷◌, ◌+◌, ◌^◌, ℕ, true, false, List, [], length, filter, Some};
-ghost use Rattle.std.specs.Prelude.{is_some, not, option_map, option_and_then, IfSome, IsSome};
+ghost use Rattle.std.specs.Prelude.{option_map, option_and_then, IfSome, IsSome};
 ghost use Rattle.std.specs.List.{All, Contains};
 ghost use Rattle.mv_machine.specs.Prelude.{Complete, Free, Prereleased, Released, Request, granted, count_in, list_of, IsNewId, has_id};
 ghost use Rattle.mv_machine.specs.Prelude.{of_caller, posted_of, Entry, Object, Ecb, Element, Latches, Op, WordState, IsValid};
@@ -12,12 +11,7 @@ ghost use Rattle.mv_machine.specs.Prelude.{SameAt, same_object, after, of, «at�
 ghost use Rattle.mv_machine.specs.Prelude.{highest_generation, merged, merge_from, start, entry_count, TakePosts, IsOrderly, owner_at};
 ghost use Rattle.mv_machine.specs.Prelude.{is_owners, is_clear, HasNo, IsGranted, IsGone, HasFields, IsStateOf, HasOpFields, pack};
 ghost use Rattle.mv_machine.specs.Prelude.{unpack, state_at, word_at, state_after, reply_in, parts, KeepsBudgets, Had, Setup, owner_of};
-ghost use Rattle.mv_machine.specs.Prelude.{element_owner, System, place_of, admitted, reply_to, moved, told, is_valid, refusal_of};
-
-/// Shows that a configuration is refused exactly if it does not pass the test `is_valid`.
-pub fn refused_configurations_are_not_valid()
-    ensures { (c : Setup) → is_some (refusal_of c) ≡ not (is_valid c) }
-{}
+ghost use Rattle.mv_machine.specs.Prelude.{element_owner, System, place_of, admitted, reply_to, moved, told};
 
 /// Shows that after every legal list an element's place is at least twice its generation plus the extra of its phase. So within
 /// the events that the budgets of a run may allow, no object's place is above 524,287, no entry's place is above 524,286, and

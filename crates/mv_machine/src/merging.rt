@@ -14,7 +14,7 @@ ghost use Rattle.mv_machine.specs.Told.{last_wakes};
 use crate::entry::Entry;
 use crate::log::Log;
 use crate::state::State;
-use crate::valid::ValidConfig;
+use mv_config::ValidConfig;
 use mv_io::NoMemory;
 use std::alloc::Global;
 use std::marker::Model;

@@ -2,7 +2,7 @@
 
 ghost use Rattle.std.specs.Prelude.{◌≡◌, ◌<◌, ◌^◌, IfSome};
 ghost use Rattle.mv_element.specs.Table.{release_limit};
-ghost use Rattle.mv_machine.specs.Limits.{place_limit};
+ghost use Rattle.mv_config.specs.Limits.{place_limit};
 ghost use Rattle.mv_machine.specs.Packing.{HasFields, HasOpFields, state_step, pack as pack_of, state_bits};
 ghost use Rattle.mv_machine.specs.Packing.{phase_number as number_of, unpack as unpack_of, state_in as state_by_bits};
 ghost use Rattle.mv_machine.specs.Packing.{element_in as element_by_fields};

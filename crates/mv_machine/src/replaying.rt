@@ -4,7 +4,7 @@
 ghost use Rattle.std.specs.Prelude.{◌≡◌, ◌≢◌, ◌<◌, ◌≤◌, ◌↔◌, IsTrue, MatchOption, OnOk, IfOk, IfErr, All, Some};
 ghost use Rattle.mv_machine.specs.declared.entry.Object.{Object as AnyObject};
 ghost use Rattle.mv_machine.specs.Legal.{Legal, LegalFrom, after, after_from};
-ghost use Rattle.mv_machine.specs.Limits.{highest_place, place_limit};
+ghost use Rattle.mv_config.specs.Limits.{highest_place, place_limit};
 ghost use Rattle.mv_machine.specs.OnePost.{TakePosts};
 ghost use Rattle.mv_machine.specs.Orderly.{IsOrderly};
 ghost use Rattle.mv_machine.specs.Replay.{IsFirstIllegal, IsRefused};
@@ -14,7 +14,7 @@ ghost use Rattle.mv_machine.specs.Told.{last_wakes, last_wakes_from};
 
 use crate::entry::{Entry, Reply};
 use crate::state::State;
-use crate::valid::ValidConfig;
+use mv_config::ValidConfig;
 use mv_io::NoMemory;
 use std::alloc::Global;
 use thiserror::Error;

@@ -2,14 +2,15 @@
 
 ghost use Rattle.std.specs.Prelude.{◌≡◌, ◌<◌, ◌≤◌, [], IfOk, IsTrue, ◌↔◌};
 ghost use Rattle.mv_latch.specs.LatchSet.{list_of};
-ghost use Rattle.mv_machine.specs.Limits.{highest_place, place_limit};
+ghost use Rattle.mv_config.specs.Limits.{highest_place, place_limit};
 ghost use Rattle.mv_machine.specs.System.{answer, after_step, place_of, volume_step};
 ghost use Rattle.mv_machine.specs.System.{wakes_after, opening as opening_of};
 ghost use Rattle.mv_machine.specs.State.{system_of, wakes_of, IsOpenedWith, IsStep, Exists, HasLatch};
 
 use crate::admission::{admits_ecb, admits_element, posts_own_ecb};
 use crate::entry::{Object, Op, Reply, VolumeOp, VolumeReply};
-use crate::valid::ValidConfig;
+use crate::latches::open_latches;
+use mv_config::ValidConfig;
 use mv_ecb::{EcbOp, EcbWord, ecb_apply};
 use mv_element::{ElementOp, ElementState, element_apply};
 use mv_io::NoMemory;
@@ -77,7 +78,7 @@ impl State {
             number: 0,
         };
         let volumes = vec![in alloc; empty; given.volumes as usize]?;
-        let latches = config.open_latches(alloc)?;
+        let latches = open_latches(alloc, config)?;
         let wakes = Vec::with_capacity(alloc, config.most_wakes())?;
         Ok(State {
             ecbs,

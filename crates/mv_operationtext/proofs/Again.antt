@@ -26,7 +26,7 @@ use Rattle.mv_machine.specs.declared.entry.VolumeOp.{VolumeOp}
 use Rattle.mv_machine.specs.declared.entry.VolumeOp.TheVariants.{Read, Write}
 use Rattle.mv_machine.specs.declared.entry.VolumeReply.{VolumeReply}
 use Rattle.mv_machine.specs.declared.entry.VolumeReply.TheVariants.{Value, Stored}
-use Rattle.mv_machine.specs.Limits.{highest_generation}
+use Rattle.mv_config.specs.Limits.{highest_generation}
 use Rattle.mv_operationtext.specs.Words.{◌<+>◌}
 use Rattle.mv_operationtext.specs.Reading.{behind, after, number, any_u32, any_u64, parted, parted_by}
 use Rattle.mv_operationtext.specs.Ranges.{highest_u32, highest_u64, highest_ecb_code, highest_release_code}

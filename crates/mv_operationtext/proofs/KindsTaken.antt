@@ -39,7 +39,7 @@ use Rattle.mv_machine.specs.declared.entry.Op.TheVariants as op_on
 use Rattle.mv_machine.specs.declared.entry.Reply.{Reply}
 use Rattle.mv_machine.specs.declared.entry.Reply.TheVariants as reply_of
 use Rattle.mv_machine.specs.declared.entry.Entry.{Entry}
-use Rattle.mv_machine.specs.Limits.{highest_generation, highest_place}
+use Rattle.mv_config.specs.Limits.{highest_generation, highest_place}
 use Rattle.mv_operationtext.specs.Reading.{Reader}
 use Rattle.mv_operationtext.proofs.OneCallNumber.{IsCallIn}
 use Rattle.mv_operationtext.proofs.Again.{state_text, highest_kept-le}

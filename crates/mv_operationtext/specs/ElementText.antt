@@ -10,7 +10,7 @@ use Rattle.mv_element.specs.declared.operation.ElementOp.TheVariants.{Open, Paus
 use Rattle.mv_element.specs.declared.operation.ElementReply.{ElementReply}
 use Rattle.mv_element.specs.declared.operation.ElementReply.TheVariants.{Opened, InUse, Parked, Given, Spent, Busy, NotYet, Early, Woke}
 use Rattle.mv_element.specs.declared.operation.ElementReply.TheVariants.{Already, Closed, State}
-use Rattle.mv_machine.specs.Limits.{highest_generation}
+use Rattle.mv_config.specs.Limits.{highest_generation}
 use Rattle.mv_operationtext.specs.Ranges.{highest_u32, highest_release_code}
 use Rattle.mv_operationtext.specs.Words.{◌<+>◌}
 use Rattle.mv_operationtext.specs.Reading.{Reader, word, behind, ◌or◌, made, parted, parted_by, number, any_u32}

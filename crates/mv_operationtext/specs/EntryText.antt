@@ -7,7 +7,7 @@ use Rattle.mv_machine.specs.declared.entry.Op.TheVariants as op_on
 use Rattle.mv_machine.specs.declared.entry.Reply.{Reply}
 use Rattle.mv_machine.specs.declared.entry.Reply.TheVariants as reply_of
 use Rattle.mv_machine.specs.declared.entry.Entry.{Entry}
-use Rattle.mv_machine.specs.Limits.{highest_place}
+use Rattle.mv_config.specs.Limits.{highest_place}
 use Rattle.mv_operationtext.specs.Ranges.{highest_u32}
 use Rattle.mv_operationtext.specs.Words.{◌<+>◌}
 use Rattle.mv_operationtext.specs.Reading.{Reader, word, behind, ◌or◌, made, parted, parted_by, parted_at, number, any_u32}

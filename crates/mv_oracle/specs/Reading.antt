@@ -9,7 +9,7 @@ use Rattle.mv_machine.specs.declared.entry.Object.{Object}
 use Rattle.mv_machine.specs.declared.entry.Object.TheVariants.{Ecb, Element, Volume, Latches}
 use Rattle.mv_machine.specs.declared.entry.Reply.TheVariants as reply_of
 use Rattle.mv_machine.specs.declared.entry.VolumeReply.TheVariants as volume
-use Rattle.mv_machine.specs.Setup.{Setup, element_count}
+use Rattle.mv_config.specs.Setup.{Setup, element_count}
 use Rattle.mv_machine.specs.System.{System}
 use Rattle.mv_oracle.specs.declared.answer.Answer.{Answer}
 use Rattle.mv_oracle.specs.declared.latch.LatchRequest.{LatchRequest}

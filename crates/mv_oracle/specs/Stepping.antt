@@ -3,8 +3,8 @@ use Rattle.std.specs.Prelude.{◌≡◌, ℕ, ◌<◌, ◌≤◌, Option, Some, 
 use Rattle.mv_machine.specs.declared.entry.Object.{Object}
 use Rattle.mv_machine.specs.declared.entry.Op.{Op}
 use Rattle.mv_machine.specs.declared.entry.Reply.{Reply}
-use Rattle.mv_machine.specs.Limits.{highest_place}
-use Rattle.mv_machine.specs.Setup.{Setup}
+use Rattle.mv_config.specs.Limits.{highest_place}
+use Rattle.mv_config.specs.Setup.{Setup}
 use Rattle.mv_machine.specs.System.{answer, place_of}
 use Rattle.mv_oracle.specs.declared.answer.Answer.{Answer}
 use Rattle.mv_oracle.specs.Answer.{answer_of}

@@ -1,7 +1,7 @@
 //! The calls on a machine. Its clauses cite specs/Verdict, specs/Stepping and specs/Reading.
 
 ghost use Rattle.std.specs.Prelude.{◌≡◌, ◌≢◌, ◌≤◌, [], length, IfOk, IfErr};
-ghost use Rattle.mv_machine.specs.Setup.{Setup};
+ghost use Rattle.mv_config.specs.Setup.{Setup};
 ghost use Rattle.mv_replay.specs.Judgement.{journal_limit, IsReplayed};
 ghost use Rattle.mv_replay.specs.Outcome.{IsAsked};
 ghost use Rattle.mv_oracle.specs.Machine.{Holds, Machine, machine_of};

@@ -23,7 +23,7 @@ use Rattle.mv_machine.specs.declared.entry.Reply.{Reply}
 use Rattle.mv_machine.specs.declared.entry.Reply.TheVariants as reply_of
 use Rattle.mv_machine.specs.Kept.{StandingRequest, is_named, is_for, less, stands_with, standing_from, standing, keeps_quotas}
 use Rattle.mv_machine.specs.Legal.{Legal, of}
-use Rattle.mv_machine.specs.Setup.{Setup}
+use Rattle.mv_config.specs.Setup.{Setup}
 use Rattle.mv_calls.specs.Keeping.{Kept, nothing_kept, kept_after, kept_from, kept_of}
 use Rattle.mv_calls.specs.LatchCalls.{Requested, GrantedAs, obtain, obtain_refusal, obtained, confirmed, release_latch, let_go}
 use Rattle.mv_calls.specs.Made.{IsMade}

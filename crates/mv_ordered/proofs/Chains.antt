@@ -24,7 +24,7 @@ use Rattle.mv_machine.specs.declared.entry.Reply.TheVariants as reply_of
 use Rattle.mv_machine.specs.Kept.{StandingRequest, standing, allowed}
 use Rattle.mv_machine.specs.Legal.{IsNext, Legal, after, of}
 use Rattle.mv_machine.specs.Orderly.{queue}
-use Rattle.mv_machine.specs.Setup.{Setup}
+use Rattle.mv_config.specs.Setup.{Setup}
 use Rattle.mv_machine.specs.System.{System, opening, place_of, admitted}
 use Rattle.mv_machine.proofs.Allowed.{lists_stay, allowed_is_admitted}
 use Rattle.mv_machine.proofs.EntryRuns.{entry_of}

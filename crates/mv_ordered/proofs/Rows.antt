@@ -16,7 +16,7 @@ use Rattle.mv_latch.proofs.Members.{not_in_empty, first_or_rest}
 use Rattle.mv_machine.specs.declared.entry.Entry.{Entry}
 use Rattle.mv_machine.specs.Kept.{standing}
 use Rattle.mv_machine.specs.Legal.{Legal, of}
-use Rattle.mv_machine.specs.Setup.{Setup}
+use Rattle.mv_config.specs.Setup.{Setup}
 use Rattle.mv_calls.specs.Rest.{IsAtRest}
 use Rattle.mv_calls.proofs.Computed.{legal_by, two_tasks, three_tasks, at_block, at_latches}
 use Rattle.mv_ordered.specs.LatchOrder.{AreBelow, ObtainsInRisingOrder, WaitsWithoutLatches}

@@ -13,7 +13,7 @@ use Rattle.mv_machine.specs.declared.entry.Reply.TheVariants as reply_of
 use Rattle.mv_machine.specs.Legal.{Legal, after, of}
 use Rattle.mv_machine.specs.Orderly.{queue}
 use Rattle.mv_machine.specs.Owned.{IsGranted, IsGone}
-use Rattle.mv_machine.specs.Setup.{Setup}
+use Rattle.mv_config.specs.Setup.{Setup}
 use Rattle.mv_calls.specs.Rest.{open_waits}
 use Rattle.mv_ordered.specs.LatchOrder.{ObtainsInRisingOrder, WaitsWithoutLatches}
 

@@ -12,7 +12,7 @@ use Rattle.mv_machine.specs.declared.entry.Reply.{Reply}
 use Rattle.mv_machine.specs.declared.entry.Reply.TheVariants as reply_of
 use Rattle.mv_machine.specs.Legal.{after}
 use Rattle.mv_machine.specs.Parts.{IsPossible}
-use Rattle.mv_machine.specs.Setup.{Setup, element_owner}
+use Rattle.mv_config.specs.Setup.{Setup, element_owner}
 use Rattle.mv_board.specs.Faces.{CallerFace, Happened}
 use Rattle.mv_calls.specs.Keeping.{kept_of}
 use Rattle.mv_calls.specs.Known.{ElementAgrees}

@@ -12,7 +12,7 @@ use Rattle.mv_machine.specs.declared.entry.Op.TheVariants as op_on
 use Rattle.mv_machine.specs.declared.entry.Reply.TheVariants as reply_of
 use Rattle.mv_machine.specs.Parked.{parked, parked_by, parked_from}
 use Rattle.mv_machine.specs.Replies.{NamesUpTo}
-use Rattle.mv_machine.specs.Setup.{Setup, element_owner}
+use Rattle.mv_config.specs.Setup.{Setup, element_owner}
 use Rattle.mv_board.specs.Faces.{CallerFace, Happened}
 use Rattle.mv_calls.specs.Keeping.{Kept, kept_of, nothing_kept}
 use Rattle.mv_calls.specs.Pauses.{is_others_token, released}

@@ -1,7 +1,7 @@
 -- How the values that the calls return correspond to the answers of their programs.
 use Rattle.std.specs.Prelude.{◌≤◌, Option, Some, None, Result, Ok, Err}
 use Rattle.mv_element.specs.declared.element.Token.{Token}
-use Rattle.mv_machine.specs.Limits.{highest_generation}
+use Rattle.mv_config.specs.Limits.{highest_generation}
 use Rattle.mv_calls.specs.declared.outcomes.Given.{Given}
 use Rattle.mv_calls.specs.declared.outcomes.ReleaseAnswer.{ReleaseAnswer}
 use Rattle.mv_calls.specs.Refusal.{Refusal}

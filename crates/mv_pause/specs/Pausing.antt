@@ -7,8 +7,8 @@ use Rattle.mv_machine.specs.declared.entry.Entry.{Entry}
 use Rattle.mv_machine.specs.declared.entry.Object.TheVariants.{Element}
 use Rattle.mv_machine.specs.declared.entry.Op.TheVariants as op_on
 use Rattle.mv_machine.specs.declared.entry.Reply.TheVariants as reply_of
-use Rattle.mv_machine.specs.Limits.{highest_generation}
-use Rattle.mv_machine.specs.Setup.{Setup, element_count}
+use Rattle.mv_config.specs.Limits.{highest_generation}
+use Rattle.mv_config.specs.Setup.{Setup, element_count}
 use Rattle.mv_board.specs.Faces.{CallerFace}
 use Rattle.mv_calls.specs.Keeping.{Kept, kept_of}
 use Rattle.mv_calls.specs.Pauses.{pause, paused, resumed, is_others_token}

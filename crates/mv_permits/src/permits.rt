@@ -64,7 +64,7 @@ fn configuration(alloc: Global, tries: u32) -> Result<ValidConfig, NoMemory>
         owners: vec![in alloc; 3, 3, 3, 0, 1, 2]?,
         exits: Vec::new(alloc),
     };
-    ValidConfig::of(alloc, config)
+    Ok(ValidConfig::of(alloc, config)?)
 }
 
 // ---- permits

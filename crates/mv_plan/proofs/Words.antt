@@ -15,7 +15,7 @@ pub use Rattle.mv_machine.specs.declared.entry.Object.{Object}
 pub use Rattle.mv_machine.specs.declared.entry.Object.TheVariants.{Ecb, Element, Volume, Latches}
 pub use Rattle.mv_machine.specs.declared.entry.Op.{Op}
 pub use Rattle.mv_machine.specs.Legal.{IsNext, next, after_from, of, «at», after}
-pub use Rattle.mv_machine.specs.Setup.{Setup, SetupExit, owner_of, is_exit_of, element_owner}
+pub use Rattle.mv_config.specs.Setup.{Setup, SetupExit, owner_of, is_exit_of, element_owner}
 pub use Rattle.mv_machine.specs.System.{System, opening, moved, with_at, reply_to, advanced, Cell, admitted, ecb_admitted}
 pub use Rattle.mv_deck.specs.Deck.{JobData, job_data}
 pub use Rattle.mv_calls.specs.Keeping.{Kept, nothing_kept, kept_after}
@@ -43,7 +43,7 @@ pub use Rattle.std.specs.List.{AllByRecursion, range_with_len, filter_map, list_
 pub use Rattle.mv_machine.proofs.Lists.{all_push, all_append, all_at, all_filter}
 pub use Rattle.mv_deck.specs.Weight.{step_events, weight}
 pub use Rattle.std.proofs.lemmas.List.{length-append, length-replicate, get_or-replicate, length-map}
-pub use Rattle.mv_machine.specs.Config.{exit_of}
+pub use Rattle.mv_config.specs.Config.{exit_of}
 pub use Rattle.std.proofs.lemmas.List.Elements.{filter_map-append, filter-append}
 pub use Rattle.mv_latch.specs.declared.request.Mode.{Mode}
 pub use Rattle.mv_latch.specs.declared.request.Mode.TheVariants.{Exclusive}

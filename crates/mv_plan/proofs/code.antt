@@ -9,7 +9,7 @@ use Rattle.mv_plan.specs.SpoolSetup.{task_budgets}
 use Rattle.mv_deck.specs.declared.deck.Job.{Job}
 use Rattle.std.proofs.lemmas.List.{take_all, map-append}
 use Rattle.std.proofs.lemmas.List.FromFn.{map-range_with_len_more}
-use Rattle.mv_machine.specs.declared.config.Exit.{Exit}
+use Rattle.mv_config.specs.declared.config.Exit.{Exit}
 use Rattle.mv_plan.proofs.deck.{length_ends}
 
 -- two ways to write a place

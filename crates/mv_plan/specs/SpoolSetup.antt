@@ -2,7 +2,7 @@
 -- for each initiator. In the number of a block, n is how many jobs the deck has.
 use Rattle.std.specs.Prelude.{ℕ, zero, suc, ◌+◌, ◌*◌, List, [], ◌∷◌, ◌++◌, length, map, replicate}
 use Rattle.std.specs.List.{range_with_len}
-use Rattle.mv_machine.specs.Setup.{Setup, SetupExit}
+use Rattle.mv_config.specs.Setup.{Setup, SetupExit}
 use Rattle.mv_deck.specs.Deck.{JobData}
 use Rattle.mv_deck.specs.Operand.{volume_count}
 use Rattle.mv_deck.specs.Weight.{after_parts, all_events}

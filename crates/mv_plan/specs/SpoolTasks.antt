@@ -5,7 +5,7 @@ use Rattle.std.specs.Prelude.{length, map, Option, Some, None, if◌then◌else�
 use Rattle.std.specs.List.{list_any, range_with_len}
 use Rattle.mv_element.specs.declared.element.Token.{Token}
 use Rattle.mv_latch.specs.declared.request.LatchForm.TheVariants.{Waiting}
-use Rattle.mv_machine.specs.Setup.{Setup}
+use Rattle.mv_config.specs.Setup.{Setup}
 use Rattle.mv_machine.specs.System.{with_at}
 use Rattle.mv_calls.specs.Endings.{end_of_job}
 use Rattle.mv_deck.specs.Deck.{JobData}

@@ -2,7 +2,7 @@
 
 ghost use Rattle.std.specs.Prelude.{◌≡◌, ◌<◌, ◌≤◌, ◌^◌, map, sum_by, IfOk};
 ghost use Rattle.std.specs.List.{range_with_len};
-ghost use Rattle.mv_machine.specs.Config.{exit_of};
+ghost use Rattle.mv_config.specs.Config.{exit_of};
 ghost use Rattle.mv_deck.specs.Deck.{job_data, deck_data};
 ghost use Rattle.mv_deck.specs.Sound.{CanBeRun};
 ghost use Rattle.mv_deck.specs.Weight.{step_events as events_of_step, all_events as events_of_jobs, after_parts as parts_of_jobs};
@@ -141,5 +141,5 @@ pub fn spool_config(alloc: Global, deck: &Deck, initiators: u32) -> Result<Valid
         owners: owners_of(alloc, jobs, initiators)?,
         exits: exits_of(alloc, jobs)?,
     };
-    ValidConfig::of(alloc, config)
+    Ok(ValidConfig::of(alloc, config)?)
 }

@@ -6,7 +6,7 @@ use Rattle.mv_latch.specs.Latch.{confirm_reply, is_settled}
 use Rattle.mv_latch.specs.LatchSet.{list_of}
 use Rattle.mv_latch.specs.declared.request.LatchForm.TheVariants.{Waiting}
 use Rattle.mv_latch.specs.declared.request.Mode.{Mode}
-use Rattle.mv_machine.specs.Setup.{Setup}
+use Rattle.mv_config.specs.Setup.{Setup}
 use Rattle.mv_board.specs.declared.watch.Watch.TheVariants as watch
 use Rattle.mv_board.specs.Faces.{CallerFace, PeekedIn}
 use Rattle.mv_wait.proofs.Peeks.{went_peek}

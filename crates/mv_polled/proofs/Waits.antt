@@ -1,6 +1,6 @@
 -- Waits between two polls.
 use Rattle.std.proofs.Common.{◌≡◌, ℕ, ◌*◌, [], ◌++◌, List, length, Some, Result, Ok, Err, refl, sym, ◌∙◌, subst, arith}
-use Rattle.mv_machine.specs.Setup.{Setup}
+use Rattle.mv_config.specs.Setup.{Setup}
 use Rattle.mv_board.specs.declared.view.Sight.{Sight}
 use Rattle.mv_board.specs.Faces.{CallerFace}
 use Rattle.mv_calls.specs.Keeping.{kept_of}

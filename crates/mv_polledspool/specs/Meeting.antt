@@ -3,7 +3,7 @@ use Rattle.std.specs.Prelude.{◌≡◌, ℕ, ◌≤◌, [], ◌∷◌, length, 
 use Rattle.mv_board.specs.Faces.{CallerFace}
 use Rattle.mv_element.specs.declared.element.Token.{Token}
 use Rattle.mv_latch.specs.declared.request.Mode.{Mode}
-use Rattle.mv_machine.specs.Setup.{Setup}
+use Rattle.mv_config.specs.Setup.{Setup}
 use Rattle.mv_polled.specs.Waiting.{WaitFace, new_wait, IsWaitAt}
 use Rattle.mv_polled.specs.Pausing.{PauseFace, new_pause, IsPauseAt}
 use Rattle.mv_polled.specs.Obtaining.{ObtainFace, new_obtain, IsObtainAt}

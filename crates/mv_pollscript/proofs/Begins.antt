@@ -6,7 +6,7 @@ use Rattle.mv_calls.specs.Rest.{IsAtRest}
 use Rattle.mv_calls.specs.declared.table.Table.{Table}
 use Rattle.mv_element.specs.declared.element.Token.{Token}
 use Rattle.mv_latch.specs.declared.request.LatchForm.TheVariants.{Waiting}
-use Rattle.mv_machine.specs.Setup.{Setup, element_count}
+use Rattle.mv_config.specs.Setup.{Setup, element_count}
 use Rattle.mv_polled.specs.Obtaining.{IsObtainAt, MayObtain, ObtainFace, new_obtain}
 use Rattle.mv_polled.specs.Pausing.{IsPauseAt, MayPause, PauseFace, new_pause}
 use Rattle.mv_polled.specs.Waiting.{IsWaitAt, MayWait, WaitFace, new_wait}

@@ -8,7 +8,7 @@ use Rattle.mv_calls.specs.Program.{Done, Heard, IsDoneOn, entries, noted}
 use Rattle.mv_calls.specs.Runs.{heard_in}
 use Rattle.mv_calls.specs.declared.table.Table.{Table}
 use Rattle.mv_calls.proofs.Making.{noted_again}
-use Rattle.mv_machine.specs.Setup.{Setup}
+use Rattle.mv_config.specs.Setup.{Setup}
 use Rattle.mv_machine.specs.Told.{told as told_to}
 use Rattle.mv_machine.specs.declared.entry.Entry.{Entry}
 use Rattle.mv_runscript.specs.Making.{past_with}

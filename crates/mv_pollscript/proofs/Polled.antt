@@ -10,7 +10,7 @@ use Rattle.mv_latchset.specs.Answers.{obtain_answer}
 use Rattle.mv_latchset.specs.declared.obtaining.ObtainRefusal.{ObtainRefusal}
 use Rattle.mv_latchset.specs.declared.obtaining.Obtained.{Obtained}
 use Rattle.mv_latchset.specs.declared.token.LatchToken.{LatchToken}
-use Rattle.mv_machine.specs.Setup.{Setup}
+use Rattle.mv_config.specs.Setup.{Setup}
 use Rattle.mv_polled.specs.Obtaining.{IsLeftObtaining, IsObtainAt, IsObtained, IsObtaining, MayObtain, ObtainFace}
 use Rattle.mv_polled.specs.Pausing.{IsPauseAt, PauseFace}
 use Rattle.mv_polled.specs.Turn.{AtStage}

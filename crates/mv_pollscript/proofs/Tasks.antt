@@ -10,11 +10,11 @@ use Rattle.mv_calls.specs.Rest.{IsAtRest}
 use Rattle.mv_calls.specs.declared.table.Table.{Table}
 use Rattle.mv_latchset.specs.declared.token.LatchToken.{LatchToken}
 use Rattle.mv_calls.proofs.Interleaved.{callers_exist}
-use Rattle.mv_machine.specs.Check.{IsValid}
+use Rattle.mv_config.specs.Check.{IsValid}
 use Rattle.mv_machine.specs.Legal.{Legal, after}
-use Rattle.mv_machine.specs.Limits.{events_limit, highest_place}
+use Rattle.mv_config.specs.Limits.{events_limit, highest_place}
 use Rattle.mv_machine.specs.Orderly.{IsOrderly}
-use Rattle.mv_machine.specs.Setup.{Setup}
+use Rattle.mv_config.specs.Setup.{Setup}
 use Rattle.mv_machine.specs.State.{IsOpenedWith, system_of}
 use Rattle.mv_machine.specs.System.{opening}
 use Rattle.mv_machine.specs.declared.entry.Entry.{Entry}

@@ -1,6 +1,6 @@
 -- Tasks are gone through one by one.
 use Rattle.std.proofs.Common.{◌≡◌, ℕ, suc, ◌+◌, ◌-◌, ◌<◌, ◌≤◌, List, [], ◌++◌, append_assoc, length, ap, sym, ◌∙◌, arith}
-use Rattle.mv_machine.specs.Setup.{Setup}
+use Rattle.mv_config.specs.Setup.{Setup}
 use Rattle.mv_machine.specs.System.{System}
 use Rattle.mv_pollscript.specs.Text.{task_text, tasks_text}
 use Rattle.mv_script.specs.declared.answer.Answer.{Answer}

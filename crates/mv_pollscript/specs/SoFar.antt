@@ -6,11 +6,11 @@ use Rattle.mv_calls.specs.Keeping.{Kept, kept_of, nothing_kept}
 use Rattle.mv_calls.specs.Program.{Heard, IsDoneOn, Says, entries}
 use Rattle.mv_calls.specs.Runs.{heard_in}
 use Rattle.mv_calls.specs.declared.table.Table.{Table}
-use Rattle.mv_machine.specs.Check.{IsValid}
+use Rattle.mv_config.specs.Check.{IsValid}
 use Rattle.mv_machine.specs.Legal.{Legal, after}
-use Rattle.mv_machine.specs.Limits.{events_limit, highest_place}
+use Rattle.mv_config.specs.Limits.{events_limit, highest_place}
 use Rattle.mv_machine.specs.Orderly.{IsOrderly}
-use Rattle.mv_machine.specs.Setup.{Setup}
+use Rattle.mv_config.specs.Setup.{Setup}
 use Rattle.mv_machine.specs.State.{IsOpenedWith, system_of}
 use Rattle.mv_machine.specs.declared.entry.Entry.{Entry}
 use Rattle.mv_pollscript.specs.declared.run.RunSoFar.{RunSoFar}

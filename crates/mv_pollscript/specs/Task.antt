@@ -6,7 +6,7 @@ use Rattle.mv_board.specs.Faces.{BoardFace, CallerFace, IsFresh, IsOf}
 use Rattle.mv_calls.specs.Rest.{IsAtRest}
 use Rattle.mv_calls.specs.declared.table.Table.{Table}
 use Rattle.mv_latch.specs.declared.request.LatchForm.TheVariants.{Waiting}
-use Rattle.mv_machine.specs.Setup.{Setup}
+use Rattle.mv_config.specs.Setup.{Setup}
 use Rattle.mv_polled.specs.Obtaining.{IsObtainAt, new_obtain}
 use Rattle.mv_polled.specs.Pausing.{IsPauseAt, new_pause}
 use Rattle.mv_polled.specs.Waiting.{IsWaitAt, new_wait}

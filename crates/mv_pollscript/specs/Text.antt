@@ -3,7 +3,7 @@ use Rattle.std.specs.Prelude.{ℕ, zero, suc, ◌+◌, nat_lt, List, [], ◌∷�
 use Rattle.std.specs.Prelude.{if◌then◌else◌}
 use Rattle.mv_latch.specs.LatchSet.{list_of}
 use Rattle.mv_latch.specs.declared.request.Request.{Request}
-use Rattle.mv_machine.specs.Setup.{Setup}
+use Rattle.mv_config.specs.Setup.{Setup}
 use Rattle.mv_machine.specs.System.{System}
 use Rattle.mv_pollscript.specs.declared.finding.Deed.TheVariants.{Posts, Releases}
 use Rattle.mv_pollscript.specs.declared.finding.Place.{Place}

@@ -2,7 +2,7 @@
 
 ghost use Rattle.std.specs.Prelude.{◌≡◌, length, map, IfOk};
 ghost use Rattle.std.specs.List.{AllByRecursion};
-ghost use Rattle.mv_machine.specs.Check.{IsValid};
+ghost use Rattle.mv_config.specs.Check.{IsValid};
 ghost use Rattle.mv_pollscript.specs.SoFar.{IsRunSoFar};
 ghost use Rattle.mv_pollscript.specs.Task.{AreTasksAt, IsNewTask};
 ghost use Rattle.mv_runscript.specs.Rooms.{script_with};

@@ -7,8 +7,8 @@ use Rattle.mv_deck.specs.Sound.{IsSound}
 use Rattle.mv_machine.specs.declared.entry.Entry.{Entry}
 use Rattle.mv_machine.proofs.Orderly.{history_is_orderly}
 use Rattle.mv_machine.specs.Legal.{Legal}
-use Rattle.mv_machine.specs.Limits.{highest_place, events_limit}
-use Rattle.mv_machine.specs.Setup.{Setup}
+use Rattle.mv_config.specs.Limits.{highest_place, events_limit}
+use Rattle.mv_config.specs.Setup.{Setup}
 use Rattle.mv_calls.specs.Numbers.{calls}
 use Rattle.mv_operationtext.specs.declared.version.Version.TheVariants.{Two}
 use Rattle.mv_operationtext.specs.EntryText.{IsTyped}
@@ -28,7 +28,7 @@ use Rattle.mv_script.specs.AnswerText.{AreInRange, answers_text}
 use Rattle.mv_script.specs.Events.{EventsAreHandedOut}
 use Rattle.mv_script.specs.Run.{IsScriptRun, script_answers, moves_in}
 use Rattle.mv_script.specs.Script.{ScriptData}
-use Rattle.mv_machine.specs.Check.{IsValid}
+use Rattle.mv_config.specs.Check.{IsValid}
 use Rattle.mv_replay.specs.Judgement.{journal_limit, IsLegalJournal}
 use Rattle.mv_replay.proofs.Lengths.{text_fits}
 use Rattle.mv_program.specs.Texts.{TellsHistory, IsJournalOfRun, IsRunOfScript}

@@ -7,9 +7,9 @@ use Rattle.mv_operationtext.specs.declared.version.Version.TheVariants.{Two}
 use Rattle.mv_entrytext.specs.Fault.{StatesJournal}
 use Rattle.mv_machine.specs.declared.entry.Entry.{Entry}
 use Rattle.mv_machine.specs.Legal.{Legal}
-use Rattle.mv_machine.specs.Limits.{events_limit}
+use Rattle.mv_config.specs.Limits.{events_limit}
 use Rattle.mv_machine.specs.Orderly.{IsOrderly, IsExact}
-use Rattle.mv_machine.specs.Setup.{Setup}
+use Rattle.mv_config.specs.Setup.{Setup}
 use Rattle.mv_plan.specs.SpoolRun.{IsRun}
 use Rattle.mv_plan.specs.SpoolSetup.{spool_setup}
 use Rattle.mv_report.specs.Outcome.{report}

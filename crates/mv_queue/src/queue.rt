@@ -66,7 +66,7 @@ fn configuration(alloc: Global, tries: u32) -> Result<ValidConfig, NoMemory>
         owners: vec![in alloc; 0, 1, 2, 3]?,
         exits: Vec::new(alloc),
     };
-    ValidConfig::of(alloc, config)
+    Ok(ValidConfig::of(alloc, config)?)
 }
 
 // ---- the latch

@@ -31,7 +31,7 @@ use Rattle.mv_machine.specs.declared.entry.VolumeOp.{VolumeOp}
 use Rattle.mv_machine.specs.declared.entry.VolumeOp.TheVariants as volume_op
 use Rattle.mv_machine.specs.declared.entry.VolumeReply.{VolumeReply}
 use Rattle.mv_machine.specs.declared.entry.VolumeReply.TheVariants as volume_reply
-use Rattle.mv_machine.specs.Limits.{highest_place}
+use Rattle.mv_config.specs.Limits.{highest_place}
 use Rattle.mv_operationtext.specs.Ranges.{highest_u32, highest_u64, highest_release_code}
 use Rattle.mv_operationtext.specs.EcbText.{ecb_op_text, ecb_reply_text, IsEcbOpInRange, IsEcbReplyInRange, IsEcbReplyTyped}
 use Rattle.mv_operationtext.specs.ElementText.{phase_text, element_op_text, element_reply_text}

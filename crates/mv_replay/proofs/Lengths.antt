@@ -6,10 +6,10 @@ use Rattle.std.proofs.lemmas.List.Elements.{recursion_from_All}
 use Rattle.std.specs.Prelude.{nat_le, Option, Some, IfSome, codes, decimal}
 use Rattle.std.specs.List.{AllByRecursion, flat_map, list_all}
 use Rattle.mv_machine.specs.declared.entry.Entry.{Entry}
-use Rattle.mv_machine.specs.Check.{IsValid, first_limit, is_within}
-use Rattle.mv_machine.specs.Limits.{events_limit, callers_limit, ecbs_limit, exits_limit, targets_limit}
-use Rattle.mv_machine.specs.Setup.{Setup, SetupExit}
-use Rattle.mv_machine.proofs.Validity.{no_bad_limit}
+use Rattle.mv_config.specs.Check.{IsValid, first_limit, is_within}
+use Rattle.mv_config.specs.Limits.{events_limit, callers_limit, ecbs_limit, exits_limit, targets_limit}
+use Rattle.mv_config.specs.Setup.{Setup, SetupExit}
+use Rattle.mv_config.proofs.Validity.{no_bad_limit}
 use Rattle.mv_operationtext.specs.declared.version.Version.{Version}
 use Rattle.mv_operationtext.specs.declared.version.Version.TheVariants.{One, Two}
 use Rattle.mv_operationtext.specs.Ranges.{highest_u32}

@@ -5,7 +5,7 @@ use Rattle.std.proofs.lemmas.Bool.{cases_order}
 use Rattle.std.proofs.lemmas.List.{take-take, take_at, take_all, length-append, same_from_push}
 use Rattle.mv_machine.specs.declared.entry.Entry.{Entry}
 use Rattle.mv_machine.specs.Legal.{Legal}
-use Rattle.mv_machine.specs.Setup.{Setup}
+use Rattle.mv_config.specs.Setup.{Setup}
 use Rattle.mv_calls.specs.Numbers.{calls}
 use Rattle.mv_calls.proofs.call_numbers.Prefixes.{calls-take, legal_take}
 use Rattle.mv_operationtext.specs.declared.version.Version.{Version}

@@ -1,7 +1,7 @@
 -- How far a text has been judged, what is made of it meanwhile, and what is written of it then.
 use Rattle.std.specs.Prelude.{◌≡◌, ℕ, ◌+◌, Bool, true, false, List, Option, Some, None, option_map}
 use Rattle.mv_machine.specs.declared.entry.Entry.{Entry}
-use Rattle.mv_machine.specs.Setup.{Setup}
+use Rattle.mv_config.specs.Setup.{Setup}
 use Rattle.mv_calls.specs.declared.judge.Judge.{Judge}
 use Rattle.mv_calls.specs.Judge.{HasJudged}
 use Rattle.mv_calls.specs.Numbers.{calls}

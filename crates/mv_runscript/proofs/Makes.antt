@@ -12,7 +12,7 @@ use Rattle.mv_calls.specs.Services.{Service, most_events}
 use Rattle.mv_calls.specs.Services as service
 use Rattle.mv_latchset.specs.declared.token.LatchToken.{LatchToken}
 use Rattle.mv_machine.specs.declared.entry.Object.{Object}
-use Rattle.mv_machine.specs.Setup.{Setup}
+use Rattle.mv_config.specs.Setup.{Setup}
 use Rattle.mv_calls.specs.declared.table.Table.{Table}
 use Rattle.mv_wait.specs.Run.{IsServed, MayCall}
 use Rattle.mv_wait.proofs.Runs.{runs_none, runs_within, runs_look, went_look, serves}

@@ -8,7 +8,7 @@ use Rattle.mv_board.specs.Faces.{CallerFace}
 use Rattle.mv_calls.specs.Program.{Heard}
 use Rattle.mv_calls.specs.Rest.{IsAtRest}
 use Rattle.mv_latchset.specs.declared.token.LatchToken.{LatchToken}
-use Rattle.mv_machine.specs.Setup.{Setup}
+use Rattle.mv_config.specs.Setup.{Setup}
 use Rattle.mv_calls.specs.declared.table.Table.{Table}
 use Rattle.mv_wait.specs.Run.{IsServed, Went}
 use Rattle.mv_wait.proofs.Runs.{went_none, went_then, served_runs}

@@ -2,7 +2,7 @@
 use Rattle.std.proofs.Common.{◌≡◌, ℕ, zero, suc, ◌<◌, Option, Some, None, List, [], ◌∷◌, ◌++◌, length, get_or, take, sym, ap, subst, arith}
 use Rattle.std.proofs.Common.{append_assoc}
 use Rattle.std.proofs.lemmas.List.{append-nil}
-use Rattle.mv_machine.specs.Setup.{Setup}
+use Rattle.mv_config.specs.Setup.{Setup}
 use Rattle.mv_calls.specs.declared.table.Table.{Table}
 use Rattle.mv_scriptline.specs.declared.call.Call.{Call}
 use Rattle.mv_calls.specs.Table.{IsTableOf, IsSoundTable}

@@ -8,7 +8,7 @@ use Rattle.mv_latchset.specs.declared.obtaining.Obtained.TheVariants.{Granted, P
 use Rattle.mv_latchset.specs.declared.obtaining.ObtainRefusal.{ObtainRefusal}
 use Rattle.mv_latchset.specs.declared.token.LatchToken.{LatchToken}
 use Rattle.mv_machine.specs.declared.entry.Object.{Object}
-use Rattle.mv_machine.specs.Setup.{Setup}
+use Rattle.mv_config.specs.Setup.{Setup}
 use Rattle.mv_calls.specs.declared.table.Table.{Table}
 use Rattle.mv_calls.specs.declared.outcomes.WaitSlot.{WaitSlot}
 use Rattle.mv_wait.specs.Run.{IsServed}

@@ -1,7 +1,7 @@
 -- What each task has besides its seat, and what that is after its calls.
 use Rattle.std.specs.Prelude.{◌≡◌, ℕ, ◌≤◌, List, [], length, count_by, vec_capacity, Option}
 use Rattle.mv_board.specs.Faces.{BoardFace, CallerFace, IsFresh}
-use Rattle.mv_machine.specs.Setup.{Setup}
+use Rattle.mv_config.specs.Setup.{Setup}
 use Rattle.mv_calls.specs.declared.table.Table.{Table}
 use Rattle.mv_scriptline.specs.declared.call.Call.{Call}
 use Rattle.mv_script.specs.Script.{ScriptData}

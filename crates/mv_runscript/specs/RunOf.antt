@@ -1,7 +1,7 @@
 -- What a run of a script leaves.
 use Rattle.std.specs.Prelude.{◌≡◌, ℕ, ◌≤◌, [], All, length}
-use Rattle.mv_machine.specs.Check.{IsValid}
-use Rattle.mv_machine.specs.Limits.{events_limit, highest_place}
+use Rattle.mv_config.specs.Check.{IsValid}
+use Rattle.mv_config.specs.Limits.{events_limit, highest_place}
 use Rattle.mv_machine.specs.Orderly.{IsOrderly}
 use Rattle.mv_script.specs.Events.{EventsAreHandedOut}
 use Rattle.mv_script.specs.Run.{IsScriptRun, moves_in, script_answers}

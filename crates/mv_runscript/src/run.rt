@@ -1,7 +1,7 @@
 //! The run of a script. Clauses cite `specs/RunOf.antt` and `specs/Rooms.antt`.
 
 ghost use Rattle.std.specs.Prelude.{◌≡◌, ◌≤◌, [], length, map, vec_capacity, IfOk};
-ghost use Rattle.mv_machine.specs.Check.{IsValid};
+ghost use Rattle.mv_config.specs.Check.{IsValid};
 ghost use Rattle.mv_script.specs.Script.{script_data};
 ghost use Rattle.mv_script.specs.Sound.{IsSound};
 ghost use Rattle.mv_runscript.specs.Rooms.{script_with};

@@ -4,8 +4,8 @@ use Rattle.std.proofs.Common.{Option, Some, None, refl, sym, ap, subst, ◌∙�
 use Rattle.std.specs.Prelude.{nat_lt, nat_le, sum, is_some, count_by}
 use Rattle.std.proofs.lemmas.List.{append-nil, map-append}
 use Rattle.std.proofs.lemmas.List.Sums.{sum_by-append, sum_by_push}
-use Rattle.mv_machine.specs.Limits.{events_limit}
-use Rattle.mv_machine.specs.Setup.{Setup, SetupExit}
+use Rattle.mv_config.specs.Limits.{events_limit}
+use Rattle.mv_config.specs.Setup.{Setup, SetupExit}
 use Rattle.mv_calls.specs.declared.table.Table.{Table}
 use Rattle.mv_calls.specs.Table.{IsTableOf}
 use Rattle.mv_calls.proofs.TableFacts.{can_have_is}

@@ -13,7 +13,7 @@ use Rattle.mv_line.specs.Byte.{is_within}
 use Rattle.mv_line.specs.Field.{fields_of}
 use Rattle.mv_line.specs.Line.{begins_with_space}
 use Rattle.mv_line.specs.Number.{is_digits, number_of}
-use Rattle.mv_machine.specs.Limits.{highest_place, highest_generation}
+use Rattle.mv_config.specs.Limits.{highest_place, highest_generation}
 use Rattle.mv_scriptline.specs.declared.call.Call.{Call}
 use Rattle.mv_scriptline.specs.declared.call.Call.TheVariants as call
 use Rattle.mv_scriptline.specs.declared.operand.Sizes.{Sizes}

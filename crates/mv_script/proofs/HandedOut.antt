@@ -10,7 +10,7 @@ use Rattle.mv_latch.specs.declared.request.LatchForm.{LatchForm}
 use Rattle.mv_latch.specs.declared.request.LatchForm.TheVariants.{Conditional, Waiting, Posted}
 use Rattle.mv_machine.specs.declared.entry.Entry.{Entry}
 use Rattle.mv_machine.specs.declared.entry.Object.{Object}
-use Rattle.mv_machine.specs.Setup.{Setup}
+use Rattle.mv_config.specs.Setup.{Setup}
 use Rattle.mv_machine.proofs.Lists.{all_append, all_push, all_front, all_back}
 use Rattle.mv_calls.specs.declared.table.Table.{Table}
 use Rattle.mv_calls.specs.Events.{Entering, EnteredAt, WasComplete, Finding, first_event_requestor}

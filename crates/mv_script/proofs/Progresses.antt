@@ -10,8 +10,8 @@ use Rattle.std.specs.Option.{option_or}
 use Rattle.mv_line.specs.Byte.{is_within}
 use Rattle.mv_latch.proofs.Joined.{same_any, some_any}
 use Rattle.mv_machine.proofs.Lists.{all_append}
-use Rattle.mv_machine.specs.Limits.{events_limit}
-use Rattle.mv_machine.specs.Setup.{Setup, SetupExit}
+use Rattle.mv_config.specs.Limits.{events_limit}
+use Rattle.mv_config.specs.Setup.{Setup, SetupExit}
 use Rattle.mv_calls.specs.declared.table.Table.{Table}
 use Rattle.mv_calls.specs.Table.{IsTableOf}
 use Rattle.mv_scriptline.specs.declared.call.Call.{Call}

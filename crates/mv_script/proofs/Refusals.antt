@@ -12,7 +12,7 @@ use Rattle.mv_machine.specs.declared.entry.Op.TheVariants as op_on
 use Rattle.mv_machine.specs.declared.entry.Reply.{Reply}
 use Rattle.mv_machine.specs.declared.entry.Reply.TheVariants as reply_of
 use Rattle.mv_machine.specs.Kept.{keeps_quotas}
-use Rattle.mv_machine.specs.Setup.{Setup}
+use Rattle.mv_config.specs.Setup.{Setup}
 use Rattle.mv_calls.specs.declared.table.Table.{Table}
 use Rattle.mv_calls.specs.Events.{Entering, Finding, EnteredAt, WasComplete, event_requestor, freed, entered, count_read, event_posted}
 use Rattle.mv_calls.specs.Events.{with_latch, post_event, handed_out, indexed, slot_found, next_event}

@@ -4,7 +4,7 @@ use Rattle.std.proofs.lemmas.List.{append-nil}
 use Rattle.std.proofs.Common.{None, Ok, Err, refl, sym, ap, subst, ◌∙◌, arith}
 use Rattle.std.specs.Prelude.{nat_lt, nat_le, sum, fold}
 use Rattle.mv_line.specs.Line.{lines_of}
-use Rattle.mv_machine.specs.Limits.{events_limit}
+use Rattle.mv_config.specs.Limits.{events_limit}
 use Rattle.mv_calls.specs.Table.{table_refusal}
 use Rattle.mv_calls.proofs.TableFacts.{can_have_is}
 use Rattle.mv_line.specs.Line.{shown, is_ignored, is_foreign, is_too_long}

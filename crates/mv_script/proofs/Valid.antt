@@ -6,11 +6,11 @@ use Rattle.std.specs.List.{AllByRecursion, position_from, list_all, list_any}
 use Rattle.std.proofs.lemmas.List.{length-replicate}
 use Rattle.std.proofs.lemmas.List.Folds.{sum_by-replicate}
 use Rattle.std.proofs.lemmas.Bool.{le-leb, lt-leb, eq-eqb}
-use Rattle.mv_machine.specs.declared.config.ConfigLimit.TheVariants.{Budgets, Ecbs, Exits, Targets}
-use Rattle.mv_machine.specs.Check.{IsValid, is_bad_exit, is_within, keeps}
-use Rattle.mv_machine.specs.Limits.{events_limit}
-use Rattle.mv_machine.specs.Setup.{SetupExit}
-use Rattle.mv_machine.proofs.Validity.{nothing_refuses}
+use Rattle.mv_config.specs.declared.config.ConfigLimit.TheVariants.{Budgets, Ecbs, Exits, Targets}
+use Rattle.mv_config.specs.Check.{IsValid, is_bad_exit, is_within, keeps}
+use Rattle.mv_config.specs.Limits.{events_limit}
+use Rattle.mv_config.specs.Setup.{SetupExit}
+use Rattle.mv_config.proofs.Validity.{nothing_refuses}
 use Rattle.mv_scriptline.specs.declared.operand.Sizes.{Sizes}
 use Rattle.mv_script.specs.Reading.{Progress, setup_in, sizes_in, IsSoundSoFar}
 use Rattle.mv_script.specs.Sound.{IsEcb, IsSoundExit}

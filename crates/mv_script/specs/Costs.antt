@@ -4,7 +4,7 @@ use Rattle.mv_ecb.specs.Word.{Zero}
 use Rattle.mv_element.specs.Element.{reset}
 use Rattle.mv_machine.specs.Packing.{pack}
 use Rattle.mv_machine.specs.declared.packing.WordState.TheVariants as state
-use Rattle.mv_machine.specs.Setup.{Setup, SetupExit}
+use Rattle.mv_config.specs.Setup.{Setup, SetupExit}
 use Rattle.mv_calls.specs.declared.table.Table.{Table}
 use Rattle.mv_calls.specs.Keeping.{Kept, nothing_kept}
 use Rattle.mv_calls.specs.Services.{Service, most_events}

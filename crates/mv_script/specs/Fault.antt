@@ -8,7 +8,7 @@ use Rattle.mv_line.specs.declared.fault.TextFault.{TextFault}
 use Rattle.mv_line.specs.Fault.{LineRules, HasFaultAt, when}
 use Rattle.mv_line.specs.Fault as of_lines
 pub use Rattle.mv_line.specs.Fault.{TellsFirst}
-use Rattle.mv_machine.specs.Limits.{events_limit}
+use Rattle.mv_config.specs.Limits.{events_limit}
 use Rattle.mv_calls.specs.Table.{can_have}
 use Rattle.mv_scriptline.specs.declared.call.Call.{Call}
 use Rattle.mv_scriptline.specs.declared.call.Call.TheVariants as call

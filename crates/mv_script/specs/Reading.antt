@@ -2,9 +2,9 @@
 use Rattle.std.specs.Prelude.{◌≡◌, ℕ, ◌+◌, ◌≤◌, Bool, true, false, nat_lt, List, [], ◌∷◌, ◌++◌, length, map, sum, count_by, replicate}
 use Rattle.std.specs.Prelude.{Option, Some, None, is_some, Result, Ok, Err, ◌<◌}
 use Rattle.std.specs.List.{AllByRecursion}
-use Rattle.mv_machine.specs.Config.{exit_of}
-use Rattle.mv_machine.specs.Limits.{events_limit}
-use Rattle.mv_machine.specs.Setup.{Setup, SetupExit}
+use Rattle.mv_config.specs.Config.{exit_of}
+use Rattle.mv_config.specs.Limits.{events_limit}
+use Rattle.mv_config.specs.Setup.{Setup, SetupExit}
 use Rattle.mv_calls.specs.declared.table.Table.{Table}
 use Rattle.mv_calls.specs.Table.{IsTableOf}
 use Rattle.mv_scriptline.specs.declared.call.Call.{Call}

@@ -6,8 +6,8 @@ use Rattle.mv_element.specs.declared.element.Token.{Token}
 use Rattle.mv_element.specs.Table.{release_limit}
 use Rattle.mv_latch.specs.declared.request.LatchForm.{LatchForm}
 use Rattle.mv_latch.specs.declared.request.LatchForm.TheVariants.{Conditional, Waiting, Posted}
-use Rattle.mv_machine.specs.Limits.{events_limit, highest_place, highest_generation}
-use Rattle.mv_machine.specs.Setup.{SetupExit}
+use Rattle.mv_config.specs.Limits.{events_limit, highest_place, highest_generation}
+use Rattle.mv_config.specs.Setup.{SetupExit}
 use Rattle.mv_calls.specs.Table.{IsTableOf}
 use Rattle.mv_scriptline.specs.declared.call.Call.{Call}
 use Rattle.mv_scriptline.specs.declared.call.Call.TheVariants as call

@@ -31,7 +31,7 @@ pub(crate) fn with_budgets(
         owners,
         exits,
     };
-    ValidConfig::of(alloc, config)
+    Ok(ValidConfig::of(alloc, config)?)
 }
 
 /// Returns the configuration of a script with these blocks and exits in which all budgets are 0. It is enough to compute costs.
@@ -85,5 +85,5 @@ pub fn copy_config(alloc: Global, config: &ValidConfig) -> Result<ValidConfig, N
         owners: Vec::from_slice(alloc, &given.owners)?,
         exits: copied(alloc, &given.exits)?,
     };
-    ValidConfig::of(alloc, copy)
+    Ok(ValidConfig::of(alloc, copy)?)
 }

@@ -10,7 +10,7 @@ use Rattle.mv_latch.specs.declared.request.Mode.{Mode}
 use Rattle.mv_latch.specs.declared.request.Mode.TheVariants.{Shared, Exclusive}
 use Rattle.mv_line.specs.Byte.{is_within}
 use Rattle.mv_line.specs.Number.{is_digits, number_of}
-use Rattle.mv_machine.specs.Limits.{highest_place, highest_generation}
+use Rattle.mv_config.specs.Limits.{highest_place, highest_generation}
 use Rattle.mv_calls.specs.declared.table.Table.{Table}
 use Rattle.mv_scriptline.specs.declared.words.Misread.TheVariants.{NoForm, BadNumber}
 use Rattle.mv_scriptline.specs.declared.operand.Sizes.{Sizes}

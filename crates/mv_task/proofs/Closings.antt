@@ -13,7 +13,7 @@ use Rattle.mv_element.specs.declared.operation.ElementReply.TheVariants.{Closed}
 use Rattle.mv_machine.specs.declared.entry.Object.TheVariants.{Element}
 use Rattle.mv_machine.specs.declared.entry.Op.TheVariants as op_on
 use Rattle.mv_machine.specs.declared.entry.Reply.TheVariants as reply_of
-use Rattle.mv_machine.specs.Setup.{Setup, element_owner}
+use Rattle.mv_config.specs.Setup.{Setup, element_owner}
 use Rattle.mv_board.specs.Faces.{CallerFace, Happened}
 use Rattle.mv_calls.specs.Endings.{behind_close, close_all, used_elements}
 use Rattle.mv_calls.specs.Keeping.{Kept, kept_of, kept_after, nothing_kept}

@@ -6,8 +6,8 @@ use Rattle.mv_latch.specs.declared.operation.LatchReply.TheVariants as latch_rep
 use Rattle.mv_latch.specs.declared.operation.Wake.{Wake}
 use Rattle.mv_machine.specs.declared.entry.Object.TheVariants.{Latches}
 use Rattle.mv_machine.specs.declared.entry.Op.TheVariants as op_on
-use Rattle.mv_machine.specs.Reach.{reach, release_cost}
-use Rattle.mv_machine.specs.Setup.{Setup}
+use Rattle.mv_config.specs.Reach.{reach, release_cost}
+use Rattle.mv_config.specs.Setup.{Setup}
 use Rattle.mv_board.specs.Faces.{BoardFace, CallerFace, IsOf}
 use Rattle.mv_calls.specs.Endings.{close_all, end_of_job, end_of_task, used_elements}
 use Rattle.mv_calls.specs.Keeping.{Kept, kept_of}

@@ -1,6 +1,6 @@
 -- The parts of a task's end.
 use Rattle.std.specs.Prelude.{◌≡◌, ℕ, ◌==◌, false, List, [], ◌∷◌, length, filter}
-use Rattle.mv_machine.specs.Setup.{Setup}
+use Rattle.mv_config.specs.Setup.{Setup}
 use Rattle.mv_board.specs.Faces.{CallerFace}
 use Rattle.mv_calls.specs.Endings.{close_all, used_elements}
 use Rattle.mv_calls.specs.declared.outcomes.Purged.{Purged}

@@ -3,7 +3,7 @@
 //! would be most of its proof.
 
 ghost use Rattle.std.specs.Prelude.{◌≡◌, ◌<◌, ◌≤◌, false, length};
-ghost use Rattle.mv_machine.specs.Setup.{owner_of};
+ghost use Rattle.mv_config.specs.Setup.{owner_of};
 ghost use Rattle.mv_calls.specs.Keeping.{kept_of};
 ghost use Rattle.mv_calls.specs.Rest.{IsAtRest};
 ghost use Rattle.mv_board.specs.Faces.{IsOf};

@@ -7,7 +7,7 @@ use Rattle.mv_machine.specs.declared.entry.Object.TheVariants.{Ecb, Volume}
 use Rattle.mv_machine.specs.declared.entry.Op.TheVariants as op_on
 use Rattle.mv_machine.specs.declared.entry.VolumeOp.TheVariants.{Write}
 use Rattle.mv_machine.specs.Kept.{allowed}
-use Rattle.mv_machine.specs.Setup.{Setup, owner_of}
+use Rattle.mv_config.specs.Setup.{Setup, owner_of}
 
 pub may_arm : (c : Setup) (k e : ℕ) (log : List Entry) → k < c.callers → e < length c.owners → owner_of c e ≡ k
     → allowed c k log (Ecb e) (op_on.Ecb Arm) ≡ true

@@ -19,7 +19,7 @@ use Rattle.mv_machine.specs.declared.entry.Reply.{Reply}
 use Rattle.mv_machine.specs.declared.entry.Reply.TheVariants as reply_of
 use Rattle.mv_machine.specs.Legal.{after}
 use Rattle.mv_machine.specs.Parts.{IsPossible}
-use Rattle.mv_machine.specs.Setup.{Setup, owner_of}
+use Rattle.mv_config.specs.Setup.{Setup, owner_of}
 use Rattle.mv_board.specs.Faces.{CallerFace, HappenedAt, Happened}
 use Rattle.mv_calls.specs.Keeping.{kept_of}
 use Rattle.mv_calls.specs.Rest.{no_waits, waits_from}

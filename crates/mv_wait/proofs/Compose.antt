@@ -1,8 +1,8 @@
 -- Calls within calls, and calls one after the other.
 use Rattle.std.proofs.Common.{◌≡◌, ℕ, ◌+◌, ◌≤◌, ◌++◌, refl, sym, ap, ◌∙◌, subst, arith, length-append}
 use Rattle.mv_board.specs.Faces.{BoardFace, CallerFace, IsOf, IsFresh}
-use Rattle.mv_machine.specs.Setup.{Setup}
-use Rattle.mv_machine.specs.Reach.{reach}
+use Rattle.mv_config.specs.Setup.{Setup}
+use Rattle.mv_config.specs.Reach.{reach}
 use Rattle.mv_calls.specs.declared.outcomes.PostAnswer.{PostAnswer}
 use Rattle.mv_calls.specs.Keeping.{Kept, kept_from, kept_of, nothing_kept}
 use Rattle.mv_calls.specs.Posts.{post, wake_posted}

@@ -10,14 +10,14 @@ use Rattle.mv_machine.specs.declared.entry.Object.TheVariants.{Ecb}
 use Rattle.mv_machine.specs.declared.entry.Op.TheVariants as op_on
 use Rattle.mv_machine.specs.declared.entry.Reply.{Reply}
 use Rattle.mv_machine.specs.declared.entry.Reply.TheVariants as reply_of
-use Rattle.mv_machine.specs.Check.{IsValid}
-use Rattle.mv_machine.specs.Limits.{events_limit}
+use Rattle.mv_config.specs.Check.{IsValid}
+use Rattle.mv_config.specs.Limits.{events_limit}
 use Rattle.mv_machine.specs.Parts.{IsPossible}
-use Rattle.mv_machine.specs.Reach.{total, reach, reach_within}
-use Rattle.mv_machine.specs.Setup.{Setup, SetupExit, is_exit_of, starts_from, targets_of, targets_at}
+use Rattle.mv_config.specs.Reach.{total, reach, reach_within}
+use Rattle.mv_config.specs.Setup.{Setup, SetupExit, is_exit_of, starts_from, targets_of, targets_at}
 use Rattle.mv_machine.proofs.Lists.{all_got, all_map}
 use Rattle.mv_calls.proofs.Posting.{exits_are_own, greatest_member, starts}
-use Rattle.mv_machine.proofs.Reaches.{all_lead_up, next_reach, LeadsUp}
+use Rattle.mv_config.proofs.Reaches.{all_lead_up, next_reach, LeadsUp}
 use Rattle.mv_board.specs.Faces.{CallerFace, Happened}
 use Rattle.mv_calls.specs.declared.outcomes.PostAnswer.{PostAnswer}
 use Rattle.mv_calls.specs.Posts.{posted_next}

@@ -32,7 +32,7 @@ pub mod Singles
 pub use Rattle.mv_latch.proofs.Joined
 pub use Rattle.mv_latch.proofs.Members
 pub use Rattle.mv_latch.proofs.Splits
-pub use Rattle.mv_machine.proofs.Chains
+pub use Rattle.mv_config.proofs.Chains
 pub use Rattle.mv_machine.proofs.EntryRuns
 pub use Rattle.mv_machine.proofs.Histories
 pub use Rattle.mv_machine.proofs.Lists

@@ -3,11 +3,11 @@ use Rattle.std.proofs.Common.{◌≡◌, ℕ, false, zero, suc, ◌+◌, ◌<◌
 use Rattle.std.proofs.Common.{◌∙◌, subst, arith}
 use Rattle.std.proofs.lemmas.List.{append-nil, drop_all, take_all}
 use Rattle.std.specs.List.{AllByRecursion}
-use Rattle.mv_machine.specs.Setup.{Setup}
+use Rattle.mv_config.specs.Setup.{Setup}
 use Rattle.mv_board.specs.Faces.{BoardFace, CallerFace, IsOf, IsFresh, AreFresh, IsSame}
 use Rattle.mv_wait.specs.Waiting.{AreOwn, ArePlain}
 use Rattle.mv_calls.specs.Keeping.{kept_of}
-use Rattle.mv_machine.specs.Setup.{owner_of}
+use Rattle.mv_config.specs.Setup.{owner_of}
 
 -- the same caller is of the same board
 pub still_of : (b d : BoardFace) (t u : CallerFace) → IsSame t u → IsOf b t → d ≡ b → IsOf d u

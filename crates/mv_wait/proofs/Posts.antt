@@ -11,12 +11,12 @@ use Rattle.mv_machine.specs.declared.entry.Object.TheVariants.{Ecb}
 use Rattle.mv_machine.specs.declared.entry.Op.{Op}
 use Rattle.mv_machine.specs.declared.entry.Op.TheVariants as op_on
 use Rattle.mv_machine.specs.declared.entry.Reply.TheVariants as reply_of
-use Rattle.mv_machine.specs.Limits.{events_limit}
-use Rattle.mv_machine.specs.Setup.{Setup, targets_of}
+use Rattle.mv_config.specs.Limits.{events_limit}
+use Rattle.mv_config.specs.Setup.{Setup, targets_of}
 use Rattle.mv_board.specs.Faces.{CallerFace, Happened}
 use Rattle.mv_machine.specs.declared.entry.Entry.{Entry}
 use Rattle.mv_machine.specs.declared.entry.Reply.{Reply}
-use Rattle.mv_machine.specs.Reach.{reach, total}
+use Rattle.mv_config.specs.Reach.{reach, total}
 use Rattle.mv_calls.specs.Rest.{IsAtRest, no_waits}
 use Rattle.mv_calls.proofs.Making.{waits_from-append}
 use Rattle.mv_wait.proofs.Exits.{total-append}

@@ -17,7 +17,7 @@ use Rattle.mv_machine.specs.declared.entry.Reply.{Reply}
 use Rattle.mv_machine.specs.declared.entry.Reply.TheVariants as reply_of
 use Rattle.mv_machine.specs.Kept.{allowed}
 use Rattle.mv_machine.specs.Parts.{IsPossible}
-use Rattle.mv_machine.specs.Setup.{Setup, owner_of, is_exit_of}
+use Rattle.mv_config.specs.Setup.{Setup, owner_of, is_exit_of}
 use Rattle.mv_board.specs.Faces.{CallerFace, Happened, Exchanged}
 use Rattle.mv_calls.specs.declared.outcomes.PostAnswer.{PostAnswer}
 use Rattle.mv_calls.specs.Keeping.{Kept, kept_of, nothing_kept}

@@ -4,7 +4,7 @@ use Rattle.std.proofs.Common.{length, get_or, set, take, cond, refl, sym, ap, â—
 use Rattle.std.proofs.lemmas.Bool.{ne_eqb, eq-eqb, eqb-true, eqb-false}
 use Rattle.std.proofs.lemmas.List.{get_or-take, get_or-set_same, get_or-set_other}
 use Rattle.std.specs.List.{AllByRecursion}
-use Rattle.mv_machine.specs.Setup.{Setup, owner_of}
+use Rattle.mv_config.specs.Setup.{Setup, owner_of}
 use Rattle.mv_board.specs.declared.watch.Watch.{Watch}
 use Rattle.mv_board.specs.declared.watch.Watch.TheVariants as watch
 use Rattle.mv_calls.specs.Waits.{AreDistinct}

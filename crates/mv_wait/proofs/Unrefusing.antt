@@ -4,7 +4,7 @@ use Rattle.std.proofs.Common.{length, cond, Option, Some, None, Ok, Err, refl, s
 use Rattle.std.proofs.lemmas.Bool.{false≢true, eqb-true, eq-eqb, le-leb, le-ltb, ltb-false, or_parts, not-false}
 use Rattle.std.specs.List.{AllByRecursion, list_any}
 use Rattle.std.specs.Option.{option_or}
-use Rattle.mv_machine.specs.Setup.{Setup, owner_of}
+use Rattle.mv_config.specs.Setup.{Setup, owner_of}
 use Rattle.mv_machine.specs.declared.entry.Entry.{Entry}
 use Rattle.mv_board.specs.Faces.{CallerFace, IsSame}
 use Rattle.mv_calls.specs.Keeping.{Kept, kept_of, nothing_kept}

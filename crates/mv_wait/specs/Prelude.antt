@@ -19,11 +19,11 @@ pub use Rattle.mv_latch.specs.declared.request.Mode.TheVariants as mode
 pub use Rattle.mv_latch.specs.declared.request.Request.{Request}
 pub use Rattle.mv_latch.specs.Request.{posted_ecb}
 -- ---- configurations
-pub use Rattle.mv_machine.specs.Check.{IsValid}
-pub use Rattle.mv_machine.specs.Config.{exit_of}
-pub use Rattle.mv_machine.specs.Limits.{events_limit, highest_generation, highest_place, highest_reach}
-pub use Rattle.mv_machine.specs.Reach.{reach, release_cost, total}
-pub use Rattle.mv_machine.specs.Setup.{Setup, element_count, element_owner, owner_of}
+pub use Rattle.mv_config.specs.Check.{IsValid}
+pub use Rattle.mv_config.specs.Config.{exit_of}
+pub use Rattle.mv_config.specs.Limits.{events_limit, highest_generation, highest_place, highest_reach}
+pub use Rattle.mv_config.specs.Reach.{reach, release_cost, total}
+pub use Rattle.mv_config.specs.Setup.{Setup, element_count, element_owner, owner_of}
 -- ---- entries, histories, and what they say of a task
 pub use Rattle.mv_machine.specs.declared.entry.Entry.{Entry}
 pub use Rattle.mv_machine.specs.declared.entry.Object.{Object}

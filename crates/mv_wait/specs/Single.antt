@@ -6,7 +6,7 @@ use Rattle.mv_ecb.specs.declared.operation.EcbReply.TheVariants as ecb_reply
 use Rattle.mv_machine.specs.declared.entry.Object.TheVariants.{Ecb}
 use Rattle.mv_machine.specs.declared.entry.Op.TheVariants as op_on
 use Rattle.mv_machine.specs.declared.entry.Reply.TheVariants as reply_of
-use Rattle.mv_machine.specs.Setup.{Setup}
+use Rattle.mv_config.specs.Setup.{Setup}
 use Rattle.mv_board.specs.Faces.{CallerFace, Happened}
 use Rattle.mv_calls.specs.Keeping.{kept_of}
 use Rattle.mv_calls.specs.Waits.{extend_refusal}

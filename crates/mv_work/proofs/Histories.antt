@@ -7,10 +7,10 @@ use Rattle.std.proofs.lemmas.List.{get_or_default, get_or-drop, get_or-map, get_
 use Rattle.std.specs.List.{AllByRecursion}
 use Rattle.mv_board.specs.Faces.{AreHeld, CallerFace, IsIn}
 use Rattle.mv_board.specs.declared.closing.Closed.{Closed}
-use Rattle.mv_machine.specs.Setup.{Setup}
+use Rattle.mv_config.specs.Setup.{Setup}
 use Rattle.mv_machine.specs.declared.entry.Entry.{Entry}
 use Rattle.mv_machine.specs.Legal.{Legal, after}
-use Rattle.mv_machine.specs.Limits.{events_limit}
+use Rattle.mv_config.specs.Limits.{events_limit}
 use Rattle.mv_machine.specs.System.{opening}
 use Rattle.mv_machine.specs.Told.{told as told_to}
 use Rattle.mv_calls.specs.Keeping.{kept_of, nothing_kept}

@@ -1,7 +1,7 @@
 -- From what a task waits for, and how that was met, to what it was told. For whoever runs tasks.
 use Rattle.std.proofs.Common.{◌≡◌, ℕ, ◌+◌, ◌*◌, ◌<◌, ◌≤◌, [], Option, Some, None, Result, Ok, Err, sym, ◌∙◌, subst, arith}
 use Rattle.mv_board.specs.Faces.{CallerFace, IsSame}
-use Rattle.mv_machine.specs.Setup.{element_count}
+use Rattle.mv_config.specs.Setup.{element_count}
 use Rattle.mv_calls.specs.Keeping.{kept_of}
 use Rattle.mv_calls.specs.Program.{Call, Program, Done, Wrong, accepted, unrefused}
 use Rattle.mv_calls.specs.Refusal.{Refusal}

@@ -6,8 +6,8 @@ use Rattle.mv_board.specs.Faces.{CallerFace, IsFresh}
 use Rattle.mv_deck.specs.declared.deck.After.{After}
 use Rattle.mv_deck.specs.Operand.{most_after}
 use Rattle.mv_deck.specs.Sound.{HasGoodNumbers}
-use Rattle.mv_machine.specs.Reach.{reach, release_cost}
-use Rattle.mv_machine.specs.Setup.{Setup, is_exit_of, owner_of}
+use Rattle.mv_config.specs.Reach.{reach, release_cost}
+use Rattle.mv_config.specs.Setup.{Setup, is_exit_of, owner_of}
 use Rattle.mv_plan.specs.Jobs.{job_at}
 use Rattle.mv_plan.specs.SpoolSetup.{block_owners, done, task_budgets}
 use Rattle.mv_plan.proofs.deck.Ends.{sound_job}

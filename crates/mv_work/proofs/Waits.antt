@@ -4,7 +4,7 @@ use Rattle.mv_board.specs.Faces.{BoardFace, CallerFace}
 use Rattle.mv_calls.specs.Keeping.{kept_of}
 use Rattle.mv_calls.specs.Program.{Call, Done, Wrong, followed, wrong}
 use Rattle.mv_calls.specs.Rest.{IsAtRest}
-use Rattle.mv_machine.specs.Setup.{Setup}
+use Rattle.mv_config.specs.Setup.{Setup}
 use Rattle.mv_wait.proofs.Runs.{same_then}
 use Rattle.mv_wait.specs.Run.{IsServed, MayCall}
 use Rattle.mv_work.specs.declared.lost.Lost.{Lost}

@@ -4,8 +4,8 @@ use Rattle.std.specs.Prelude.{Option, Some, Result, sum_by, slice_index_or, ifâ—
 use Rattle.std.specs.List.{list_any}
 use Rattle.mv_board.specs.Faces.{CallerFace}
 use Rattle.mv_element.specs.declared.element.Token.{Token}
-use Rattle.mv_machine.specs.Limits.{highest_generation}
-use Rattle.mv_machine.specs.Setup.{Setup}
+use Rattle.mv_config.specs.Limits.{highest_generation}
+use Rattle.mv_config.specs.Setup.{Setup}
 use Rattle.mv_machine.specs.System.{with_at}
 use Rattle.mv_calls.specs.Endings.{end_of_job}
 use Rattle.mv_calls.specs.declared.outcomes.Given.{Given}

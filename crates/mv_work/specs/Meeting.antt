@@ -2,8 +2,8 @@
 use Rattle.std.specs.Prelude.{◌≡◌, ℕ, ◌<◌, ◌≤◌, ◌+◌, length, Result, MatchResult}
 use Rattle.std.specs.List.{AllByRecursion}
 use Rattle.mv_board.specs.Faces.{CallerFace}
-use Rattle.mv_machine.specs.Limits.{highest_generation}
-use Rattle.mv_machine.specs.Setup.{Setup, element_count, owner_of}
+use Rattle.mv_config.specs.Limits.{highest_generation}
+use Rattle.mv_config.specs.Setup.{Setup, element_count, owner_of}
 use Rattle.mv_calls.specs.Program.{Done, Wrong}
 use Rattle.mv_calls.specs.Exits.{StartsExit}
 use Rattle.mv_work.specs.declared.lost.Lost.{Lost}

@@ -1,7 +1,7 @@
 -- What a task waits for, as a call, and the answer to it.
 use Rattle.std.specs.Prelude.{◌≡◌, ℕ, ◌*◌, List, [], ◌∷◌, length}
 use Rattle.mv_latch.specs.declared.request.LatchForm.TheVariants.{Waiting}
-use Rattle.mv_machine.specs.Setup.{Setup}
+use Rattle.mv_config.specs.Setup.{Setup}
 use Rattle.mv_calls.specs.LatchCalls.{obtain}
 use Rattle.mv_calls.specs.declared.outcomes.Given.{Given}
 use Rattle.mv_calls.specs.Pauses.{pause}

@@ -7,8 +7,8 @@ use Rattle.mv_deck.specs.declared.deck.Step.TheVariants.{Return, Use}
 use Rattle.mv_deck.specs.EndCode.{not_run}
 use Rattle.mv_deck.specs.Operand.{volume_count, highest_latch}
 use Rattle.mv_latchset.specs.declared.token.LatchToken.{LatchToken}
-use Rattle.mv_machine.specs.Reach.{release_cost}
-use Rattle.mv_machine.specs.Setup.{Setup}
+use Rattle.mv_config.specs.Reach.{release_cost}
+use Rattle.mv_config.specs.Setup.{Setup}
 use Rattle.mv_plan.specs.Jobs.{job_at}
 use Rattle.mv_work.specs.declared.lost.Lost.{Lost}
 use Rattle.mv_work.specs.declared.records.Noted.{Noted}

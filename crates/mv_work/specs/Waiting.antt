@@ -4,7 +4,7 @@ use Rattle.std.specs.Prelude.{◌≡◌, ℕ, ◌+◌, ◌≤◌, Option, Some, 
 use Rattle.mv_board.specs.Faces.{BoardFace, CallerFace, IsSame}
 use Rattle.mv_calls.specs.Keeping.{Kept}
 use Rattle.mv_calls.specs.Program.{Call, Done, Wrong, followed}
-use Rattle.mv_machine.specs.Setup.{Setup}
+use Rattle.mv_config.specs.Setup.{Setup}
 use Rattle.mv_wait.specs.Run.{MayCall}
 use Rattle.mv_work.specs.declared.lost.Lost.{Lost}
 use Rattle.mv_work.specs.declared.need.Got.{Got}

@@ -14,7 +14,7 @@
 ghost use Rattle.std.specs.Prelude.{◌≡◌, ◌<◌, ◌≤◌, ◌+◌, length};
 ghost use Rattle.std.specs.List.{AllByRecursion};
 ghost use Rattle.mv_deck.specs.Prelude.{deck_data, most_after, HasGoodNumbers};
-ghost use Rattle.mv_machine.specs.Reach.{reach, release_cost};
+ghost use Rattle.mv_config.specs.Reach.{reach, release_cost};
 ghost use Rattle.mv_plan.specs.Prelude.{job_at, done, end_for_writer, entered, idle, scheduler, writer};
 ghost use Rattle.mv_work.specs.Meeting.{MayMeet};
 ghost use Rattle.mv_work.specs.Spool.{IsSpool, spool_of};

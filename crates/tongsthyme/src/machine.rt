@@ -1,7 +1,7 @@
 //! The machine, one operation at a time. Its clauses cite specs/Verdict, specs/Stepping and specs/Reading of mv_oracle.
 
 ghost use Rattle.std.specs.Prelude.{◌≡◌, ◌≢◌, []};
-ghost use Rattle.mv_machine.specs.Setup.{Setup};
+ghost use Rattle.mv_config.specs.Setup.{Setup};
 ghost use Rattle.mv_replay.specs.Judgement.{IsReplayed};
 ghost use Rattle.mv_oracle.specs.Machine.{Holds, Machine};
 ghost use Rattle.mv_oracle.specs.Operation.{object_of, request_of};

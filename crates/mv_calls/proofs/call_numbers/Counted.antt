@@ -8,7 +8,7 @@ use Rattle.std.specs.Prelude.{All}
 use Rattle.mv_latch.specs.declared.operation.Wake.{Wake}
 use Rattle.mv_machine.specs.declared.entry.Entry.{Entry}
 use Rattle.mv_machine.specs.Legal.{IsNext, next, after_from, after}
-use Rattle.mv_machine.specs.Setup.{Setup}
+use Rattle.mv_config.specs.Setup.{Setup}
 use Rattle.mv_machine.specs.System.{System, opening, after_step, wakes_after, with_at}
 use Rattle.mv_machine.specs.Told.{last_wakes}
 use Rattle.mv_machine.proofs.Histories.{after_from-append}

@@ -10,7 +10,7 @@ use Rattle.mv_machine.specs.declared.entry.Op.{Op}
 use Rattle.mv_machine.specs.declared.entry.Op.TheVariants as op_on
 use Rattle.mv_machine.specs.declared.entry.Reply.{Reply}
 use Rattle.mv_machine.specs.Legal.{IsNext}
-use Rattle.mv_machine.specs.Setup.{Setup}
+use Rattle.mv_config.specs.Setup.{Setup}
 use Rattle.mv_machine.specs.State.{table}
 use Rattle.mv_machine.specs.System.{System, admitted, wakes_after, with_at}
 use Rattle.mv_machine.proofs.Tables.{table-set}

@@ -19,15 +19,15 @@ use Rattle.mv_machine.specs.declared.entry.Op.{Op}
 use Rattle.mv_machine.specs.declared.entry.Op.TheVariants as op_on
 use Rattle.mv_machine.specs.declared.entry.Reply.{Reply}
 use Rattle.mv_machine.specs.declared.entry.Reply.TheVariants as reply_of
-use Rattle.mv_machine.specs.Chains.{HasFewGoodTargets}
-use Rattle.mv_machine.specs.Check.{IsValid}
+use Rattle.mv_config.specs.Chains.{HasFewGoodTargets}
+use Rattle.mv_config.specs.Check.{IsValid}
 use Rattle.mv_machine.specs.Legal.{Legal, LegalFrom, next, after}
-use Rattle.mv_machine.specs.Setup.{Setup, SetupExit, is_exit_of, starts_from, targets_at, targets_of}
+use Rattle.mv_config.specs.Setup.{Setup, SetupExit, is_exit_of, starts_from, targets_at, targets_of}
 use Rattle.mv_machine.specs.System.{System, opening, with_at}
 use Rattle.mv_machine.specs.Waking.{blocks_of}
 use Rattle.mv_machine.proofs.Histories.{after_from-append}
 use Rattle.mv_machine.proofs.Lists.{all_got, all_map}
-use Rattle.mv_machine.proofs.Reaches.{LeadsUp, all_good, all_lead_up}
+use Rattle.mv_config.proofs.Reaches.{LeadsUp, all_good, all_lead_up}
 use Rattle.mv_machine.proofs.Replays.{legal_push}
 use Rattle.mv_calls.specs.Counters.{pending_room}
 use Rattle.mv_calls.specs.Exits.{NamesOwnExit}

@@ -5,7 +5,7 @@ use Rattle.std.proofs.lemmas.List.{take-append-drop, take_more, length-take-le, 
 use Rattle.std.proofs.lemmas.Option.{slice_get-get_or, slice_get_within}
 use Rattle.mv_machine.specs.declared.entry.Entry.{Entry}
 use Rattle.mv_machine.specs.Legal.{Legal, LegalFrom, next}
-use Rattle.mv_machine.specs.Setup.{Setup}
+use Rattle.mv_config.specs.Setup.{Setup}
 use Rattle.mv_machine.specs.System.{System, opening, with_at}
 use Rattle.mv_machine.proofs.Histories.{LegalFrom-front}
 use Rattle.mv_calls.specs.Numbers.{Numbering, unnumbered, numbered_at, calls, calls_from}

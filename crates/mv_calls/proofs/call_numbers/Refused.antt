@@ -8,7 +8,7 @@ use Rattle.mv_machine.specs.declared.entry.Entry.{Entry}
 use Rattle.mv_machine.specs.declared.replaying.Illegal.{Illegal}
 use Rattle.mv_machine.specs.Legal.{Legal, LegalFrom}
 use Rattle.mv_machine.specs.Replay.{IsFirstIllegal}
-use Rattle.mv_machine.specs.Setup.{Setup}
+use Rattle.mv_config.specs.Setup.{Setup}
 use Rattle.mv_machine.specs.System.{System, opening}
 use Rattle.mv_machine.proofs.Replays.{not_legal}
 use Rattle.mv_calls.proofs.call_numbers.Judged.{judged_there}

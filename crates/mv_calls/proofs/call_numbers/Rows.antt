@@ -10,7 +10,7 @@ use Rattle.mv_latch.specs.declared.request.LatchForm.TheVariants.{Conditional, W
 use Rattle.mv_latch.specs.declared.request.Mode.TheVariants.{Shared, Exclusive}
 use Rattle.mv_machine.specs.declared.entry.Entry.{Entry}
 use Rattle.mv_machine.specs.Legal.{Legal}
-use Rattle.mv_machine.specs.Setup.{Setup}
+use Rattle.mv_config.specs.Setup.{Setup}
 use Rattle.mv_machine.specs.System.{opening}
 use Rattle.mv_calls.specs.Program.{Heard}
 use Rattle.mv_calls.specs.declared.outcomes.PostAnswer.TheVariants.{Woke}

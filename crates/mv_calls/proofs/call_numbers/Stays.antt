@@ -10,7 +10,7 @@ use Rattle.mv_machine.specs.declared.entry.Op.{Op}
 use Rattle.mv_machine.specs.declared.entry.Op.TheVariants as op_on
 use Rattle.mv_machine.specs.declared.entry.Reply.{Reply}
 use Rattle.mv_machine.specs.declared.entry.Reply.TheVariants as reply_of
-use Rattle.mv_machine.specs.Setup.{Setup, targets_of}
+use Rattle.mv_config.specs.Setup.{Setup, targets_of}
 use Rattle.mv_calls.specs.Keeping.{Kept}
 use Rattle.mv_calls.specs.Posts.{posting, posted_next, each_posted, post_within, wake_posted}
 use Rattle.mv_calls.specs.Posts.{wakes_posted}

@@ -9,12 +9,12 @@ use Rattle.mv_plan.proofs.Words.{length-map-range_with_len, weight, task_budgets
 use Rattle.std.proofs.Common.{◌/◌}
 use Rattle.std.proofs.lemmas.Bool.{ltb-true}
 use Rattle.std.proofs.lemmas.List.{get_or-append-add}
-use Rattle.mv_machine.specs.Setup.{starts_from, targets_of, targets_at}
+use Rattle.mv_config.specs.Setup.{starts_from, targets_of, targets_at}
 use Rattle.std.specs.Prelude.{slice_get}
 use Rattle.std.specs.List.{position_from, list_all}
-use Rattle.mv_machine.specs.Check.{IsValid, first_limit, first_bad_owner, first_bad_exit, bad_budget, is_bad_exit, is_within, keeps}
-use Rattle.mv_machine.specs.declared.config.ConfigLimit.TheVariants.{Callers, Budgets, Ecbs, Exits, Targets}
-use Rattle.mv_machine.proofs.Chains.{all_copies}
+use Rattle.mv_config.specs.Check.{IsValid, first_limit, first_bad_owner, first_bad_exit, bad_budget, is_bad_exit, is_within, keeps}
+use Rattle.mv_config.specs.declared.config.ConfigLimit.TheVariants.{Callers, Budgets, Ecbs, Exits, Targets}
+use Rattle.mv_config.proofs.Chains.{all_copies}
 use Rattle.mv_plan.proofs.deck.Ends.{budgets_sum}
 
 -- a configuration of the spool for n jobs

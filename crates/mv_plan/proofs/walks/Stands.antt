@@ -14,7 +14,7 @@ use Rattle.mv_machine.specs.System.{latches_of}
 use Rattle.mv_calls.proofs.Hearing.{wakes_at}
 use Rattle.mv_plan.proofs.points.{PostNothing, initiator_asks, initiator_goes, keeps, IsReaderAt, WriterKept, IsWriterAt, InitiatorStands}
 use Rattle.mv_plan.proofs.points.{initiator_stands, IsInitiatorAt, SchedulerStands, scheduler_stands, IsSchedulerAt}
-use Rattle.mv_machine.proofs.Chains.{all_set}
+use Rattle.mv_config.proofs.Chains.{all_set}
 use Rattle.mv_plan.proofs.lists.{all_drop, all_get, with_at-other, all_but}
 use Rattle.mv_plan.proofs.deck.{ArePlannedJobs, Facts}
 use Rattle.mv_plan.proofs.walks.Walks.{Points, start_points, Move, reads, schedules, initiates, writes}

@@ -2,7 +2,7 @@
 //! machine does not admit. The replies were worked out by hand from the tables.
 
 ghost use Rattle.std.specs.Prelude.{◌≤◌, IsTrue, All};
-ghost use Rattle.mv_machine.specs.Limits.{highest_place};
+ghost use Rattle.mv_config.specs.Limits.{highest_place};
 ghost use Rattle.mv_entrytext.specs.Fault.{HasJournal};
 
 use super::forged_journals::{PAUSE, assert_forged, unnumbered};

@@ -2,7 +2,7 @@
 //! running out of memory. The list has two entries, whose values were worked out by hand.
 
 ghost use Rattle.std.specs.Prelude.{◌≤◌, IsTrue, All};
-ghost use Rattle.mv_machine.specs.Limits.{highest_place};
+ghost use Rattle.mv_config.specs.Limits.{highest_place};
 
 use super::*;
 use mv_calls::{CallsRefusal, replay_calls};

@@ -4,8 +4,8 @@
 
 ghost use Rattle.std.specs.Prelude.{◌≡◌, ◌<◌};
 ghost use Rattle.mv_element.specs.Table.{release_limit};
-ghost use Rattle.mv_machine.specs.Limits.{highest_generation};
-ghost use Rattle.mv_machine.specs.Setup.{element_count};
+ghost use Rattle.mv_config.specs.Limits.{highest_generation};
+ghost use Rattle.mv_config.specs.Setup.{element_count};
 ghost use Rattle.mv_calls.specs.Rest.{IsAtRest};
 ghost use Rattle.mv_board.specs.Faces.{IsOf};
 ghost use Rattle.mv_pause.specs.Releasing.{HasNoPause};

@@ -4,7 +4,7 @@
 
 ghost use Rattle.std.specs.Prelude.{◌≡◌, ◌<◌, ◌≤◌, ◌*◌, true, false, length, MatchOption};
 ghost use Rattle.std.specs.List.{AllByRecursion};
-ghost use Rattle.mv_machine.specs.Setup.{element_count};
+ghost use Rattle.mv_config.specs.Setup.{element_count};
 ghost use Rattle.mv_calls.specs.Rest.{IsAtRest};
 ghost use Rattle.mv_board.specs.Faces.{CallerFace, IsOf, AreFresh};
 ghost use Rattle.mv_polled.specs.Obtaining.{IsObtainAt};

@@ -3,7 +3,7 @@
 
 ghost use Rattle.std.specs.Prelude.{◌≡◌, ◌<◌, ◌≤◌, ◌++◌, [], ◌∷◌, length};
 ghost use Rattle.std.specs.List.{AllByRecursion};
-ghost use Rattle.mv_machine.specs.Setup.{element_count};
+ghost use Rattle.mv_config.specs.Setup.{element_count};
 ghost use Rattle.mv_calls.specs.Rest.{IsAtRest};
 ghost use Rattle.mv_board.specs.Faces.{CallerFace, IsOf, AreFresh, AreInOrder};
 ghost use Rattle.mv_polled.specs.Pausing.{IsPauseAt};

@@ -5,7 +5,7 @@ use Rattle.std.proofs.Common.{if◌then◌else◌, refl, sym, ap, ◌∙◌, sub
 use Rattle.std.specs.List.{list_any, AllByRecursion}
 use Rattle.std.proofs.lemmas.Bool.{ne_eqb, eqb-true}
 use Rattle.mv_element.specs.declared.element.Token.{Token}
-use Rattle.mv_machine.specs.Setup.{Setup}
+use Rattle.mv_config.specs.Setup.{Setup}
 use Rattle.mv_calls.specs.Endings.{end_of_job}
 use Rattle.mv_calls.specs.Keeping.{Kept}
 use Rattle.mv_calls.specs.declared.outcomes.Given.{Given}

@@ -5,11 +5,11 @@ use Rattle.std.proofs.lemmas.Bool.{eqb-true}
 use Rattle.std.proofs.lemmas.List.{get_or_default}
 use Rattle.std.proofs.lemmas.List.Sums.{get_or-le-sum_by}
 use Rattle.atomic_table.specs.Table.{Me}
-use Rattle.mv_machine.specs.Setup.{Setup}
-use Rattle.mv_machine.specs.Limits.{events_limit}
-use Rattle.mv_machine.specs.declared.config.ConfigLimit.TheVariants.{Budgets}
-use Rattle.mv_machine.specs.Check.{IsValid, keeps, first_limit}
-use Rattle.mv_machine.proofs.Validity.{no_bad_limit, budgets_kept}
+use Rattle.mv_config.specs.Setup.{Setup}
+use Rattle.mv_config.specs.Limits.{events_limit}
+use Rattle.mv_config.specs.declared.config.ConfigLimit.TheVariants.{Budgets}
+use Rattle.mv_config.specs.Check.{IsValid, keeps, first_limit}
+use Rattle.mv_config.proofs.Validity.{no_bad_limit, budgets_kept}
 use Rattle.mv_board.specs.declared.item.Item.{Item}
 use Rattle.mv_board.specs.declared.view.View.{View}
 use Rattle.mv_board.specs.declared.view.Part.{Part}

@@ -1,6 +1,6 @@
 -- Where the reader stands decides: what the next line says, or that the text is cut off.
 use Rattle.std.proofs.Common.{true, [], ◌≡◌, Option, Some, refl, ap, sym, subst, ◌∙◌}
-use Rattle.mv_machine.specs.Setup.{Setup}
+use Rattle.mv_config.specs.Setup.{Setup}
 use Rattle.mv_entrytext.specs.Journal as journal
 use Rattle.mv_entrytext.specs.Lines.{AtEntries, Draft, line_read}
 use Rattle.mv_entrytext.specs.Said.{said}

@@ -1,6 +1,6 @@
 use Rattle.std.proofs.Common.{◌≡◌, ◌++◌, take, map}
 use Rattle.std.specs.List.{flat_map}
-use Rattle.mv_machine.specs.Config.{exit_of}
+use Rattle.mv_config.specs.Config.{exit_of}
 use Rattle.mv_entrytext.specs.Journal.{ExitTo, line}
 use Rattle.mv_entrytext.proofs.writing.push_exits.Given as goal
 

@@ -2,7 +2,7 @@
 use Rattle.std.proofs.Common.{◌≤◌, List, sym, subst}
 use Rattle.std.specs.Prelude.{All}
 use Rattle.mv_machine.specs.declared.entry.Entry.{Entry}
-use Rattle.mv_machine.specs.Limits.{highest_place}
+use Rattle.mv_config.specs.Limits.{highest_place}
 use Rattle.mv_explain.proofs.JournalFacts.{numbered, places_fit}
 use Rattle.mv_explain.proofs.judging.judge_journal.Goals as goal
 

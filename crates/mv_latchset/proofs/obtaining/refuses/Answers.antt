@@ -2,7 +2,7 @@ use Rattle.std.proofs.Common.{nat_lt, true, false, refl, sym, ap, ◌∙◌}
 use Rattle.std.proofs.lemmas.Bool.{not-false, not-true}
 use Rattle.mv_latch.specs.declared.operation.LatchOp.TheVariants.{Obtain}
 use Rattle.mv_machine.specs.Kept.{keeps_quotas}
-use Rattle.mv_machine.specs.Setup.{Setup}
+use Rattle.mv_config.specs.Setup.{Setup}
 use Rattle.mv_machine.specs.System.{posts_own_ecb}
 use Rattle.mv_calls.specs.Keeping.{kept_of}
 use Rattle.mv_latchset.proofs.Admits.{refusal_by}

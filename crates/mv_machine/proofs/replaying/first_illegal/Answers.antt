@@ -3,7 +3,7 @@ use Rattle.std.proofs.Common.{◌≡◌, ◌≤◌, Some, get_or, arith, sym, �
 use Rattle.std.proofs.lemmas.Bool.{false≢true}
 use Rattle.std.proofs.lemmas.List.{get_or_read}
 use Rattle.std.proofs.lemmas.List.Elements.{All-get_or}
-use Rattle.mv_machine.specs.Limits.{highest_place}
+use Rattle.mv_config.specs.Limits.{highest_place}
 use Rattle.mv_machine.specs.declared.entry.Entry.{Entry}
 use Rattle.mv_machine.specs.State.{system_of, wakes_of}
 use Rattle.mv_machine.proofs.Replays.{no_entry, pass_legal, pass_after, pass_wakes, pass_places, pass_illegal}

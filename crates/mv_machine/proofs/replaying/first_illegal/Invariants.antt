@@ -1,6 +1,6 @@
 -- What has been gone through is legal, and the state is where it leads.
 use Rattle.std.proofs.Common.{◌≡◌, ◌<◌, take}
-use Rattle.mv_machine.specs.Limits.{place_limit}
+use Rattle.mv_config.specs.Limits.{place_limit}
 use Rattle.mv_machine.specs.declared.entry.Object.{Object}
 use Rattle.mv_machine.specs.Legal.{LegalFrom, after_from}
 use Rattle.mv_machine.specs.State.{system_of, wakes_of, IsOpenedWith}

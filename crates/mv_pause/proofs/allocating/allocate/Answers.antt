@@ -3,7 +3,7 @@ use Rattle.std.specs.Prelude.{IfSome}
 use Rattle.std.proofs.lemmas.Bool.{eq-eqb, lt-ltb}
 use Rattle.mv_element.specs.declared.operation.ElementOp.TheVariants.{Open}
 use Rattle.mv_element.specs.declared.operation.ElementReply.TheVariants.{Opened}
-use Rattle.mv_machine.specs.Setup.{element_count, element_owner}
+use Rattle.mv_config.specs.Setup.{element_count, element_owner}
 use Rattle.mv_machine.specs.declared.entry.Object.TheVariants.{Element}
 use Rattle.mv_machine.specs.declared.entry.Op.TheVariants as op_on
 use Rattle.mv_machine.specs.declared.entry.Reply.TheVariants as reply_of

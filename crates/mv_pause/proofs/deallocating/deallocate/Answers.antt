@@ -2,7 +2,7 @@ use Rattle.std.proofs.Common.{◌≡◌, Ok, Err, refl, sym, ap, ◌∙◌, subs
 use Rattle.std.proofs.lemmas.Bool.{false≢true, eq-eqb, lt-ltb}
 use Rattle.mv_element.specs.declared.operation.ElementOp.TheVariants.{Close}
 use Rattle.mv_element.specs.declared.operation.ElementReply.TheVariants.{Closed, Spent}
-use Rattle.mv_machine.specs.Setup.{element_count, element_owner}
+use Rattle.mv_config.specs.Setup.{element_count, element_owner}
 use Rattle.mv_machine.specs.declared.entry.Object.TheVariants.{Element}
 use Rattle.mv_machine.specs.declared.entry.Op.TheVariants as op_on
 use Rattle.mv_machine.specs.declared.entry.Reply.TheVariants as reply_of

@@ -1,5 +1,5 @@
 use Rattle.std.proofs.Common.{◌==◌, not, sym, ap, ◌∙◌}
-use Rattle.mv_machine.specs.Setup.{element_owner}
+use Rattle.mv_config.specs.Setup.{element_owner}
 use Rattle.mv_calls.specs.Keeping.{nothing_kept}
 use Rattle.mv_calls.proofs.Making.{kept_caller}
 use Rattle.mv_pause.proofs.owning.is_others.Goals as goal

@@ -4,7 +4,7 @@ use Rattle.mv_element.specs.declared.operation.ElementOp.TheVariants.{Resume}
 use Rattle.mv_machine.specs.declared.entry.Object.TheVariants.{Element}
 use Rattle.mv_machine.specs.declared.entry.Op.TheVariants as op_on
 use Rattle.mv_machine.specs.Replies.{NamesUpTo}
-use Rattle.mv_machine.specs.Setup.{element_owner, element_count}
+use Rattle.mv_config.specs.Setup.{element_owner, element_count}
 use Rattle.mv_board.specs.Faces.{Happened}
 use Rattle.mv_pause.proofs.Between.{pausing_own, pausing_parked, pausing_left, pausing_ends, says_given}
 use Rattle.mv_pause.proofs.pausing.end_pause.Goals as goal

@@ -2,7 +2,7 @@ use Rattle.std.proofs.Common.{◌≡◌, ◌+◌, List, length, sym, ap, ◌∙�
 use Rattle.std.proofs.lemmas.List.{length-map}
 use Rattle.mv_board.specs.Faces.{AreInOrder, CallerFace}
 use Rattle.mv_deck.specs.Deck.{deck_data}
-use Rattle.mv_machine.specs.Setup.{Setup}
+use Rattle.mv_config.specs.Setup.{Setup}
 use Rattle.mv_work.specs.Spool.{SpoolFace, spool_of}
 use Rattle.mv_work.specs.Works.{AreWorked}
 use Rattle.mv_work.proofs.Histories.{are_results, works_end}

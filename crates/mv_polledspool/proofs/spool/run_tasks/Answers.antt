@@ -1,6 +1,6 @@
 use Rattle.std.proofs.Common.{ap, ◌∙◌}
 use Rattle.mv_deck.specs.Deck.{deck_data}
-use Rattle.mv_machine.specs.Setup.{Setup}
+use Rattle.mv_config.specs.Setup.{Setup}
 use Rattle.mv_work.specs.Spool.{spool_of}
 use Rattle.mv_polledspool.proofs.Running.{are_polled, task_count}
 use Rattle.mv_polledspool.proofs.spool.run_tasks.Goals as goal

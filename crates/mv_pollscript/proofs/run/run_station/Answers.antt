@@ -2,7 +2,7 @@ use Rattle.std.proofs.Common.{List, ◌++◌, sym, ap, ◌∙◌, subst}
 use Rattle.std.specs.List.{AllByRecursion}
 use Rattle.mv_board.specs.Faces.{AreInOrder, CallerFace, IsIn}
 use Rattle.mv_machine.specs.Legal.{after}
-use Rattle.mv_machine.specs.Setup.{Setup}
+use Rattle.mv_config.specs.Setup.{Setup}
 use Rattle.mv_machine.specs.State.{IsOpenedWith}
 use Rattle.mv_runscript.specs.Rooms.{script_with}
 use Rattle.mv_runscript.proofs.Scripts.{task_count}

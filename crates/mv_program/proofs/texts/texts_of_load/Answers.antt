@@ -7,7 +7,7 @@ use Rattle.mv_deck.specs.Sound.{IsSound}
 use Rattle.mv_deck.proofs.LoadJobs.{count_of_jobs}
 use Rattle.mv_deck.proofs.Loads.{no_fault, stated_jobs}
 use Rattle.mv_deck.proofs.Sounds.{sound}
-use Rattle.mv_machine.specs.Setup.{Setup}
+use Rattle.mv_config.specs.Setup.{Setup}
 use Rattle.mv_entrytext.specs.Journal.{journal_text}
 use Rattle.mv_report.specs.EndCode.{IsEndCode}
 use Rattle.mv_report.specs.Outcome.{ends, totals}

@@ -1,6 +1,6 @@
 -- What the run of a script came to is what its answers and its journal tell.
 use Rattle.std.proofs.Common.{ap, ◌∙◌, arith}
-use Rattle.mv_machine.specs.Setup.{Setup}
+use Rattle.mv_config.specs.Setup.{Setup}
 use Rattle.mv_entrytext.specs.Journal.{journal_text}
 use Rattle.mv_script.specs.Script.{script_data}
 use Rattle.mv_program.proofs.Runs.{legal_so, run_of_script}

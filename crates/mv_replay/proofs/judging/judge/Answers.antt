@@ -1,7 +1,7 @@
 -- The course is one entry further with each that is read.
 use Rattle.std.proofs.Common.{ℕ, ◌∷◌, ◌++◌, [], List, Option, refl, sym, subst}
 use Rattle.mv_machine.specs.declared.entry.Entry.{Entry}
-use Rattle.mv_machine.specs.Setup.{Setup}
+use Rattle.mv_config.specs.Setup.{Setup}
 use Rattle.mv_entrytext.specs.Lines.{with_call}
 use Rattle.mv_entrytext.specs.Reader.{IsReadTo, IsNextOf}
 use Rattle.mv_replay.specs.Course.{is_copied, IsCourse}

@@ -1,6 +1,6 @@
 -- What is kept of a legal text is its machine.
 use Rattle.std.proofs.Common.{sym, subst}
-use Rattle.mv_machine.specs.Setup.{Setup}
+use Rattle.mv_config.specs.Setup.{Setup}
 use Rattle.mv_machine.specs.State.{IsOpenedWith}
 use Rattle.mv_replay.proofs.text.judge_text.Goals as goal
 

@@ -1,6 +1,6 @@
 use Rattle.std.proofs.Common.{map, sym, ◌∙◌, subst, arith}
 use Rattle.mv_machine.specs.Legal.{Legal}
-use Rattle.mv_machine.specs.Setup.{Setup}
+use Rattle.mv_config.specs.Setup.{Setup}
 use Rattle.mv_machine.proofs.Longer.{entries_fit}
 use Rattle.mv_machine.proofs.Orderly.{history_is_orderly}
 use Rattle.mv_script.specs.Events.{EventsAreHandedOut}

@@ -1,9 +1,9 @@
 -- One more exit.
 use Rattle.std.proofs.Common.{◌≡◌, ℕ, ◌+◌, ◌++◌, List, [], ◌∷◌, map, take, sym, ap, ◌∙◌}
 use Rattle.std.proofs.lemmas.List.{map-append, take_more, take-map}
-use Rattle.mv_machine.specs.Config.{exit_of}
-use Rattle.mv_machine.specs.Setup.{SetupExit}
-use Rattle.mv_machine.specs.declared.config.Exit.{Exit}
+use Rattle.mv_config.specs.Config.{exit_of}
+use Rattle.mv_config.specs.Setup.{SetupExit}
+use Rattle.mv_config.specs.declared.config.Exit.{Exit}
 use Rattle.mv_script.proofs.configuration.copied.Goals as goal
 
 pub loop-exit-preserved : goal.loop-exit-preserved

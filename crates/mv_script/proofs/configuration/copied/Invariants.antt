@@ -1,6 +1,6 @@
 -- The exits so far.
 use Rattle.std.proofs.Common.{◌≡◌, map, take}
-use Rattle.mv_machine.specs.Config.{exit_of}
+use Rattle.mv_config.specs.Config.{exit_of}
 use Rattle.mv_script.proofs.configuration.copied.Given as goal
 
 abbrev pub invariant-loop-exit : goal.invariant-loop-exit

@@ -1,6 +1,6 @@
 use Rattle.std.proofs.Common.{◌≡◌, ◌+◌, ◌<◌, ◌∙◌, ap, arith}
 use Rattle.mv_deck.specs.Deck.{deck_data}
-use Rattle.mv_machine.specs.Setup.{Setup}
+use Rattle.mv_config.specs.Setup.{Setup}
 use Rattle.mv_work.specs.Spool.{spool_of}
 use Rattle.mv_work.specs.Works.{AreWorked}
 use Rattle.mv_work.proofs.Histories.{are_results, works_end}

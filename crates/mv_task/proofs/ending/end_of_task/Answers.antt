@@ -1,5 +1,5 @@
 use Rattle.std.proofs.Common.{◌≡◌, ◌+◌, ◌≤◌, Option, ℕ, length, sym, subst, arith}
-use Rattle.mv_machine.specs.Reach.{reach, release_cost}
+use Rattle.mv_config.specs.Reach.{reach, release_cost}
 use Rattle.mv_calls.specs.Endings.{end_of_task, used_elements}
 use Rattle.mv_calls.specs.Services.{mother_events}
 use Rattle.mv_wait.specs.Run.{IsServed, keeps}

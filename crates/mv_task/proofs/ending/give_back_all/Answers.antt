@@ -1,7 +1,7 @@
 -- The task's own elements are gone through, from the first to the last.
 use Rattle.std.proofs.Common.{◌≡◌, ◌+◌, ◌<◌, ◌≤◌, List, ℕ, true, length, refl, sym, ap, ◌∙◌, subst, arith}
 use Rattle.std.specs.declared.ops.Range.{Range}
-use Rattle.mv_machine.specs.Setup.{Setup, element_owner}
+use Rattle.mv_config.specs.Setup.{Setup, element_owner}
 use Rattle.mv_calls.specs.Endings.{used_elements}
 use Rattle.mv_calls.specs.Program.{Wrong}
 use Rattle.mv_wait.specs.Run.{keeps}

@@ -2,8 +2,8 @@ use Rattle.std.proofs.Common.{◌≡◌, ◌*◌, ◌<◌, ◌≤◌, List, [], 
 use Rattle.std.specs.List.{AllByRecursion}
 use Rattle.std.proofs.lemmas.Bool.{false≢true}
 use Rattle.mv_machine.specs.Kept.{standing}
-use Rattle.mv_machine.specs.Limits.{highest_generation}
-use Rattle.mv_machine.specs.Setup.{Setup}
+use Rattle.mv_config.specs.Limits.{highest_generation}
+use Rattle.mv_config.specs.Setup.{Setup}
 use Rattle.mv_machine.specs.declared.entry.Entry.{Entry}
 use Rattle.mv_calls.specs.Keeping.{kept_of}
 use Rattle.mv_wait.specs.Keep.{Keeps}

@@ -1,5 +1,5 @@
 use Rattle.std.proofs.Common.{◌≡◌, drop, not, ◌==◌}
-use Rattle.mv_machine.specs.Setup.{owner_of}
+use Rattle.mv_config.specs.Setup.{owner_of}
 use Rattle.mv_calls.specs.Refusal.{NotOwnerAt}
 use Rattle.mv_calls.specs.Waits.{refused_at}
 use Rattle.mv_wait.proofs.waiting.not_owned.Given as goal

@@ -1,6 +1,6 @@
 use Rattle.std.proofs.Common.{◌≡◌, ◌<◌, true, [], refl, sym, ap, ◌∙◌, subst}
 use Rattle.mv_machine.specs.Kept.{allowed}
-use Rattle.mv_machine.specs.Setup.{Setup}
+use Rattle.mv_config.specs.Setup.{Setup}
 use Rattle.mv_board.specs.declared.view.Part.{Part}
 use Rattle.mv_board.specs.Faces.{BoardFace}
 use Rattle.mv_board.specs.Steps.{Meets, Made, LooksOn}

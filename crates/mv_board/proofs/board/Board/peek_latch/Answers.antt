@@ -4,7 +4,7 @@ use Rattle.atomic_table.specs.Table.{Me, rest}
 use Rattle.mv_latch.specs.declared.request.Request.{Request}
 use Rattle.mv_latch.specs.Latch.{confirm_reply, is_settled}
 use Rattle.mv_latch.specs.LatchSet.{list_of}
-use Rattle.mv_machine.specs.Setup.{Setup}
+use Rattle.mv_config.specs.Setup.{Setup}
 use Rattle.mv_machine.specs.System.{latches_of}
 use Rattle.mv_board.specs.declared.caller.Caller.TheInside.{Inside}
 use Rattle.mv_board.specs.declared.item.Item.{Item}

@@ -1,7 +1,7 @@
 use Rattle.std.proofs.Common.{◌==◌, ◌∙◌, ℕ, not, find, sym, ap}
 use Rattle.std.specs.List.{range_with_len}
 use Rattle.std.specs.Option.{option_or}
-use Rattle.mv_machine.specs.Setup.{owner_of}
+use Rattle.mv_config.specs.Setup.{owner_of}
 use Rattle.mv_calls.proofs.Tables.{found_in}
 use Rattle.mv_calls.proofs.table.Table.first_of_others.Goals as goal
 

@@ -1,7 +1,7 @@
 use Rattle.std.proofs.Common.{◌∙◌, find, sym, ap}
 use Rattle.std.specs.List.{range_with_len}
 use Rattle.std.specs.Option.{option_or}
-use Rattle.mv_machine.specs.Setup.{is_on_exit}
+use Rattle.mv_config.specs.Setup.{is_on_exit}
 use Rattle.mv_calls.proofs.Tables.{found_in}
 use Rattle.mv_calls.proofs.table.Table.first_with_exit.Goals as goal
 

@@ -1,7 +1,7 @@
 -- A history so short has low places only, so its entries have a text.
 use Rattle.std.proofs.Common.{subst, arith}
-use Rattle.mv_machine.specs.Check.{IsValid}
-use Rattle.mv_machine.specs.Setup.{Setup}
+use Rattle.mv_config.specs.Check.{IsValid}
+use Rattle.mv_config.specs.Setup.{Setup}
 use Rattle.mv_machine.proofs.Longer.{entries_fit}
 use Rattle.mv_entrytext.proofs.LegalRanges.{legal_journal}
 use Rattle.mv_entrytext.proofs.history_text.HistoryText.open.Goals as goal

@@ -5,7 +5,7 @@ use Rattle.std.specs.Prelude.{OnOk, OnErr}
 use Rattle.mv_io.specs.Sink.{Appends, AppendsFront}
 use Rattle.mv_machine.specs.declared.entry.Entry.{Entry}
 use Rattle.mv_machine.specs.History.{IsGiven}
-use Rattle.mv_machine.specs.Setup.{Setup}
+use Rattle.mv_config.specs.Setup.{Setup}
 use Rattle.mv_calls.specs.Counters.{HasCounted, IsCountable, IsCountedNext}
 use Rattle.mv_entrytext.specs.HistoryText.{IsWrittenSoFar, text_up_to}
 use Rattle.mv_entrytext.specs.Journal.{EntryOf, line}

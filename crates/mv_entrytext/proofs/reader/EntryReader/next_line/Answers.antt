@@ -4,7 +4,7 @@ use Rattle.std.specs.Prelude.{List, ℕ}
 use Rattle.std.proofs.lemmas.Grind.{common_steps}
 use Rattle.mv_line.specs.declared.fault.LineRefusal.TheVariants.{Has}
 use Rattle.mv_machine.specs.declared.entry.Entry.{Entry}
-use Rattle.mv_machine.specs.Setup.{Setup}
+use Rattle.mv_config.specs.Setup.{Setup}
 use Rattle.mv_operationtext.specs.declared.version.Version.{Version}
 use Rattle.mv_entrytext.specs.Draft.{IsAt, draft_at}
 use Rattle.mv_entrytext.specs.Lines.{AtEnd}

@@ -1,7 +1,7 @@
 -- None of any log is given, and the budgets of a configuration that was checked are within the limit.
 use Rattle.std.proofs.Common.{replicate, ap, ◌∙◌}
-use Rattle.mv_machine.specs.Setup.{Setup}
-use Rattle.mv_machine.proofs.Validity.{budgets_kept}
+use Rattle.mv_config.specs.Setup.{Setup}
+use Rattle.mv_config.proofs.Validity.{budgets_kept}
 use Rattle.mv_machine.proofs.merging.MergeRoom.new.Goals as goal
 
 pub returns : goal.returns

@@ -2,8 +2,8 @@
 use Rattle.std.proofs.Common.{◌≡◌, replicate, refl, ap, arith}
 use Rattle.std.proofs.lemmas.Grind.{common_steps}
 use Rattle.std.proofs.lemmas.List.{length-replicate}
-use Rattle.mv_machine.specs.Config.{setup_of}
-use Rattle.mv_machine.specs.Setup.{Setup}
+use Rattle.mv_config.specs.Config.{setup_of}
+use Rattle.mv_config.specs.Setup.{Setup}
 use Rattle.mv_machine.specs.declared.state.State.{State}
 use Rattle.mv_machine.proofs.LatchIds.{none_in_new}
 use Rattle.mv_machine.proofs.Writes.{same_fits}

@@ -1,6 +1,6 @@
 -- What is shown of the machine is shown of what the handle holds.
 use Rattle.std.proofs.Common.{◌≡◌, [], ◌∷◌, sym, ap, ◌∙◌}
-use Rattle.mv_machine.specs.Setup.{Setup}
+use Rattle.mv_config.specs.Setup.{Setup}
 use Rattle.mv_oracle.specs.declared.oracle.Oracle.{Oracle}
 use Rattle.mv_oracle.specs.Machine.{Machine}
 use Rattle.mv_oracle.specs.Operation.{object_of}

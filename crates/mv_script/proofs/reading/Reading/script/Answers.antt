@@ -1,7 +1,7 @@
 -- The script of statements behind which END stands.
 use Rattle.std.proofs.Common.{◌≡◌, [], map, ap, sym, ◌∙◌}
 use Rattle.std.proofs.lemmas.List.{length-map}
-use Rattle.mv_machine.specs.Config.{exit_of}
+use Rattle.mv_config.specs.Config.{exit_of}
 use Rattle.mv_script.specs.Costs.{costs_of}
 use Rattle.mv_script.specs.Reading.{notes_of, progress_of, setup_in, budgets_in}
 use Rattle.mv_script.proofs.Behind.{budgets_are, ended_well}

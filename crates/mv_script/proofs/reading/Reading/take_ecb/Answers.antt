@@ -1,6 +1,6 @@
 use Rattle.std.proofs.Common.{◌≡◌, false, length, sym, ◌∙◌, arith}
 use Rattle.std.proofs.lemmas.List.{length-map}
-use Rattle.mv_machine.specs.Config.{exit_of}
+use Rattle.mv_config.specs.Config.{exit_of}
 use Rattle.mv_scriptline.specs.declared.statement.Statement.TheVariants as statement
 use Rattle.mv_script.specs.Fault.{is_out_of_order}
 use Rattle.mv_script.specs.Reading.{notes_of}

@@ -1,6 +1,6 @@
 use Rattle.std.proofs.Common.{◌≡◌, ℕ, List, [], ◌∷◌, ◌++◌, false, map, ap, sym, ◌∙◌, arith}
 use Rattle.std.proofs.lemmas.List.{length-map, map-append}
-use Rattle.mv_machine.specs.Config.{exit_of}
+use Rattle.mv_config.specs.Config.{exit_of}
 use Rattle.mv_scriptline.specs.declared.statement.Statement.TheVariants as statement
 use Rattle.mv_script.specs.Fault.{is_out_of_order, leads_down}
 use Rattle.mv_script.specs.Reading.{notes_of}

@@ -1,9 +1,9 @@
 -- A TABLE, in the order of the kinds.
 use Rattle.std.proofs.Common.{◌≡◌, false, List, ◌∷◌, ◌++◌, [], map, Some, ap, sym, subst, ◌∙◌, refl}
 use Rattle.std.specs.Prelude.{is_some}
-use Rattle.mv_machine.specs.Check.{IsValid}
-use Rattle.mv_machine.specs.Config.{exit_of}
-use Rattle.mv_machine.specs.Setup.{Setup}
+use Rattle.mv_config.specs.Check.{IsValid}
+use Rattle.mv_config.specs.Config.{exit_of}
+use Rattle.mv_config.specs.Setup.{Setup}
 use Rattle.mv_calls.specs.declared.table.Table.{Table}
 use Rattle.mv_calls.specs.Table.{table_refusal}
 use Rattle.mv_calls.proofs.TableFacts.{can_have_is}

@@ -1,8 +1,8 @@
 -- A TASK, the first or another one.
 use Rattle.std.proofs.Common.{◌≡◌, ◌++◌, [], ◌∷◌, true, false, map, ap, sym, subst, ◌∙◌, arith}
 use Rattle.std.specs.Prelude.{is_some}
-use Rattle.mv_machine.specs.Check.{IsValid}
-use Rattle.mv_machine.specs.Config.{exit_of}
+use Rattle.mv_config.specs.Check.{IsValid}
+use Rattle.mv_config.specs.Config.{exit_of}
 use Rattle.mv_scriptline.specs.declared.statement.Statement.TheVariants as statement
 use Rattle.mv_script.specs.Fault.{is_out_of_order}
 use Rattle.mv_script.specs.Reading.{Notes, notes_of, progress_of, Stands}

@@ -1,7 +1,7 @@
 use Rattle.std.proofs.Common.{◌≡◌, Ok, refl, ap, subst, arith}
 use Rattle.mv_board.specs.Faces.{CallerFace, IsFresh, IsOf}
 use Rattle.mv_deck.specs.Deck.{deck_data}
-use Rattle.mv_machine.specs.Setup.{Setup}
+use Rattle.mv_config.specs.Setup.{Setup}
 use Rattle.mv_wait.proofs.Parts.{still_of}
 use Rattle.mv_work.specs.declared.work.SpoolWork.{SpoolWork}
 use Rattle.mv_work.specs.Spool.{SpoolFace, spool_of}

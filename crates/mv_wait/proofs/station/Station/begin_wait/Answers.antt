@@ -1,6 +1,6 @@
 use Rattle.std.proofs.Common.{◌≡◌, None, option_map, refl, sym, ap, ◌∙◌, subst, arith}
 use Rattle.std.specs.List.{AllByRecursion}
-use Rattle.mv_machine.specs.Setup.{owner_of}
+use Rattle.mv_config.specs.Setup.{owner_of}
 use Rattle.mv_board.specs.Faces.{CallerFace}
 use Rattle.mv_calls.specs.Keeping.{kept_of, nothing_kept}
 use Rattle.mv_calls.specs.Program.{Wrong}

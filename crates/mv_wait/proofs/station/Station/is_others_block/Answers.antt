@@ -1,5 +1,5 @@
 use Rattle.std.proofs.Common.{◌==◌, not, sym, ap, ◌∙◌}
-use Rattle.mv_machine.specs.Setup.{owner_of}
+use Rattle.mv_config.specs.Setup.{owner_of}
 use Rattle.mv_board.specs.Faces.{BoardFace}
 use Rattle.mv_calls.specs.Keeping.{nothing_kept}
 use Rattle.mv_calls.proofs.Making.{kept_caller}

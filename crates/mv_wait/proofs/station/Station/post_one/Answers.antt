@@ -2,9 +2,9 @@ use Rattle.std.proofs.Common.{◌≡◌, ◌+◌, ◌<◌, ◌≤◌, length, re
 use Rattle.std.proofs.Common.{subst, arith}
 use Rattle.std.specs.List.{AllByRecursion}
 use Rattle.std.proofs.lemmas.List.{length-reverse}
-use Rattle.mv_machine.specs.Check.{IsValid}
-use Rattle.mv_machine.specs.Reach.{reach, total}
-use Rattle.mv_machine.specs.Setup.{Setup, targets_of}
+use Rattle.mv_config.specs.Check.{IsValid}
+use Rattle.mv_config.specs.Reach.{reach, total}
+use Rattle.mv_config.specs.Setup.{Setup, targets_of}
 use Rattle.mv_ecb.specs.declared.operation.EcbOp.TheVariants.{Post}
 use Rattle.mv_machine.specs.declared.entry.Object.TheVariants.{Ecb}
 use Rattle.mv_machine.specs.declared.entry.Op.TheVariants as op_on

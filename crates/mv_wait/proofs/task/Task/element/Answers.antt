@@ -4,8 +4,8 @@ use Rattle.std.proofs.Math.Nat.{div-mul-le_self, mod-eq-sub-div-mul, mod-lt}
 use Rattle.std.proofs.lemmas.Option.{slice_get-get_or}
 use Rattle.mv_board.specs.Faces.{CallerFace}
 use Rattle.mv_calls.specs.Keeping.{kept_of}
-use Rattle.mv_machine.proofs.Validity.{elements_kept}
-use Rattle.mv_machine.specs.Limits.{highest_generation}
+use Rattle.mv_config.proofs.Validity.{elements_kept}
+use Rattle.mv_config.specs.Limits.{highest_generation}
 use Rattle.mv_wait.specs.Keep.{IsKeptAs}
 use Rattle.mv_wait.proofs.Low.{fits_of}
 use Rattle.mv_wait.proofs.task.Task.element.Goals as goal
