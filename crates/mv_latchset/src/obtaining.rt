@@ -142,7 +142,7 @@ pub enum Asking {
 ///         Turn::Ready(answer)
 ///     }
 ///     Asking::Queued(id) => {
-///         self.stage = Stage::Begun;
+///         self.stage = Stage::Waits;
 ///         self.id = id;
 ///         self.go_on(station, rt, task)
 ///     }

@@ -13,8 +13,8 @@ use Rattle.mv_calls.specs.declared.outcomes.ReleaseAnswer.{ReleaseAnswer}
 use Rattle.mv_calls.specs.declared.outcomes.ReleaseAnswer.TheVariants as answer
 use Rattle.mv_pause.specs.declared.releasing.ReleaseRefusal.{ReleaseRefusal}
 use Rattle.mv_pause.specs.declared.releasing.ReleaseRefusal.TheVariants as release_refusal
-use Rattle.mv_pause.specs.declared.replies.Begun.{Begun}
-use Rattle.mv_pause.specs.declared.replies.Begun.TheVariants as begun
+use Rattle.mv_pause.specs.declared.replies.FirstReply.{FirstReply}
+use Rattle.mv_pause.specs.declared.replies.FirstReply.TheVariants as first_reply
 
 -- the reply to Open: the element is opened
 abbrev pub SaysOpened : Reply → Type 0
@@ -53,11 +53,11 @@ abbrev pub SaysState : Reply → Type 0
 SaysState (reply_of.Element (element_reply.State s)) = Unit {0}
 SaysState reply = ⊥
 
--- the reply to the event with which a pause begins so
-abbrev pub reply_to_pause : Begun → ElementReply
-reply_to_pause begun.Parked = element_reply.Parked
-reply_to_pause (begun.Given gift) = element_reply.Given gift.code gift.next
-reply_to_pause (begun.Spent now) = element_reply.Spent now
+-- the reply to the first event of a pause that says this
+abbrev pub reply_to_pause : FirstReply → ElementReply
+reply_to_pause first_reply.Parked = element_reply.Parked
+reply_to_pause (first_reply.Given gift) = element_reply.Given gift.code gift.next
+reply_to_pause (first_reply.Spent now) = element_reply.Spent now
 
 -- the reply to the event of a release with this answer
 abbrev pub reply_to_release : Result ReleaseAnswer ReleaseRefusal → ElementReply

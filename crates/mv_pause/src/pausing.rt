@@ -12,7 +12,7 @@ ghost use Rattle.mv_pause.specs.Pausing.{IsCurrent, IsGiven, IsPauseCause, IsPau
 ghost use Rattle.mv_pause.specs.Replies.{HappenedOn};
 
 use crate::owning::is_others;
-use crate::replies::{Begun, Gift, beginning, gift_in};
+use crate::replies::{FirstReply, Gift, beginning, gift_in};
 use mv_board::Watch;
 use mv_calls::Given;
 use mv_element::{ElementOp, Token};
@@ -98,7 +98,7 @@ pub fn pause<R: Wait + Clock>(
 ///     self.stage = Stage::Over;
 ///     return Turn::Ready(answer);
 /// }
-/// self.stage = Stage::Begun;
+/// self.stage = Stage::Waits;
 /// self.go_on(station, rt, task)
 /// ```
 pub fn begin_pause<R: Wait>(
@@ -191,9 +191,9 @@ fn begin_own<R: Wait>(
         Op::Element(ElementOp::Pause(token.generation)),
     );
     match beginning(reply) {
-        Begun::Given(gift) => Some(Ok(with_token(token.element, gift))),
-        Begun::Spent(now) => Some(Err(PauseRefusal::Spent(now))),
-        Begun::Parked => None,
+        FirstReply::Given(gift) => Some(Ok(with_token(token.element, gift))),
+        FirstReply::Spent(now) => Some(Err(PauseRefusal::Spent(now))),
+        FirstReply::Parked => None,
     }
 }
 

@@ -41,9 +41,9 @@ pub(crate) fn gift_in(reply: Reply) -> Gift
     }
 }
 
-/// How a pause begins, by the reply to its first event.
+/// What the reply to the first event of a pause says.
 #[derive(Clone, Copy, Debug, PartialEq, Eq)]
-pub(crate) enum Begun {
+pub(crate) enum FirstReply {
     /// The task has to wait for a code.
     Parked,
     /// A code was kept for the pause.
@@ -52,16 +52,19 @@ pub(crate) enum Begun {
     Spent(u32),
 }
 
-/// Returns how a pause begins.
+/// Returns what the reply to the first event of a pause says.
 #[inline(always)]
-pub(crate) fn beginning(reply: Reply) -> Begun
+pub(crate) fn beginning(reply: Reply) -> FirstReply
     requires { SaysBegun reply }
     ensures { reply ≡ reply_of.Element (reply_to_pause result) }
 {
     match reply {
-        Reply::Element(ElementReply::Parked) => Begun::Parked,
-        Reply::Element(ElementReply::Given { code, next }) => Begun::Given(Gift { code, next }),
-        Reply::Element(ElementReply::Spent(now)) => Begun::Spent(now),
+        Reply::Element(ElementReply::Parked) => FirstReply::Parked,
+        Reply::Element(ElementReply::Given { code, next }) => FirstReply::Given(Gift {
+            code,
+            next,
+        }),
+        Reply::Element(ElementReply::Spent(now)) => FirstReply::Spent(now),
         _ => unreachable!(),
     }
 }

@@ -14,7 +14,7 @@ use Rattle.mv_latchset.specs.Polling.{IsObtainMade, IsObtaining, MayObtain}
 use Rattle.mv_latchset.specs.declared.obtaining.ObtainRefusal.{ObtainRefusal}
 use Rattle.mv_latchset.specs.declared.obtaining.Obtained.{Obtained}
 use Rattle.mv_latchset.proofs.Between.{obtaining_look}
-use Rattle.mv_polled.specs.declared.turn.Stage.TheVariants.{Begun, Over}
+use Rattle.mv_polled.specs.declared.turn.Stage.TheVariants.{Waits, Over}
 use Rattle.mv_polled.specs.declared.turn.Turn.{Turn}
 use Rattle.mv_polled.specs.declared.turn.Turn.TheVariants.{Ready, Pending}
 use Rattle.mv_polled.specs.Obtaining.{ObtainFace, new_obtain, IsObtainAt, IsObtained, IsLeftObtaining}
@@ -26,7 +26,7 @@ obtained_by c q t0 u r m over = record { served = m.served; causes = m.causes; l
 
 -- a look that finds the request waiting
 pub left_obtaining : (c : Setup) (q : ObtainFace) (t0 t u : CallerFace) → IsObtaining c q.latch q.requestor q.mode q.id t0 t
-    → q.stage ≡ Begun → PeekedIn t q.latch q.id false u → (Contains t.ready (watch.Latch q.latch q.id) → ◌≡◌ false true)
+    → q.stage ≡ Waits → PeekedIn t q.latch q.id false u → (Contains t.ready (watch.Latch q.latch q.id) → ◌≡◌ false true)
     → IsLeftObtaining c q t0 t u
 left_obtaining c q t0 t u obtaining begun look stays = record {
   obtaining = obtaining_look c q.latch q.requestor q.mode q.id t0 t obtaining u (went_peek t (watch.Latch q.latch q.id) false u look);

@@ -17,7 +17,7 @@ use Rattle.mv_pause.specs.Pausing.{IsPauseMade, IsPausing, MayPause}
 use Rattle.mv_calls.specs.declared.outcomes.Given.{Given}
 use Rattle.mv_pause.specs.declared.pausing.PauseRefusal.{PauseRefusal}
 use Rattle.mv_pause.proofs.Between.{pausing_look}
-use Rattle.mv_polled.specs.declared.turn.Stage.TheVariants.{Begun, Over}
+use Rattle.mv_polled.specs.declared.turn.Stage.TheVariants.{Waits, Over}
 use Rattle.mv_polled.specs.declared.turn.Turn.{Turn}
 use Rattle.mv_polled.specs.declared.turn.Turn.TheVariants.{Ready, Pending}
 use Rattle.mv_polled.specs.Pausing.{PauseFace, new_pause, IsPauseAt, IsPaused, IsLeftPausing}
@@ -30,7 +30,7 @@ paused_by c p t0 u r m over =
     record { served = m.served; causes = m.causes; next = m.next; current = m.current; low = m.low; stage = over }
 
 -- a look that finds the element not released
-pub left_pausing : (c : Setup) (p : PauseFace) (t0 t u : CallerFace) → IsPausing c p.token t0 t → p.stage ≡ Begun
+pub left_pausing : (c : Setup) (p : PauseFace) (t0 t u : CallerFace) → IsPausing c p.token t0 t → p.stage ≡ Waits
     → PeekedAt t (Element p.token.element) (watch.Element p.token.element) false u
     → (Contains t.ready (watch.Element p.token.element) → ◌≡◌ false true) → IsLeftPausing c p t0 t u
 left_pausing c p t0 t u pausing begun look stays = record {

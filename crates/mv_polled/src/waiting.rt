@@ -7,7 +7,7 @@ ghost use Rattle.mv_wait.specs.Prelude.{CallerFace, IsOf, IsSame, AreDistinct, W
 ghost use Rattle.mv_board.specs.declared.watch.Watch.TheVariants as watch;
 ghost use Rattle.mv_polled.specs.Futures.{NeedsBlock};
 ghost use Rattle.mv_polled.specs.Keys.{key_of};
-ghost use Rattle.mv_polled.specs.Turn.{MatchTurn, Begun, Over};
+ghost use Rattle.mv_polled.specs.Turn.{MatchTurn, Waits, Over};
 ghost use Rattle.mv_polled.specs.Waiting.{new_wait, unready, AreFoundOpen, StaysReady, IsWaitAt, IsWaiting, IsWaited, IsLeftWaiting};
 ghost use Rattle.mv_polled.specs.Wakers.{no_wakers, HearsAll, HaveWakers, AreRung};
 
@@ -168,10 +168,10 @@ impl WaitCall {
                     self.refuse();
                     return Turn::Ready(Err(refusal));
                 }
-                self.stage = Stage::Begun;
+                self.stage = Stage::Waits;
                 self.go_on(station, rt, task)
             }
-            Stage::Begun => self.go_on(station, rt, task),
+            Stage::Waits => self.go_on(station, rt, task),
             Stage::Over => unreachable!(),
         }
     }
@@ -193,7 +193,7 @@ impl WaitCall {
         task: &mut Task,
     ) -> Turn<Result<(), WaitRefusal>>
         requires task { IsOf station.now task.old }
-        requires stage { self.old.stage ≡ Begun }
+        requires stage { self.old.stage ≡ Waits }
         requires waiting { (t0 : CallerFace) × IsWaiting station.now.config self.old.count self.old.ecbs t0 task.old }
         ensures task { IsSame task.old task.new }
         ensures call { (self.new.count ≡ self.old.count) × (self.new.ecbs ≡ self.old.ecbs) × (self.new.room ≡ self.old.room) }
@@ -246,7 +246,7 @@ impl WaitCall {
     {
         match self.stage {
             Stage::Over => &self.found,
-            Stage::New | Stage::Begun => &[],
+            Stage::New | Stage::Waits => &[],
         }
     }
 }

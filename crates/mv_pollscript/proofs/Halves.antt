@@ -24,7 +24,7 @@ use Rattle.mv_polled.specs.Pausing.{IsPauseAt, IsPausing, PauseFace}
 use Rattle.mv_polled.specs.Turn.{AtStage}
 use Rattle.mv_polled.specs.Waiting.{IsWaitAt, IsWaiting, WaitFace}
 use Rattle.mv_polled.specs.declared.turn.Stage.{Stage as CallStage}
-use Rattle.mv_polled.specs.declared.turn.Stage.TheVariants.{Begun, New, Over}
+use Rattle.mv_polled.specs.declared.turn.Stage.TheVariants.{Waits, New, Over}
 use Rattle.mv_script.specs.Tasks.{Past}
 use Rattle.mv_scriptline.specs.declared.call.Call.{Call}
 use Rattle.mv_scriptline.specs.declared.call.Call.TheVariants as call
@@ -63,7 +63,7 @@ none_begun c table past d t u is = subst (HasBegun c table past d t) (sym is)
 -- at the first stage only what the task was matters
 at_first : (A B C : Type 0) (s : CallStage) → AtStage s (A × B) C → AtStage s A C
 at_first A B C New is = is.0
-at_first A B C Begun is = is
+at_first A B C Waits is = is
 at_first A B C Over is = is
 
 module _ (c : Setup) (table : Option Table) (past : Past) (t u : CallerFace) where
@@ -84,7 +84,7 @@ module _ (c : Setup) (table : Option Table) (past : Past) (t u : CallerFace) whe
   wait_half : (w : WaitFace) (s : CallStage) → AtStage s (u ≡ t) (IsWaiting c w.count w.ecbs t u)
       → HasBegun c table past (Some (call.Wait w.count w.ecbs)) t u
   wait_half w New is = none_begun c table past (Some (call.Wait w.count w.ecbs)) t u is
-  wait_half w Begun is = wait_begun w is
+  wait_half w Waits is = wait_begun w is
   wait_half w Over is = absurd is
 
   -- the pause
@@ -104,7 +104,7 @@ module _ (c : Setup) (table : Option Table) (past : Past) (t u : CallerFace) whe
   pause_half : (p : PauseFace) (s : CallStage) → AtStage s (u ≡ t) (IsPausing c p.token t u)
       → HasBegun c table past (Some (call.Pause p.token)) t u
   pause_half p New is = none_begun c table past (Some (call.Pause p.token)) t u is
-  pause_half p Begun is = pause_begun p is
+  pause_half p Waits is = pause_begun p is
   pause_half p Over is = absurd is
 
   -- the obtain
@@ -125,7 +125,7 @@ module _ (c : Setup) (table : Option Table) (past : Past) (t u : CallerFace) whe
   obtain_half : (q : ObtainFace) (s : CallStage) → AtStage s (u ≡ t) (IsObtaining c q.latch q.requestor q.mode q.id t u)
       → HasBegun c table past (Some (call.Obtain q.latch q.requestor q.mode Waiting)) t u
   obtain_half q New is = none_begun c table past (Some (call.Obtain q.latch q.requestor q.mode Waiting)) t u is
-  obtain_half q Begun is = obtain_begun q is
+  obtain_half q Waits is = obtain_begun q is
   obtain_half q Over is = absurd is
 
   -- what a task has begun at a stage

@@ -125,7 +125,7 @@ impl Station {
     ///     self.refuse();
     ///     return Turn::Ready(Err(refusal));
     /// }
-    /// self.stage = Stage::Begun;
+    /// self.stage = Stage::Waits;
     /// self.go_on(station, rt, task)
     /// ```
     #[inline(always)]

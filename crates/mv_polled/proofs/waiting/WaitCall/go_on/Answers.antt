@@ -5,7 +5,7 @@ use Rattle.mv_wait.specs.Ready.{ready_count}
 use Rattle.mv_wait.specs.Waiting.{ArePlain, SettlesEnough}
 use Rattle.mv_wait.proofs.Parts.{plain_still, given_back}
 use Rattle.mv_wait.proofs.Runs.{same_then, went_log}
-use Rattle.mv_polled.specs.declared.turn.Stage.TheVariants.{Begun, Over}
+use Rattle.mv_polled.specs.declared.turn.Stage.TheVariants.{Waits, Over}
 use Rattle.mv_polled.specs.WaitCall.{shown, HasSlots}
 use Rattle.mv_polled.specs.Keys.{key_of}
 use Rattle.mv_polled.specs.Waiting.{WaitFace, IsWaiting, IsWaited, unready, AreFoundOpen}
@@ -44,7 +44,7 @@ returns-then-len-self-clause-turn g c = λ t0 w.
     let at = (goal.at.returns-then-len-self-clause-turn g c).After-look_at in
     let all = all_seen g at in
     let less = c.if-len-self.true in
-    let stage : c.self.inside.stage ≡ Begun = ap (λ (f : WaitFace). f.stage) c.self.view_is ∙ c.requires.stage in
+    let stage : c.self.inside.stage ≡ Waits = ap (λ (f : WaitFace). f.stage) c.self.view_is ∙ c.requires.stage in
     let before = subst (λ (f : WaitFace). IsWaiting s f.count f.ecbs t0 t) (sym c.self.view_is) w in record {
       waiting = waiting_look s c.self.inside.count es t0 t u before c.look_at.ensures.went;
       few = omega arith;
@@ -84,7 +84,7 @@ returns-clause-turn g c = λ t0 w.
     let out = c.end_wait.new.out in
     let count = c.self.inside.count in
     let es = c.self.inside.ecbs.items in
-    let stage : c.self.inside.stage ≡ Begun = ap (λ (f : WaitFace). f.stage) c.self.view_is ∙ c.requires.stage in
+    let stage : c.self.inside.stage ≡ Waits = ap (λ (f : WaitFace). f.stage) c.self.view_is ∙ c.requires.stage in
     let before = subst (λ (f : WaitFace). IsWaiting s f.count f.ecbs t0 t) (sym c.self.view_is) w in
     let waiting = waiting_look s count es t0 t u before c.look_at.ensures.went in
     let settled = subst (λ xs. SettlesEnough count xs out u v) c.deref-2.ensures.value c.end_wait.ensures.settled in
