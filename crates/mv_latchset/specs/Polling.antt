@@ -12,8 +12,6 @@ use Rattle.mv_calls.specs.LatchCalls.{obtain, obtain_refusal}
 use Rattle.mv_calls.specs.Rest.{IsAtRest}
 use Rattle.mv_calls.specs.Services.{obtain_events}
 use Rattle.mv_wait.specs.Run.{Went, IsServed}
-use Rattle.mv_latchset.specs.declared.obtaining.Asking.{Asking}
-use Rattle.mv_latchset.specs.declared.obtaining.Asking.TheVariants as asking
 use Rattle.mv_latchset.specs.declared.obtaining.ObtainRefusal.{ObtainRefusal}
 use Rattle.mv_latchset.specs.declared.obtaining.Obtained.{Obtained}
 use Rattle.mv_latchset.specs.Answers.{obtain_answer}
@@ -41,8 +39,3 @@ pub record IsObtaining (c : Setup) (latch requestor : ℕ) (mode : Mode) (id : �
   pub queued : CallerFace
   pub event : IsAnswered (Obtain latch requestor mode Waiting) (Queued id) t0 queued
   pub since : Went [] queued t
-
--- the state of an obtain after its first event: it is over, or under way
-abbrev pub IsBegun : Setup → ℕ → ℕ → Mode → LatchForm → CallerFace → Asking → CallerFace → Type 0
-IsBegun c latch requestor mode form t (asking.Over r) u = IsObtainMade c latch requestor mode form t r u
-IsBegun c latch requestor mode form t (asking.Queued id) u = (form ≡ Waiting) × IsObtaining c latch requestor mode id t u

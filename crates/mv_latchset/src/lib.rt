@@ -89,7 +89,7 @@ mod waking;
 pub use checking::check_latch;
 pub use mv_calls::{Purged, Standing};
 pub use mv_latch::{LatchForm, LatchForm as Form, Mode};
-pub use obtaining::{Asking, ObtainRefusal, Obtained, begin_obtain, end_obtain, obtain};
+pub use obtaining::{ObtainRefusal, Obtained, begin_obtain, end_obtain, obtain};
 pub use purging::purge;
 pub use releasing::{ReleaseLatchRefusal, release_latch};
 pub use token::LatchToken;

@@ -6,18 +6,18 @@ ghost use Rattle.std.specs.List.{Contains};
 ghost use Rattle.mv_latch.specs.declared.operation.LatchOp.TheVariants.{Obtain, Confirm};
 ghost use Rattle.mv_latch.specs.declared.request.LatchForm.TheVariants.{Waiting};
 ghost use Rattle.mv_wait.specs.Prelude.{Mode, posted_ecb, keeps_quotas, standing, posts_own_ecb, CallerFace, IsOf, kept_of, obtain};
-ghost use Rattle.mv_wait.specs.Prelude.{obtain_refusal, obtain_events, IsServed, MayCall};
+ghost use Rattle.mv_wait.specs.Prelude.{obtain_refusal, obtain_events, IsServed, MatchBegun, MayCall};
 ghost use Rattle.mv_board.specs.declared.watch.Watch.TheVariants as watch;
 ghost use Rattle.mv_latchset.specs.Answers.{obtain_answer, obtain_refused};
 ghost use Rattle.mv_latchset.specs.Obtaining.{IsAnswered, IsObtainedBy, IsRefusedBy, IsOfLatch, settled_reply};
-ghost use Rattle.mv_latchset.specs.Polling.{IsObtaining, IsObtainMade, IsBegun};
+ghost use Rattle.mv_latchset.specs.Polling.{IsObtaining, IsObtainMade};
 
 use crate::replies::{Asked, asked_in, granted_in};
 use crate::token::{LatchToken, token_of};
 use mv_board::Watch;
 use mv_latch::{LatchForm, LatchOp, Mode};
 use mv_machine::{Object, Op};
-use mv_wait::{Station, Task};
+use mv_wait::{Begun, Station, Task};
 use std::sync::Wait;
 use std::time::Clock;
 use thiserror::Error;
@@ -102,26 +102,22 @@ pub fn obtain<R: Wait + Clock>(
     ensures latch { IfOk result (IsOfLatch latch) }
 {
     match begin_obtain(station, rt, task, latch, requestor, mode, form) {
-        Asking::Over(answer) => answer,
-        Asking::Queued(id) => {
+        Begun::Over(answer) => answer,
+        Begun::Waits(id) => {
             station.park_for(rt, task, Watch::Latch { latch, id });
             end_obtain(station, rt, task, latch, id)
         }
     }
 }
 
-/// The state of an obtain after its first event.
-#[derive(Clone, Copy, Debug, PartialEq, Eq)]
-pub enum Asking {
-    /// The obtain is over, with this answer.
-    Over(Result<Obtained, ObtainRefusal>),
-    /// The request of this number is queued, and its task has to wait.
-    Queued(u32),
-}
-
 /// Begins an obtain, for a call that does not park: makes its first event, unless it is refused without one.
 ///
-/// If the result is `Queued`, one more event must be left, and only `end_obtain` ends the obtain.
+/// Returns the answer of the obtain if it is over. If it waits, the request of this number is queued, one more event must be left,
+/// and only `end_obtain` ends the obtain.
+///
+/// # Errors
+///
+/// An answer is an error in the cases in which `obtain` returns that error, except `Purged`, which `end_obtain` returns.
 ///
 /// # Examples
 ///
@@ -137,11 +133,11 @@ pub enum Asking {
 ///     self.mode,
 ///     LatchForm::Waiting,
 /// ) {
-///     Asking::Over(answer) => {
+///     Begun::Over(answer) => {
 ///         self.stage = Stage::Over;
 ///         Turn::Ready(answer)
 ///     }
-///     Asking::Queued(id) => {
+///     Begun::Waits(id) => {
 ///         self.stage = Stage::Waits;
 ///         self.id = id;
 ///         self.go_on(station, rt, task)
@@ -156,14 +152,16 @@ pub fn begin_obtain<R: Wait>(
     requestor: u64,
     mode: Mode,
     form: LatchForm,
-) -> Asking
+) -> Begun<Result<Obtained, ObtainRefusal>, u32>
     requires task { MayCall station.now (obtain_events form) task.old }
     requires block { IfSome (posted_ecb form) (λ e. e < length station.now.config.owners) }
-    ensures begun { IsBegun station.now.config latch requestor mode form task.old result task.new }
+    ensures begun { MatchBegun result
+        (λ r. IsObtainMade station.now.config latch requestor mode form task.old r task.new)
+        (λ id. (form ≡ Waiting) × IsObtaining station.now.config latch requestor mode id task.old task.new) }
     ensures returned { task.new.returned ≡ task.old.returned }
 {
     if let Some(refusal) = refuses(station, task, latch, form) {
-        return Asking::Over(Err(refusal));
+        return Begun::Over(Err(refusal));
     }
     let reply = station.event(
         rt,
@@ -177,10 +175,10 @@ pub fn begin_obtain<R: Wait>(
         }),
     );
     match asked_in(form, reply) {
-        Asked::Granted(id) => Asking::Over(Ok(Obtained::Granted(token_of(task, latch, id)))),
-        Asked::NotNow(id) => Asking::Over(Err(ObtainRefusal::NotNow(id))),
-        Asked::Pending(id) => Asking::Over(Ok(Obtained::Pending(token_of(task, latch, id)))),
-        Asked::Queued(id) => Asking::Queued(id),
+        Asked::Granted(id) => Begun::Over(Ok(Obtained::Granted(token_of(task, latch, id)))),
+        Asked::NotNow(id) => Begun::Over(Err(ObtainRefusal::NotNow(id))),
+        Asked::Pending(id) => Begun::Over(Ok(Obtained::Pending(token_of(task, latch, id)))),
+        Asked::Queued(id) => Begun::Waits(id),
     }
 }
 

@@ -1,7 +1,6 @@
 -- A pause that goes on, between its two events.
-use Rattle.std.proofs.Common.{◌≡◌, ℕ, ◌+◌, ◌<◌, ◌≤◌, true, false, [], Option, Some, None, Result, Ok, refl, sym, ap, ◌∙◌, subst, arith}
+use Rattle.std.proofs.Common.{◌≡◌, ℕ, ◌+◌, ◌<◌, ◌≤◌, true, false, [], Some, Result, Ok, refl, sym, ap, ◌∙◌, subst, arith}
 use Rattle.std.proofs.lemmas.Bool.{false≢true}
-use Rattle.std.specs.Prelude.{MatchOption}
 use Rattle.mv_element.specs.declared.element.Token.{Token}
 use Rattle.mv_element.specs.declared.operation.ElementOp.TheVariants.{Pause, Resume}
 use Rattle.mv_element.specs.declared.operation.ElementReply.TheVariants as element_reply
@@ -18,7 +17,10 @@ use Rattle.mv_calls.specs.Keeping.{kept_of}
 use Rattle.mv_calls.specs.Pauses.{gift_of, paused, resumed, is_others_token}
 use Rattle.mv_calls.specs.Program.{Done}
 use Rattle.mv_calls.specs.Rest.{no_waits, waits_from, waits_after}
+use Rattle.mv_wait.specs.Begun.{MatchBegun}
 use Rattle.mv_wait.specs.Run.{Went, Runs}
+use Rattle.mv_wait.specs.declared.begun.Begun.{Begun}
+use Rattle.mv_wait.specs.declared.begun.Begun.TheVariants.{Over, Waits}
 use Rattle.mv_wait.proofs.Runs.{same_then, went_log, went_none, went_then, runs_then}
 use Rattle.mv_wait.proofs.Steps.{element_runs, looked_runs, waits_one}
 use Rattle.mv_pause.specs.Pausing.{pause_own, resume_own, IsPausedOwn, IsPauseMade, IsPausing, MayPause}
@@ -96,10 +98,10 @@ pausing_ends c token t0 t u code next result p h possible low e =
     }
 
 -- how a pause that is not refused begins: it is made, or goes on
-pub pausing_begun : (c : Setup) (token : Token) (t u : CallerFace) (o : Option (Result Given PauseRefusal))
+pub pausing_begun : (c : Setup) (token : Token) (t u : CallerFace) (b : Begun (Result Given PauseRefusal) (Unit {0}))
     → is_others_token c (kept_of t.number t.log) token ≡ false → MayPause c token t
-    → MatchOption o (HappenedOn token t (Pause token.generation) element_reply.Parked u) (λ r. IsPausedOwn token t r u)
-    → MatchOption o (IsPausing c token t u) (λ r. IsPauseMade c token t r u)
-pausing_begun c token t u (Some r) own may is = made_own c token t u r own may.rest is
-pausing_begun c token t u None own may is =
+    → MatchBegun b (λ r. IsPausedOwn token t r u) (λ _. HappenedOn token t (Pause token.generation) element_reply.Parked u)
+    → MatchBegun b (λ r. IsPauseMade c token t r u) (λ _. IsPausing c token t u)
+pausing_begun c token t u (Over r) own may is = made_own c token t u r own may.rest is
+pausing_begun c token t u (Waits w) own may is =
     record { may = may; own = own; parked = u; event = is; since = went_none u }

@@ -1,11 +1,11 @@
 //! Pauses. Clauses cite `Pauses.antt` of mv_calls, and `specs/Answers.antt` and `specs/Pausing.antt`.
 
-ghost use Rattle.std.specs.Prelude.{◌≡◌, ◌<◌, ◌≤◌, false, Ok, IfOk, MatchOption, MatchResult};
+ghost use Rattle.std.specs.Prelude.{◌≡◌, ◌<◌, ◌≤◌, false, Ok, IfOk, MatchResult};
 ghost use Rattle.std.specs.List.{Contains};
 ghost use Rattle.mv_element.specs.declared.operation.ElementOp.TheVariants.{Pause};
 ghost use Rattle.mv_element.specs.declared.operation.ElementReply.TheVariants.{Parked};
 ghost use Rattle.mv_wait.specs.Prelude.{element_count, element_owner, highest_generation, CallerFace, IsOf, kept_of, gift_of, pause};
-ghost use Rattle.mv_wait.specs.Prelude.{is_others_token, IsServed, MayCall};
+ghost use Rattle.mv_wait.specs.Prelude.{is_others_token, IsServed, MatchBegun, MayCall};
 ghost use Rattle.mv_board.specs.declared.watch.Watch.TheVariants as watch;
 ghost use Rattle.mv_pause.specs.Answers.{pause_answer, IsLow};
 ghost use Rattle.mv_pause.specs.Pausing.{IsCurrent, IsGiven, IsPauseCause, IsPausedOwn, IsPauseMade, IsPausing, MayPause};
@@ -17,7 +17,7 @@ use mv_board::Watch;
 use mv_calls::Given;
 use mv_element::{ElementOp, Token};
 use mv_machine::{Object, Op};
-use mv_wait::{Station, Task};
+use mv_wait::{Begun, Station, Task};
 use std::sync::Wait;
 use std::time::Clock;
 use thiserror::Error;
@@ -82,8 +82,7 @@ pub fn pause<R: Wait + Clock>(
 
 /// Begins a pause, for a call that does not park: makes its first event.
 ///
-/// Returns the answer of the pause, or `None` if the task has to wait. Then one more event must be left, and only `end_pause`
-/// ends the pause.
+/// Returns the answer of the pause if it is over. If it waits, one more event must be left, and only `end_pause` ends the pause.
 ///
 /// # Errors
 ///
@@ -94,7 +93,7 @@ pub fn pause<R: Wait + Clock>(
 /// From `crates/mv_polled/src/pausing.rt`, the first poll of a pause:
 ///
 /// ```
-/// if let Some(answer) = begin_pause(station, rt, task, self.token) {
+/// if let Begun::Over(answer) = begin_pause(station, rt, task, self.token) {
 ///     self.stage = Stage::Over;
 ///     return Turn::Ready(answer);
 /// }
@@ -106,15 +105,15 @@ pub fn begin_pause<R: Wait>(
     rt: &R,
     task: &mut Task,
     token: Token,
-) -> Option<Result<Given, PauseRefusal>>
+) -> Begun<Result<Given, PauseRefusal>, ()>
     requires task { IsOf station.now task.old }
     requires may { MayPause station.now.config token task.old }
-    ensures begun { MatchOption result
-        (IsPausing station.now.config token task.old task.new)
-        (λ r. IsPauseMade station.now.config token task.old r task.new) }
+    ensures begun { MatchBegun result
+        (λ r. IsPauseMade station.now.config token task.old r task.new)
+        (λ _. IsPausing station.now.config token task.old task.new) }
 {
     if is_others(station, task, token) {
-        return Some(Err(PauseRefusal::NotOwner));
+        return Begun::Over(Err(PauseRefusal::NotOwner));
     }
     begin_own(station, rt, task, token)
 }
@@ -161,28 +160,27 @@ pub(crate) fn pause_own<R: Wait + Clock>(
     requires own { element_owner station.now.config token.element ≡ task.old.number }
     ensures { IsPausedOwn token task.old result task.new }
 {
-    if let Some(over) = begin_own(station, rt, task, token) {
-        return over;
+    if let Begun::Over(answer) = begin_own(station, rt, task, token) {
+        return answer;
     }
     station.park_for(rt, task, Watch::Element(token.element));
     Ok(end_pause(station, rt, task, token))
 }
 
-// Makes the first event of a pause with a token of an own element. Returns the answer of the pause, or `None` if the task has to
-// wait.
+// Makes the first event of a pause with a token of an own element.
 #[inline(always)]
 fn begin_own<R: Wait>(
     station: &Station,
     rt: &R,
     task: &mut Task,
     token: Token,
-) -> Option<Result<Given, PauseRefusal>>
+) -> Begun<Result<Given, PauseRefusal>, ()>
     requires task { MayCall station.now 2 task.old }
     requires own { element_owner station.now.config token.element ≡ task.old.number }
     requires element { token.element < element_count station.now.config }
-    ensures { MatchOption result
-        (HappenedOn token task.old (Pause token.generation) Parked task.new)
-        (λ r. IsPausedOwn token task.old r task.new) }
+    ensures { MatchBegun result
+        (λ r. IsPausedOwn token task.old r task.new)
+        (λ _. HappenedOn token task.old (Pause token.generation) Parked task.new) }
 {
     let reply = station.event(
         rt,
@@ -191,9 +189,9 @@ fn begin_own<R: Wait>(
         Op::Element(ElementOp::Pause(token.generation)),
     );
     match beginning(reply) {
-        FirstReply::Given(gift) => Some(Ok(with_token(token.element, gift))),
-        FirstReply::Spent(now) => Some(Err(PauseRefusal::Spent(now))),
-        FirstReply::Parked => None,
+        FirstReply::Given(gift) => Begun::Over(Ok(with_token(token.element, gift))),
+        FirstReply::Spent(now) => Begun::Over(Err(PauseRefusal::Spent(now))),
+        FirstReply::Parked => Begun::Waits(()),
     }
 }
 

@@ -16,7 +16,7 @@ use crate::turn::{Stage, Turn};
 use futures::task::{Context, Poll, Source, Waker};
 use mv_board::Watch;
 use mv_io::NoMemory;
-use mv_wait::{Station, Task, WaitRefusal, WaitSlot};
+use mv_wait::{Begun, Station, Task, WaitRefusal, WaitSlot};
 use std::alloc::Global;
 use std::marker::Model;
 use std::sync::Wait;
@@ -164,7 +164,7 @@ impl WaitCall {
     {
         match self.stage {
             Stage::New => {
-                if let Err(refusal) = station.begin_wait(rt, task, self.count, &self.ecbs) {
+                if let Begun::Over(refusal) = station.begin_wait(rt, task, self.count, &self.ecbs) {
                     self.refuse();
                     return Turn::Ready(Err(refusal));
                 }

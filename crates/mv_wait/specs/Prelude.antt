@@ -64,6 +64,7 @@ pub use Rattle.mv_calls.specs.Waits.{AreDistinct, clear, extend, read_volume, te
 -- ---- stations and tasks
 pub use Rattle.mv_board.specs.Faces.{AreFresh, AreInOrder, BoardFace, CallerFace, IsFresh, IsIn, IsOf, IsSame, last_of}
 pub use Rattle.mv_wait.specs.Answers.{clear_answer, extend_answer, wait_answer}
+pub use Rattle.mv_wait.specs.Begun.{IfOver, MatchBegun}
 pub use Rattle.mv_wait.specs.Ready.{ready_count}
 pub use Rattle.mv_wait.specs.OneBlock.{WaitedFor}
 pub use Rattle.mv_wait.specs.Run.{IsServed, MayCall, Serves, Went, keeps}

@@ -8,12 +8,14 @@ ghost use Rattle.mv_calls.specs.Prelude.{owner_of, kept_of, IsAtRest, wait, wait
 ghost use Rattle.mv_calls.specs.Prelude.{AreDistinct, Doubled, NotOwnerAt};
 ghost use Rattle.mv_board.specs.Faces.{IsOf};
 ghost use Rattle.mv_wait.specs.Answers.{wait_answer, wait_refused};
+ghost use Rattle.mv_wait.specs.Begun.{IfOver, MatchBegun};
 ghost use Rattle.mv_wait.specs.Ready.{has_ready, ready_count, AreReadyBut};
 ghost use Rattle.mv_wait.specs.Run.{Went, Serves, MayCall};
 ghost use Rattle.mv_wait.specs.Waiting.{IsArmed, IsArmedFor, ArePlain, AreOwn, AreOwnUpTo, ArmsAll, SettlesEnough, IsBlockSettled};
 ghost use Rattle.mv_wait.specs.Waiting.{IsComplete, NamesSource, HasLowCode};
 
 use crate::backoff::Backoff;
+use crate::begun::Begun;
 use crate::replies::slot;
 use crate::station::Station;
 use crate::task::Task;
@@ -92,7 +94,7 @@ impl Station {
         ensures enough { IfOk result (λ _. count ≤ complete_count out.new) }
         ensures codes { IfOk result (λ _. AllByRecursion HasLowCode out.new) }
     {
-        if let Err(refusal) = self.begin_wait(rt, task, count, ecbs) {
+        if let Begun::Over(refusal) = self.begin_wait(rt, task, count, ecbs) {
             return Err(refusal);
         }
         self.await_complete(
@@ -114,14 +116,14 @@ impl Station {
     ///
     /// # Errors
     ///
-    /// Those of `wait`. Then no event is made.
+    /// The wait is over only if it is refused, in the cases in which `wait` is. Then no event is made.
     ///
     /// # Examples
     ///
     /// From `crates/mv_polled/src/waiting.rt`, the first poll of a wait:
     ///
     /// ```
-    /// if let Err(refusal) = station.begin_wait(rt, task, self.count, &self.ecbs) {
+    /// if let Begun::Over(refusal) = station.begin_wait(rt, task, self.count, &self.ecbs) {
     ///     self.refuse();
     ///     return Turn::Ready(Err(refusal));
     /// }
@@ -135,20 +137,20 @@ impl Station {
         task: &mut Task,
         count: u32,
         ecbs: &[u32],
-    ) -> Result<(), WaitRefusal>
+    ) -> Begun<WaitRefusal, ()>
         requires task { MayCall self.now (2 * length ecbs.now) task.old }
         requires blocks { AllByRecursion (λ e. e < length self.now.config.owners) ecbs.now }
-        ensures armed { MatchResult result
-            (λ _. IsArmed self.now.config count ecbs.now task.old task.new)
+        ensures begun { MatchBegun result
             (λ why. (wait_refusal self.now.config count ecbs.now (kept_of task.old.number task.old.log) ≡ Some (wait_refused why))
-            × (task.new ≡ task.old)) }
-        ensures exit { IfErr result (NamesSource self.now.config ecbs.now) }
+            × (task.new ≡ task.old))
+            (λ _. IsArmed self.now.config count ecbs.now task.old task.new) }
+        ensures exit { IfOver result (NamesSource self.now.config ecbs.now) }
     {
         if let Some(refusal) = self.refuses_wait(task, count, ecbs) {
-            return Err(refusal);
+            return Begun::Over(refusal);
         }
         self.arm_all(rt, task, ecbs);
-        Ok(())
+        Begun::Waits(())
     }
 
     /// Ends a wait that `begin_wait` began, once at least `count` of its blocks are ready: settles each block.

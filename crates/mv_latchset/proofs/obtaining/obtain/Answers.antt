@@ -10,8 +10,8 @@ returns-in-Over g c =
 pub park_for-requires-clause-own : goal.park_for-requires-clause-own
 park_for-requires-clause-own g c =
     let a = c.args in
-    obtaining_made a.station.now.config a.latch a.requestor a.mode c.in-Queued.id a.task.now c.begin_obtain.new.task
-    c.in-Queued.ensures.begun.1
+    obtaining_made a.station.now.config a.latch a.requestor a.mode c.in-Waits.id a.task.now c.begin_obtain.new.task
+    c.in-Waits.ensures.begun.1
 
 pub end_obtain-requires-clause-waiting : goal.end_obtain-requires-clause-waiting
 end_obtain-requires-clause-waiting g c =
@@ -19,16 +19,16 @@ end_obtain-requires-clause-waiting g c =
       a.requestor,
       a.mode,
       a.task.now,
-      obtaining_look a.station.now.config a.latch a.requestor a.mode c.in-Queued.id a.task.now c.begin_obtain.new.task
-          c.in-Queued.ensures.begun.1 c.park_for.new.task c.park_for.ensures.went,
+      obtaining_look a.station.now.config a.latch a.requestor a.mode c.in-Waits.id a.task.now c.begin_obtain.new.task
+          c.in-Waits.ensures.begun.1 c.park_for.new.task c.park_for.ensures.went,
     )
 
-pub returns-in-Queued : goal.returns-in-Queued
-returns-in-Queued g c =
+pub returns-in-Waits : goal.returns-in-Waits
+returns-in-Waits g c =
     let a = c.args in
     let s = a.station.now.config in
-    let p = obtaining_look s a.latch a.requestor a.mode c.in-Queued.id a.task.now c.begin_obtain.new.task c.in-Queued.ensures.begun.1
+    let p = obtaining_look s a.latch a.requestor a.mode c.in-Waits.id a.task.now c.begin_obtain.new.task c.in-Waits.ensures.begun.1
     c.park_for.new.task c.park_for.ensures.went in
     let m = subst (λ f. IsObtainMade s a.latch a.requestor a.mode f a.task.now c.end_obtain.result c.end_obtain.new.task)
-    (sym c.in-Queued.ensures.begun.0) (c.end_obtain.ensures a.requestor a.mode a.task.now p) in
+    (sym c.in-Waits.ensures.begun.0) (c.end_obtain.ensures a.requestor a.mode a.task.now p) in
     record { served = m.served; causes = m.causes; latch = m.there }

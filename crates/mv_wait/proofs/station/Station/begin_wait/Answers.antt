@@ -13,8 +13,8 @@ use Rattle.mv_wait.proofs.Parts.{still_of, same_view}
 use Rattle.mv_wait.proofs.Unrefusing.{accepted_wait, accepted_own, both_own}
 use Rattle.mv_wait.proofs.station.Station.begin_wait.Goals as goal
 
-pub returns-in-Some-clause-armed : goal.returns-in-Some-clause-armed
-returns-in-Some-clause-armed g c =
+pub returns-in-Some-clause-begun : goal.returns-in-Some-clause-begun
+returns-in-Some-clause-begun g c =
     (sym c.refuses_wait.ensures.refusal ∙ ap (λ o. option_map wait_refused o) c.in-Some.is, c.refuses_wait.ensures.same)
 
 pub arm_all-requires : goal.arm_all-requires
@@ -41,8 +41,8 @@ arm_all-requires g c =
       distinct = a.distinct;
     }
 
-pub returns-clause-armed : goal.returns-clause-armed
-returns-clause-armed g c =
+pub returns-clause-begun : goal.returns-clause-begun
+returns-clause-begun g c =
     let t = c.args.task.now in
     let u = c.arm_all.new.task in
     let s = c.args.self.now.config in

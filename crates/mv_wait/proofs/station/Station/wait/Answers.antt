@@ -12,33 +12,33 @@ use Rattle.mv_wait.proofs.Runs.{same_then, went_log}
 use Rattle.mv_wait.proofs.Unrefusing.{wait_served, wait_is_refused}
 use Rattle.mv_wait.proofs.station.Station.wait.Goals as goal
 
-pub returns-in-Err-clause-served : goal.returns-in-Err-clause-served
-returns-in-Err-clause-served g c =
+pub returns-in-Over-clause-served : goal.returns-in-Over-clause-served
+returns-in-Over-clause-served g c =
     let t = c.args.task.now in
     let es = c.args.ecbs.now in
     let s = c.args.self.now.config in
-    let why = wait_refused c.in-Err.refusal in
-    subst (λ (d : CallerFace). IsServed (2 * length es) (wait s c.args.count es) (λ a. a ≡ Err why) t d) (sym c.in-Err.ensures.armed.1)
-    (wait_is_refused s c.args.count es why t c.in-Err.ensures.armed.0 c.requires.task.rest)
+    let why = wait_refused c.in-Over.refusal in
+    subst (λ (d : CallerFace). IsServed (2 * length es) (wait s c.args.count es) (λ a. a ≡ Err why) t d) (sym c.in-Over.ensures.begun.1)
+    (wait_is_refused s c.args.count es why t c.in-Over.ensures.begun.0 c.requires.task.rest)
 
 pub await_complete-requires-clause-task : goal.await_complete-requires-clause-task
 await_complete-requires-clause-task g c =
     let t = c.args.task.now in
     let u = c.begin_wait.new.task in
     let r = c.task.inside.caller in
-    let same = (c.in_default.ensures.armed.arms Wrong).went.same in
+    let same = (c.in_default.ensures.begun.arms Wrong).went.same in
     still_of c.args.self.now c.args.self.now t r (same_then t u r same (same_view u r c.task.view_is)) c.requires.task.board refl
 
 pub await_complete-requires-clause-own : goal.await_complete-requires-clause-own
 await_complete-requires-clause-own g c =
-    subst (λ (d : CallerFace). AreOwn c.args.self.now.config d.number c.args.ecbs.now) (sym c.task.view_is) c.in_default.ensures.armed.own
+    subst (λ (d : CallerFace). AreOwn c.args.self.now.config d.number c.args.ecbs.now) (sym c.task.view_is) c.in_default.ensures.begun.own
 
 pub await_complete-requires-clause-distinct : goal.await_complete-requires-clause-distinct
-await_complete-requires-clause-distinct g c = c.in_default.ensures.armed.distinct
+await_complete-requires-clause-distinct g c = c.in_default.ensures.begun.distinct
 
 pub await_complete-requires-clause-places : goal.await_complete-requires-clause-places
 await_complete-requires-clause-places g c =
-    let same = (c.in_default.ensures.armed.arms Wrong).went.same in
+    let same = (c.in_default.ensures.begun.arms Wrong).went.same in
     c.deref_mut.ensures.len ∙ (c.task.invariant.places
     ∙ ap blocks_in (ap (λ (d : CallerFace). d.about) c.task.view_is ∙ (same.about ∙ c.requires.task.board.1)))
 
@@ -46,7 +46,7 @@ pub invariant_of-task : goal.invariant_of-task
 invariant_of-task g c =
     let r = c.task.inside.caller in
     let v = c.await_complete.new.caller in
-    let same = (c.in_default.ensures.armed.arms Wrong).went.same in
+    let same = (c.in_default.ensures.begun.arms Wrong).went.same in
     let looks = c.await_complete.ensures.went in
     let left = looks.left in
     let room = c.task.invariant.room in record {
@@ -63,22 +63,22 @@ end_wait-requires-clause-task g c =
     let u = c.begin_wait.new.task in
     let r = c.task.inside.caller in
     let v = c.await_complete.new.caller in
-    let same = (c.in_default.ensures.armed.arms Wrong).went.same in
+    let same = (c.in_default.ensures.begun.arms Wrong).went.same in
     still_of c.args.self.now c.args.self.now t v
     (same_then t r v (same_then t u r same (same_view u r c.task.view_is)) c.await_complete.ensures.went.same) c.requires.task.board refl
 
 pub end_wait-requires-clause-waits : goal.end_wait-requires-clause-waits
 end_wait-requires-clause-waits g c =
     subst (IsArmedFor c.args.ecbs.now) (sym (went_log c.task.inside.caller c.await_complete.new.caller c.await_complete.ensures.went))
-    (subst (λ (d : CallerFace). IsArmedFor c.args.ecbs.now d.log) (sym c.task.view_is) c.in_default.ensures.armed.waits)
+    (subst (λ (d : CallerFace). IsArmedFor c.args.ecbs.now d.log) (sym c.task.view_is) c.in_default.ensures.begun.waits)
 
 pub end_wait-requires-clause-own : goal.end_wait-requires-clause-own
 end_wait-requires-clause-own g c =
     let number = c.await_complete.ensures.went.same.number ∙ ap (λ (d : CallerFace). d.number) c.task.view_is in
-    subst (λ k. AreOwn c.args.self.now.config k c.args.ecbs.now) (sym number) c.in_default.ensures.armed.own
+    subst (λ k. AreOwn c.args.self.now.config k c.args.ecbs.now) (sym number) c.in_default.ensures.begun.own
 
 pub end_wait-requires-clause-distinct : goal.end_wait-requires-clause-distinct
-end_wait-requires-clause-distinct g c = c.in_default.ensures.armed.distinct
+end_wait-requires-clause-distinct g c = c.in_default.ensures.begun.distinct
 
 pub end_wait-requires-clause-ready : goal.end_wait-requires-clause-ready
 end_wait-requires-clause-ready g c = c.await_complete.ensures.ready
@@ -89,11 +89,11 @@ end_wait-requires-clause-plain g c =
     let v = c.await_complete.new.caller in
     let looks = c.await_complete.ensures.went in
     plain_still r v c.args.ecbs.now looks.same.number (went_log r v looks)
-    (subst (λ (d : CallerFace). ArePlain d c.args.ecbs.now) (sym c.task.view_is) c.in_default.ensures.armed.plain)
+    (subst (λ (d : CallerFace). ArePlain d c.args.ecbs.now) (sym c.task.view_is) c.in_default.ensures.begun.plain)
 
 pub end_wait-requires-clause-left : goal.end_wait-requires-clause-left
 end_wait-requires-clause-left g c =
-    let run = c.in_default.ensures.armed.arms Wrong in
+    let run = c.in_default.ensures.begun.arms Wrong in
     let few = run.few in
     let first = run.went.left in
     let second = c.await_complete.ensures.went.left in
@@ -109,7 +109,7 @@ returns-clause-served g c =
     let w = c.end_wait.new.task in
     let es = c.args.ecbs.now in
     let s = c.args.self.now.config in
-    let armed = c.in_default.ensures.armed in
+    let armed = c.in_default.ensures.begun in
     wait_served s c.args.count es c.end_wait.new.out t u v w armed.accepted c.requires.task.rest armed.arms
     (subst (λ (d : CallerFace). Went [] d v) c.task.view_is c.await_complete.ensures.went) c.end_wait.ensures.settled
     c.end_wait.ensures.rest
