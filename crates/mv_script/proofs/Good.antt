@@ -16,7 +16,7 @@ use Rattle.mv_line.specs.Number.{is_digits, number_of}
 use Rattle.mv_config.specs.Limits.{highest_place, highest_generation}
 use Rattle.mv_scriptline.specs.declared.call.Call.{Call}
 use Rattle.mv_scriptline.specs.declared.call.Call.TheVariants as call
-use Rattle.mv_scriptline.specs.declared.operand.Sizes.{Sizes}
+use Rattle.mv_scriptline.specs.Sizes.{SizesFace}
 use Rattle.mv_scriptline.specs.declared.statement.Statement.{Statement}
 use Rattle.mv_scriptline.specs.declared.statement.Statement.TheVariants as statement
 use Rattle.mv_scriptline.specs.declared.words.Misread.TheVariants.{NoForm, BadNumber}
@@ -146,7 +146,7 @@ tasks_good word =
     less (λ t. is_within 1 most_tasks t ≡ true) (λ t. (1 ≤ t) × (t ≤ most_tasks)) (number_of_tasks word) some_tasks
     (number_passes (is_within 1 most_tasks) word)
 
-module _ (z : Sizes) where
+module _ (z : SizesFace) where
   -- a token
   token_good : (word : List ℕ) → IfRead (IsToken z) (token z word)
   token_good word = go (position is_point word) where

@@ -37,7 +37,7 @@ use Rattle.mv_script.specs.declared.answer.Answer.{Answer}
 use Rattle.mv_script.specs.declared.answer.Answer.TheVariants as answer
 use Rattle.mv_scriptline.specs.declared.call.Call.{Call}
 use Rattle.mv_scriptline.specs.declared.call.Call.TheVariants as call
-use Rattle.mv_scriptline.specs.declared.operand.Sizes.{Sizes}
+use Rattle.mv_scriptline.specs.Sizes.{SizesFace}
 use Rattle.mv_script.specs.Answered.{refused, answer_to}
 use Rattle.mv_script.specs.Costs.{Asked, service_of}
 use Rattle.mv_script.specs.Events.{IsEntered, ReportsEvent, IsToldInOrder, AreToldInOrder, AreHandedOut, EventsAreHandedOut}
@@ -101,7 +101,7 @@ abbrev IsOfTable : Table → Call → Type 0
 IsOfTable t (call.PostEvent index code) = index < t.size
 IsOfTable t d = Unit {0}
 
-of_table : (z : Sizes) (t : Table) (d : Call) → z.table ≡ Some t → HasGoodNumbers z d → IsOfTable t d
+of_table : (z : SizesFace) (t : Table) (d : Call) → z.table ≡ Some t → HasGoodNumbers z d → IsOfTable t d
 of_table z t (call.PostEvent index code) is good = subst (λ (o : Option Table). index < event_count o) is good.0
 of_table z t d is good = tt
 
@@ -296,7 +296,7 @@ module _ (done : List Completion) where
     AreTries moved n calls = (j w : ℕ) → moved (n + j) ≡ Some w
         → (d : Call) × (slice_get calls j ≡ Some d) × ((x : Object × ℕ) × (try_target d ≡ Some x))
 
-    all_calls : (z : Sizes) → z.table ≡ Some t → (moved : ℕ → Option ℕ) (before calls : List Call) (past end : Past) (kept : Kept)
+    all_calls : (z : SizesFace) → z.table ≡ Some t → (moved : ℕ → Option ℕ) (before calls : List Call) (past end : Past) (kept : Kept)
         (k : ℕ) (hs : List Heard) → kept.caller ≡ k → AreOthers t past.requests → AreSoundCalls z before calls
         → AreTries moved (length past.answers) calls → IsDoneOn (made_all c t moved past calls kept) hs end → AreAll k hs calls past end
     all_calls z is moved before [] past end kept k hs its o sound tries w =

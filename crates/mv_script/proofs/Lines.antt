@@ -4,7 +4,7 @@ use Rattle.std.proofs.Common.{subst, ◌∙◌, arith, MatchResult}
 use Rattle.std.specs.Prelude.{◌==◌, ◌<◌}
 use Rattle.mv_calls.specs.declared.table.Table.{Table}
 use Rattle.mv_line.specs.Line.{shown, is_foreign, is_too_long}
-use Rattle.mv_scriptline.specs.declared.operand.Sizes.{Sizes}
+use Rattle.mv_scriptline.specs.Sizes.{SizesFace}
 use Rattle.mv_line.specs.declared.fault.LineRefusal.{LineRefusal}
 use Rattle.mv_line.specs.declared.fault.LineRefusal.TheVariants.{Has, NoMemory}
 use Rattle.mv_scriptline.specs.declared.fault.Kind.{Kind}
@@ -29,7 +29,7 @@ pub some_text : (n : ℕ) → (n == 0) ≡ false → 0 < n
 some_text n e = grind arith
 
 -- sizes by their numbers and the table
-abbrev pub sizes : ℕ → ℕ → Option Table → Sizes
+abbrev pub sizes : ℕ → ℕ → Option Table → SizesFace
 sizes tasks ecbs table = record { tasks = tasks; ecbs = ecbs; table = table }
 
 same_sizes : (a b c d : ℕ) (s t : Option Table) → a ≡ b → c ≡ d → s ≡ t → sizes a c s ≡ sizes b d t

@@ -17,7 +17,7 @@ use Rattle.mv_calls.specs.Table.{IsTableOf}
 use Rattle.mv_scriptline.specs.declared.call.Call.{Call}
 use Rattle.mv_scriptline.specs.declared.statement.Statement.{Statement}
 use Rattle.mv_scriptline.specs.declared.statement.Statement.TheVariants as statement
-use Rattle.mv_scriptline.specs.declared.operand.Sizes.{Sizes}
+use Rattle.mv_scriptline.specs.Sizes.{SizesFace}
 use Rattle.mv_script.specs.Costs.{cost, costs_of}
 use Rattle.mv_script.specs.Fault.{is_script, is_exit, is_task, is_end, obtain_meant, is_no_obtain}
 use Rattle.mv_scriptline.specs.Limits.{most_tasks, most_ecbs, most_exits, most_targets, most_calls}
@@ -176,7 +176,7 @@ more_cost k (calls ∷ other ∷ tasks) c lt =
       step a x y d e = omega (arith, e)
 
 -- calls that may stand so, with one more
-calls_push : (z : Sizes) (before calls : List Call) (c : Call) → AreSoundCalls z before calls → IsSoundCall z (before ++ calls) c
+calls_push : (z : SizesFace) (before calls : List Call) (c : Call) → AreSoundCalls z before calls → IsSoundCall z (before ++ calls) c
     → AreSoundCalls z before (calls ++ c ∷ [])
 calls_push z before [] c h s = (subst (λ (x : List Call). IsSoundCall z x c) (append-nil before) s, tt)
 calls_push z before (d ∷ calls) c h s = (
@@ -186,7 +186,7 @@ calls_push z before (d ∷ calls) c h s = (
 )
 
 -- a task with one more
-task_push : (z : Sizes) (calls : List Call) (c : Call) → IsSoundTask z calls → length calls < most_calls → IsSoundCall z calls c
+task_push : (z : SizesFace) (calls : List Call) (c : Call) → IsSoundTask z calls → length calls < most_calls → IsSoundCall z calls c
     → IsSoundTask z (calls ++ c ∷ [])
 task_push z calls c h lt s = record {
   few = let e : length (calls ++ c ∷ []) ≡ length calls + 1 = length-append calls (c ∷ []) in omega (arith, e);
@@ -194,7 +194,7 @@ task_push z calls c h lt s = record {
 }
 
 -- the tasks
-tasks_more : (z : Sizes) (tasks : List (List Call)) (c : Call) → AllByRecursion (IsSoundTask z) tasks
+tasks_more : (z : SizesFace) (tasks : List (List Call)) (c : Call) → AllByRecursion (IsSoundTask z) tasks
     → length (last_task tasks) < most_calls → IsSoundCall z (last_task tasks) c → AllByRecursion (IsSoundTask z) (with_call tasks c)
 tasks_more z [] c h lt s = tt
 tasks_more z (calls ∷ []) c h lt s = (task_push z calls c h.0 lt s, tt)

@@ -10,7 +10,7 @@ use Rattle.mv_scriptline.specs.declared.call.Call.TheVariants as call
 use Rattle.mv_scriptline.specs.declared.statement.Statement.{Statement}
 use Rattle.mv_scriptline.specs.declared.statement.Statement.TheVariants as statement
 use Rattle.mv_scriptline.specs.declared.words.Misread.TheVariants.{NoForm, BadNumber}
-use Rattle.mv_scriptline.specs.declared.operand.Sizes.{Sizes}
+use Rattle.mv_scriptline.specs.Sizes.{SizesFace}
 use Rattle.mv_script.specs.Costs.{script_setup}
 use Rattle.mv_line.specs.Fault.{fault_at}
 use Rattle.mv_script.specs.Fault.{first_fault}
@@ -24,7 +24,7 @@ abbrev lf : List ℕ
 lf = 10 ∷ []
 
 -- two tasks and three blocks
-abbrev some : Sizes
+abbrev some : SizesFace
 some = record { tasks = 2; ecbs = 3; table = None }
 
 -- what a text states there

@@ -42,7 +42,7 @@ use Rattle.mv_script.specs.declared.answer.Answer.{Answer}
 use Rattle.mv_script.specs.declared.answer.Answer.TheVariants as answer
 use Rattle.mv_scriptline.specs.declared.call.Call.{Call}
 use Rattle.mv_scriptline.specs.declared.call.Call.TheVariants as call
-use Rattle.mv_scriptline.specs.declared.operand.Sizes.{Sizes}
+use Rattle.mv_scriptline.specs.Sizes.{SizesFace}
 use Rattle.mv_script.specs.Answered.{answer_to}
 use Rattle.mv_script.specs.Costs.{zero_at, reset_at, service_of}
 use Rattle.mv_script.specs.Fault.{obtain_meant}
@@ -258,13 +258,13 @@ behind_all (x ∷ xs) a rest i e =
     subst (λ (j : ℕ). slice_get (((x ∷ xs) ++ a ∷ []) ++ rest) j ≡ Some a) e (behind_all xs a rest (length xs) refl)
 
 -- the numbers of a call of a sound script are good
-call_good : (z : Sizes) (before calls : List Call) (i : ℕ) (d : Call) → AreSoundCalls z before calls → slice_get calls i ≡ Some d
+call_good : (z : SizesFace) (before calls : List Call) (i : ℕ) (d : Call) → AreSoundCalls z before calls → slice_get calls i ≡ Some d
     → HasGoodNumbers z d
 call_good z before [] i d sound at = absurd (cc at)
 call_good z before (x ∷ calls) zero d sound at = let same : x ≡ d = cc at in subst (HasGoodNumbers z) same sound.0.numbers
 call_good z before (x ∷ calls) (suc i) d sound at = call_good z (before ++ x ∷ []) calls i d sound.1 at
 
-pub calls_good : (z : Sizes) (tasks : List (List Call)) (k : ℕ) → AllByRecursion (IsSoundTask z) tasks
+pub calls_good : (z : SizesFace) (tasks : List (List Call)) (k : ℕ) → AllByRecursion (IsSoundTask z) tasks
     → AreSoundCalls z [] (unwrap_or (slice_get tasks k) [])
 calls_good z [] k sound = tt
 calls_good z (task ∷ tasks) zero sound = sound.0.sound

@@ -11,7 +11,7 @@ use Rattle.mv_config.specs.Check.{IsValid, is_bad_exit, is_within, keeps}
 use Rattle.mv_config.specs.Limits.{events_limit}
 use Rattle.mv_config.specs.Setup.{SetupExit}
 use Rattle.mv_config.proofs.Validity.{nothing_refuses}
-use Rattle.mv_scriptline.specs.declared.operand.Sizes.{Sizes}
+use Rattle.mv_scriptline.specs.Sizes.{SizesFace}
 use Rattle.mv_script.specs.Reading.{Progress, setup_in, sizes_in, IsSoundSoFar}
 use Rattle.mv_script.specs.Sound.{IsEcb, IsSoundExit}
 
@@ -20,20 +20,20 @@ within : (low high n : ℕ) → low ≤ n → n ≤ high → is_within low high 
 within low high n a b = rw (le-leb low n a, le-leb n high b) refl
 
 -- each exit has few targets
-few_targets : (z : Sizes) (exits : List SetupExit) → AllByRecursion (IsSoundExit z) exits
+few_targets : (z : SizesFace) (exits : List SetupExit) → AllByRecursion (IsSoundExit z) exits
     → list_all (λ x. is_within 1 8 (length x.targets)) exits ≡ true
 few_targets z [] a = refl
 few_targets z (x ∷ exits) a =
     rw (within 1 8 (length x.targets) a.0.some (omega (arith, a.0.few))) (few_targets z exits a.1)
 
 -- each target is a block above the source
-good_targets : (z : Sizes) (source : ℕ) (targets : List ℕ) → AllByRecursion (λ target. IsEcb z target × (source < target)) targets
+good_targets : (z : SizesFace) (source : ℕ) (targets : List ℕ) → AllByRecursion (λ target. IsEcb z target × (source < target)) targets
     → list_any (λ target. nat_le z.ecbs target || nat_le target source) targets ≡ false
 good_targets z source [] a = refl
 good_targets z source (t ∷ targets) a = rw (lt-leb z.ecbs t a.0.0, lt-leb t source a.0.1) (good_targets z source targets a.1)
 
 -- no exit is bad
-good_exits : (z : Sizes) (exits : List SetupExit) (i : ℕ) → AllByRecursion (IsSoundExit z) exits
+good_exits : (z : SizesFace) (exits : List SetupExit) (i : ℕ) → AllByRecursion (IsSoundExit z) exits
     → position_from (is_bad_exit z.ecbs) i exits ≡ None
 good_exits z [] i a = refl
 good_exits z (x ∷ exits) i a =

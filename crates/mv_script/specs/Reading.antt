@@ -9,7 +9,7 @@ use Rattle.mv_calls.specs.declared.table.Table.{Table}
 use Rattle.mv_calls.specs.Table.{IsTableOf}
 use Rattle.mv_scriptline.specs.declared.call.Call.{Call}
 use Rattle.mv_scriptline.specs.declared.fault.Kind.{Kind}
-use Rattle.mv_scriptline.specs.declared.operand.Sizes.{Sizes}
+use Rattle.mv_scriptline.specs.Sizes.{SizesFace}
 use Rattle.mv_script.specs.declared.reading.Reading.{Reading}
 use Rattle.mv_scriptline.specs.declared.statement.Statement.{Statement}
 use Rattle.mv_scriptline.specs.declared.statement.Statement.TheVariants as statement
@@ -63,7 +63,7 @@ with_statement p (statement.Call c) = record p { tasks = with_call p.tasks c }
 with_statement p statement.End = record p { ended = true }
 
 -- what a line may name: the numbers of tasks and of blocks, and the table
-abbrev pub sizes_in : Progress → Sizes
+abbrev pub sizes_in : Progress → SizesFace
 sizes_in p = record { tasks = p.stated; ecbs = length p.owners; table = p.table }
 
 -- the configuration so far, with these budgets

@@ -10,7 +10,7 @@ use Rattle.mv_scriptline.specs.declared.call.Call.TheVariants as call
 use Rattle.mv_script.specs.declared.script.Script.{Script}
 use Rattle.mv_scriptline.specs.declared.statement.Statement.{Statement}
 use Rattle.mv_scriptline.specs.declared.statement.Statement.TheVariants as statement
-use Rattle.mv_scriptline.specs.declared.operand.Sizes.{Sizes}
+use Rattle.mv_scriptline.specs.Sizes.{SizesFace}
 use Rattle.mv_script.specs.Costs.{script_setup, costs_of}
 use Rattle.mv_scriptline.specs.Statement.{line_states}
 use Rattle.mv_scriptline.specs.Words.{Read}
@@ -107,7 +107,7 @@ script_in statements = record {
 -- ---- the statements of lines
 
 -- what a line after these statements may name: the numbers of tasks and of blocks, and the table
-abbrev pub sizes_behind : List Statement → Sizes
+abbrev pub sizes_behind : List Statement → SizesFace
 sizes_behind earlier = record { tasks = task_count earlier; ecbs = length (owners_of earlier); table = table_of earlier }
 
 -- the statement that a line adds, if it has one

@@ -11,7 +11,7 @@ use Rattle.mv_config.specs.Setup.{SetupExit}
 use Rattle.mv_calls.specs.Table.{IsTableOf}
 use Rattle.mv_scriptline.specs.declared.call.Call.{Call}
 use Rattle.mv_scriptline.specs.declared.call.Call.TheVariants as call
-use Rattle.mv_scriptline.specs.declared.operand.Sizes.{Sizes}
+use Rattle.mv_scriptline.specs.Sizes.{SizesFace}
 use Rattle.mv_scriptline.specs.declared.statement.Statement.{Statement}
 use Rattle.mv_scriptline.specs.declared.statement.Statement.TheVariants as statement
 use Rattle.mv_script.specs.Costs.{script_setup, costs_of}
@@ -25,15 +25,15 @@ use Rattle.mv_script.specs.Table.{uses_any}
 -- ---- calls
 
 -- the script has this block
-abbrev pub IsEcb : Sizes → ℕ → Type 0
+abbrev pub IsEcb : SizesFace → ℕ → Type 0
 IsEcb z e = e < z.ecbs
 
 -- the script has this element
-abbrev pub IsElement : Sizes → ℕ → Type 0
+abbrev pub IsElement : SizesFace → ℕ → Type 0
 IsElement z n = n < elements_per_task * z.tasks
 
 -- a token names an element of the script, and has a generation that is not the last
-abbrev pub IsToken : Sizes → Token → Type 0
+abbrev pub IsToken : SizesFace → Token → Type 0
 IsToken z t = IsElement z t.element × (t.generation < highest_generation)
 
 -- P holds of the value, if there is one
@@ -42,13 +42,13 @@ IfThere P None = Unit {0}
 IfThere P (Some a) = P a
 
 -- if a form posts a block, the script has that block
-abbrev pub HasEcb : Sizes → LatchForm → Type 0
+abbrev pub HasEcb : SizesFace → LatchForm → Type 0
 HasEcb z Conditional = Unit {0}
 HasEcb z Waiting = Unit {0}
 HasEcb z (Posted e) = IsEcb z e
 
 -- the numbers of a call are in their ranges, and name blocks, elements, volumes and events that the script has
-abbrev pub HasGoodNumbers : Sizes → Call → Type 0
+abbrev pub HasGoodNumbers : SizesFace → Call → Type 0
 HasGoodNumbers z (call.Wait count ecbs) = (count ≤ highest_count) × ((length ecbs ≤ most_waited) × AllByRecursion (IsEcb z) ecbs)
 HasGoodNumbers z (call.Post ecb code) = IsEcb z ecb × (code < code_limit)
 HasGoodNumbers z (call.TryPost ecb place code) = IsEcb z ecb × ((place ≤ highest_place) × (code < code_limit))
@@ -77,25 +77,25 @@ abbrev pub IsObtainOf : List Call → ℕ → Type 0
 IsObtainOf before k = (1 ≤ k) × (k ≤ count_by is_obtain before)
 
 -- a call may follow these calls of its task
-pub record IsSoundCall (z : Sizes) (before : List Call) (c : Call) : Type 0 where
+pub record IsSoundCall (z : SizesFace) (before : List Call) (c : Call) : Type 0 where
   pub numbers : HasGoodNumbers z c
   pub obtain : IfThere (IsObtainOf before) (obtain_meant c)
   pub spares : uses_any z.table c ≡ false
 
 -- each of these calls may follow the calls before it
-abbrev pub AreSoundCalls : Sizes → List Call → List Call → Type 0
+abbrev pub AreSoundCalls : SizesFace → List Call → List Call → Type 0
 AreSoundCalls z before [] = Unit {0}
 AreSoundCalls z before (c ∷ calls) = IsSoundCall z before c × AreSoundCalls z (before ++ c ∷ []) calls
 
 -- the calls of a task
-pub record IsSoundTask (z : Sizes) (calls : List Call) : Type 0 where
+pub record IsSoundTask (z : SizesFace) (calls : List Call) : Type 0 where
   pub few : length calls ≤ most_calls
   pub sound : AreSoundCalls z [] calls
 
 -- ---- statements
 
 -- the numbers of a statement are in their ranges, and name tasks, blocks, elements and volumes that the script has
-abbrev pub IsGoodStatement : Sizes → Statement → Type 0
+abbrev pub IsGoodStatement : SizesFace → Statement → Type 0
 IsGoodStatement z (statement.Script t) = (1 ≤ t) × (t ≤ most_tasks)
 IsGoodStatement z (statement.Ecb owner) = owner < z.tasks
 IsGoodStatement z (statement.Exit source targets) =
@@ -108,14 +108,14 @@ IsGoodStatement z statement.End = Unit {0}
 -- ---- scripts
 
 -- an exit has one to four targets, each of them a block above the exit's source
-pub record IsSoundExit (z : Sizes) (x : SetupExit) : Type 0 where
+pub record IsSoundExit (z : SizesFace) (x : SetupExit) : Type 0 where
   pub source : IsEcb z x.source
   pub some : 1 ≤ length x.targets
   pub few : length x.targets ≤ most_targets
   pub up : AllByRecursion (λ target. IsEcb z target × (x.source < target)) x.targets
 
 -- what the calls of a script may name: the numbers of tasks and of blocks, and the table
-abbrev pub sizes_of : ScriptData → Sizes
+abbrev pub sizes_of : ScriptData → SizesFace
 sizes_of script = record { tasks = length script.tasks; ecbs = length script.setup.owners; table = script.table }
 
 -- A script that can be run. It has one to eight tasks of at most 128 calls each, at most 64 blocks, each owned by a task, and at

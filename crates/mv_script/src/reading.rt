@@ -22,7 +22,7 @@ use mv_line::{LineReader, LineRefusal, is_foreign, is_too_long, read_lines, show
 use mv_machine::{Exit, ValidConfig};
 use mv_scriptline::{
     Call, CallList, EVENTS_LIMIT, Kind, MOST_CALLS, MOST_ECBS, MOST_EXITS, Numbers, Sizes,
-    Statement, statement_of,
+    Statement,
 };
 use std::alloc::Global;
 
@@ -105,7 +105,7 @@ impl<'a> LineReader<'a> for Reading {
             ecbs: self.owners.len() as u32,
             table: self.stated_table(),
         };
-        let statement = statement_of(self.alloc, sizes, text)?;
+        let statement = sizes.statement_of(self.alloc, text)?;
         self.take(statement)
     }
 

@@ -1,5 +1,6 @@
 pub mod Limits
 pub mod Words
+pub mod Sizes
 pub mod Operand
 pub mod Statement
 pub mod Kind

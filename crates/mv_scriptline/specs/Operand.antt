@@ -13,7 +13,7 @@ use Rattle.mv_line.specs.Number.{is_digits, number_of}
 use Rattle.mv_config.specs.Limits.{highest_place, highest_generation}
 use Rattle.mv_calls.specs.declared.table.Table.{Table}
 use Rattle.mv_scriptline.specs.declared.words.Misread.TheVariants.{NoForm, BadNumber}
-use Rattle.mv_scriptline.specs.declared.operand.Sizes.{Sizes}
+use Rattle.mv_scriptline.specs.Sizes.{SizesFace}
 use Rattle.mv_scriptline.specs.Limits.{most_tasks, highest_count, highest_latch, highest_size, highest_position, elements_per_task, volumes}
 use Rattle.mv_scriptline.specs.Words.{Read, making, both}
 
@@ -37,15 +37,15 @@ abbrev pub number_of_tasks : List ℕ → Read ℕ
 number_of_tasks word = number (is_within 1 most_tasks) word
 
 -- a word as a task of the script
-abbrev pub task : Sizes → List ℕ → Read ℕ
+abbrev pub task : SizesFace → List ℕ → Read ℕ
 task z word = below z.tasks word
 
 -- a word as an event control block that the script has so far
-abbrev pub ecb : Sizes → List ℕ → Read ℕ
+abbrev pub ecb : SizesFace → List ℕ → Read ℕ
 ecb z word = below z.ecbs word
 
 -- a word as a pause element of the script
-abbrev pub element : Sizes → List ℕ → Read ℕ
+abbrev pub element : SizesFace → List ℕ → Read ℕ
 element z word = below (elements_per_task * z.tasks) word
 
 -- a word as a volume
@@ -76,11 +76,11 @@ position_count None = 0
 position_count (Some t) = highest_position + 1
 
 -- a word as an event of the script's table
-abbrev pub event : Sizes → List ℕ → Read ℕ
+abbrev pub event : SizesFace → List ℕ → Read ℕ
 event z word = below (event_count z.table) word
 
 -- a word as a position of the script's table
-abbrev pub event_position : Sizes → List ℕ → Read ℕ
+abbrev pub event_position : SizesFace → List ℕ → Read ℕ
 event_position z word = below (position_count z.table) word
 
 -- a word as the count of a WAIT: how many blocks must be complete
@@ -114,14 +114,14 @@ abbrev pub is_point : ℕ → Bool
 is_point b = b == 46
 
 -- a word as a token, if its first point is at this place
-abbrev pub parted : Sizes → List ℕ → Option ℕ → Read Token
+abbrev pub parted : SizesFace → List ℕ → Option ℕ → Read Token
 parted z word None = Err NoForm
 parted z word (Some point) =
     making (λ (p : ℕ × ℕ). record { element = p.0; generation = p.1 })
     (both (element z (take point word)) (below highest_generation (drop (point + 1) word)))
 
 -- a word as a token
-abbrev pub token : Sizes → List ℕ → Read Token
+abbrev pub token : SizesFace → List ℕ → Read Token
 token z word = parted z word (position is_point word)
 
 -- ---- words

@@ -18,4 +18,5 @@ pub use limits::{
 };
 pub use numbers::Numbers;
 pub use operand::Sizes;
-pub use statement::{Statement, statement_of};
+pub use statement::Statement;
+pub use words::Misread;

@@ -1,7 +1,6 @@
 //! The numbers, tokens and modes of a line, read from their words (`specs/Operand.antt`).
 
 ghost use Rattle.std.specs.Prelude.{◌≡◌, ◌≤◌, ◌^◌};
-ghost use Rattle.mv_scriptline.specs.Limits.{most_tasks};
 ghost use Rattle.mv_scriptline.specs.Operand.{below as reads_below, number_of_tasks as reads_task_count, task as reads_task};
 ghost use Rattle.mv_scriptline.specs.Operand.{ecb as reads_ecb, element as reads_element, volume as reads_volume};
 ghost use Rattle.mv_scriptline.specs.Operand.{latch as reads_latch, count as reads_count, ecb_code as reads_ecb_code};
@@ -21,13 +20,111 @@ use mv_element::{RELEASE_LIMIT, Token};
 use mv_latch::Mode;
 use mv_line::{first_place, is_digits, is_word, wide_number_within};
 use mv_machine::{HIGHEST_GENERATION, HIGHEST_PLACE};
+use std::marker::Model;
 
-/// What the lines of a script may name so far: its tasks and event control blocks, and its table of events, if it has one.
+/// What the lines of a script may name so far: its tasks, 8 at most, its event control blocks, and its table of events, if it has
+/// one. Its methods read what a line names of them.
 #[derive(Clone, Copy)]
 pub struct Sizes {
     pub tasks: u32,
     pub ecbs: u32,
     pub table: Option<Table>,
+}
+
+impl Model for Sizes {
+    ghost use Rattle.std.specs.Prelude.{◌≤◌};
+    ghost use Rattle.mv_scriptline.specs.Limits.{most_tasks};
+    ghost use Rattle.mv_scriptline.specs.Sizes.{SizesFace};
+
+    ghost Value = { SizesFace };
+
+    ghost view = { λ z. record { tasks = z.tasks; ecbs = z.ecbs; table = z.table } };
+
+    ghost inverse = { λ f. record { tasks = f.tasks; ecbs = f.ecbs; table = f.table } };
+
+    ghost invariant = { λ z. z.tasks ≤ most_tasks };
+}
+
+impl Sizes {
+    /// Reads a task of the script.
+    pub(crate) fn task(self, word: &[u8]) -> Result<u32, Misread>
+        ensures { result ≡ reads_task self word.now }
+    {
+        below(u64::from(self.tasks), word)
+    }
+
+    /// Reads an event control block of the script.
+    pub(crate) fn ecb(self, word: &[u8]) -> Result<u32, Misread>
+        ensures { result ≡ reads_ecb self word.now }
+    {
+        below(u64::from(self.ecbs), word)
+    }
+
+    /// Reads a pause element of the script.
+    pub(crate) fn element(self, word: &[u8]) -> Result<u32, Misread>
+        ensures { result ≡ reads_element self word.now }
+    {
+        below(u64::from(ELEMENTS_PER_TASK * self.tasks), word)
+    }
+
+    /// Reads an event of the script's table; there is none without a table.
+    pub(crate) fn event(self, word: &[u8]) -> Result<u32, Misread>
+        ensures { result ≡ reads_event self word.now }
+    {
+        let count = match self.table {
+            Some(table) => table.size,
+            None => 0,
+        };
+        below(u64::from(count), word)
+    }
+
+    /// Reads a position of the script's table, 0 to 99; there is none without a table.
+    pub(crate) fn event_position(self, word: &[u8]) -> Result<u32, Misread>
+        ensures { result ≡ reads_event_position self word.now }
+    {
+        let count = match self.table {
+            Some(_) => HIGHEST_POSITION + 1,
+            None => 0,
+        };
+        below(count, word)
+    }
+
+    /// Reads a token: an element and a generation, with a point between them.
+    pub(crate) fn token(self, word: &[u8]) -> Result<Token, Misread>
+        ensures { result ≡ reads_token self word.now }
+    {
+        let Some(point) = first_place(word, b'.') else {
+            return Err(Misread::NoForm);
+        };
+        let (element, generation) = both(
+            self.element(&word[..point]),
+            below(u64::from(HIGHEST_GENERATION), &word[point + 1..]),
+        )?;
+        Ok(Token {
+            element,
+            generation,
+        })
+    }
+
+    /// Reads a token, or a hyphen for no token.
+    pub(crate) fn token_or_none(self, word: &[u8]) -> Result<Option<Token>, Misread>
+        ensures { result ≡ or_hyphen (reads_token self) word.now }
+    {
+        if is_word(word, b"-") {
+            return Ok(None);
+        }
+        Ok(Some(self.token(word)?))
+    }
+
+    /// Reads a block, or a hyphen for no block.
+    pub(crate) fn ecb_or_none(self, word: &[u8]) -> Result<Option<u32>, Misread>
+        ensures { result ≡ or_hyphen (reads_ecb self) word.now }
+    {
+        if is_word(word, b"-") {
+            return Ok(None);
+        }
+        Ok(Some(self.ecb(word)?))
+    }
 }
 
 /// Reads a requestor: eight bytes, as a number.
@@ -71,28 +168,6 @@ pub(crate) fn task_count(word: &[u8]) -> Result<u32, Misread>
     }
 }
 
-/// Reads a task of the script.
-pub(crate) fn task(sizes: Sizes, word: &[u8]) -> Result<u32, Misread>
-    ensures { result ≡ reads_task sizes word.now }
-{
-    below(u64::from(sizes.tasks), word)
-}
-
-/// Reads an event control block of the script.
-pub(crate) fn ecb(sizes: Sizes, word: &[u8]) -> Result<u32, Misread>
-    ensures { result ≡ reads_ecb sizes word.now }
-{
-    below(u64::from(sizes.ecbs), word)
-}
-
-/// Reads a pause element of the script.
-pub(crate) fn element(sizes: Sizes, word: &[u8]) -> Result<u32, Misread>
-    requires { sizes.tasks ≤ most_tasks }
-    ensures { result ≡ reads_element sizes word.now }
-{
-    below(u64::from(ELEMENTS_PER_TASK * sizes.tasks), word)
-}
-
 /// Reads a volume.
 pub(crate) fn volume(word: &[u8]) -> Result<u32, Misread>
     ensures { result ≡ reads_volume word.now }
@@ -112,28 +187,6 @@ pub(crate) fn table_size(word: &[u8]) -> Result<u32, Misread>
     ensures { result ≡ reads_table_size word.now }
 {
     below(HIGHEST_SIZE + 1, word)
-}
-
-/// Reads an event of the script's table; there is none without a table.
-pub(crate) fn event(sizes: Sizes, word: &[u8]) -> Result<u32, Misread>
-    ensures { result ≡ reads_event sizes word.now }
-{
-    let count = match sizes.table {
-        Some(table) => table.size,
-        None => 0,
-    };
-    below(u64::from(count), word)
-}
-
-/// Reads a position of the script's table, 0 to 99; there is none without a table.
-pub(crate) fn event_position(sizes: Sizes, word: &[u8]) -> Result<u32, Misread>
-    ensures { result ≡ reads_event_position sizes word.now }
-{
-    let count = match sizes.table {
-        Some(_) => HIGHEST_POSITION + 1,
-        None => 0,
-    };
-    below(count, word)
 }
 
 /// Reads how many blocks of a WAIT must be complete, 0 to 99.
@@ -169,45 +222,6 @@ pub(crate) fn any_number(word: &[u8]) -> Result<u32, Misread>
     ensures { result ≡ reads_any_number word.now }
 {
     below(1 << 32, word)
-}
-
-/// Reads a token: an element and a generation, with a point between them.
-pub(crate) fn token(sizes: Sizes, word: &[u8]) -> Result<Token, Misread>
-    requires { sizes.tasks ≤ most_tasks }
-    ensures { result ≡ reads_token sizes word.now }
-{
-    let Some(point) = first_place(word, b'.') else {
-        return Err(Misread::NoForm);
-    };
-    let (element, generation) = both(
-        element(sizes, &word[..point]),
-        below(u64::from(HIGHEST_GENERATION), &word[point + 1..]),
-    )?;
-    Ok(Token {
-        element,
-        generation,
-    })
-}
-
-/// Reads a token, or a hyphen for no token.
-pub(crate) fn token_or_none(sizes: Sizes, word: &[u8]) -> Result<Option<Token>, Misread>
-    requires { sizes.tasks ≤ most_tasks }
-    ensures { result ≡ or_hyphen (reads_token sizes) word.now }
-{
-    if is_word(word, b"-") {
-        return Ok(None);
-    }
-    Ok(Some(token(sizes, word)?))
-}
-
-/// Reads a block, or a hyphen for no block.
-pub(crate) fn ecb_or_none(sizes: Sizes, word: &[u8]) -> Result<Option<u32>, Misread>
-    ensures { result ≡ or_hyphen (reads_ecb sizes) word.now }
-{
-    if is_word(word, b"-") {
-        return Ok(None);
-    }
-    Ok(Some(ecb(sizes, word)?))
 }
 
 /// Reads a mode: `S` (shared) or `X` (exclusive).

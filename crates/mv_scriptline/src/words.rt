@@ -9,7 +9,7 @@ use mv_line::{one_field, split_field, two_fields};
 
 /// Why words could not be read as a value.
 #[derive(Clone, Copy)]
-pub(crate) enum Misread {
+pub enum Misread {
     /// The words fit no form.
     NoForm,
     /// A number has a leading zero, is out of its range, or names nothing.

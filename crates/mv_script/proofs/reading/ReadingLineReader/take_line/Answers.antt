@@ -1,7 +1,8 @@
 -- A line that is neither ignored nor bad by its bytes.
-use Rattle.std.proofs.Common.{◌≡◌, ◌<◌, false, List, length, Ok, Err, sym, subst, ◌∙◌, arith}
+use Rattle.std.proofs.Common.{◌≡◌, ◌<◌, false, List, length, Ok, Err, refl, sym, subst, ◌∙◌, arith}
+use Rattle.std.proofs.lemmas.Result.{err_from_is_err_and}
 use Rattle.mv_line.specs.Line.{is_foreign, is_too_long}
-use Rattle.mv_scriptline.specs.declared.operand.Sizes.{Sizes}
+use Rattle.mv_scriptline.specs.Sizes.{SizesFace}
 use Rattle.mv_scriptline.specs.declared.statement.Statement.{Statement}
 use Rattle.mv_scriptline.specs.Misread.{IsReadAs}
 use Rattle.mv_script.specs.Reading.{notes_of, IsBehind}
@@ -28,9 +29,9 @@ sizes_so_far c earlier b =
     sizes_are earlier (notes_of c.args.self.now) b c.len.result c.stated_table.result (omega (arith, c.len.ensures)) c.stated_table.ensures
 
 -- by these it states this
-states : (c : In_ok-statement) (z : Sizes) → sizes c.args.self.now.stated c.len.result c.stated_table.result ≡ z
+states : (c : In_ok-statement) (z : SizesFace) → sizes c.args.self.now.stated c.len.result c.stated_table.result ≡ z
     → text_states z c.shown-text.result.now ≡ Ok c.in_ok-statement.statement
-states c z same = subst (λ (s : Sizes). text_states s c.shown-text.result.now ≡ Ok c.in_ok-statement.statement) same c.in_ok-statement.ensures
+states c z same = subst (λ (s : SizesFace). text_states s c.shown-text.result.now ≡ Ok c.in_ok-statement.statement) same c.in_ok-statement.ensures
 
 pub take-requires : goal.take-requires
 take-requires c =
@@ -53,6 +54,9 @@ pub returns-in_err-statement : goal.returns-in_err-statement
 returns-in_err-statement c = λ setting earlier b.
     let text = c.shown-text.result.now in
     let k = counts (goal.at.returns-in_err-statement c).After-stated_table in
-    line_refused earlier c.args.line.now text c.shown-text.ensures k.0 k.1 k.2 c.in_err-statement.field-0.0
-    (subst (λ (s : Sizes). IsReadAs {A = Statement} (Err c.in_err-statement.field-0.0) (text_states s text))
-    (sizes_so_far (goal.at.returns-in_err-statement c).After-stated_table earlier b) c.in_err-statement.ensures)
+    let why = c.in_err-statement.field-0.0 in
+    let p = err_from_is_err_and c.from_residual.result c.from_residual.ensures.1 in
+    let is : c.from_residual.result ≡ Err why = rw (p.1, p.2) refl in
+    rw is (line_refused earlier c.args.line.now text c.shown-text.ensures k.0 k.1 k.2 why
+    (subst (λ (s : SizesFace). IsReadAs {A = Statement} (Err why) (text_states s text))
+    (sizes_so_far (goal.at.returns-in_err-statement c).After-stated_table earlier b) c.in_err-statement.ensures))

@@ -8,15 +8,15 @@ use Rattle.mv_scriptline.specs.Operand.{latch, requestor, mode}
 use Rattle.mv_scriptline.specs.Statement.{form}
 use Rattle.mv_scriptline.specs.Words.{Read, both, led_by}
 use Rattle.mv_scriptline.proofs.Leading.{led}
-use Rattle.mv_scriptline.proofs.calls.obtain.Goals.{After-split_field-3}
-use Rattle.mv_scriptline.proofs.calls.obtain.Goals as goal
+use Rattle.mv_scriptline.proofs.operand.Sizes.obtain.Goals.{After-split_field-3}
+use Rattle.mv_scriptline.proofs.operand.Sizes.obtain.Goals as goal
 
 parts : (c : After-split_field-3)
-    → led_by latch (led_by requestor (led_by mode (form c.args.sizes))) (fields_of c.args.words.now)
+    → led_by latch (led_by requestor (led_by mode (form c.args.self))) (fields_of c.args.words.now)
     ≡ both (latch c.split_field.result.0.now) (both (requestor c.split_field-2.result.0.now)
-    (both (mode c.split_field-3.result.0.now) (form c.args.sizes (fields_of c.split_field-3.result.1.now))))
+    (both (mode c.split_field-3.result.0.now) (form c.args.self (fields_of c.split_field-3.result.1.now))))
 parts c =
-    let z = c.args.sizes in
+    let z = c.args.self in
     let l = c.split_field.result.0.now in
     let r = c.split_field-2.result.0.now in
     let m = c.split_field-3.result.0.now in

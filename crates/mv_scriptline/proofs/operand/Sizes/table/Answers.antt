@@ -5,17 +5,17 @@ use Rattle.mv_line.specs.Field.{fields_of, starts_fields}
 use Rattle.mv_scriptline.specs.Operand.{task, latch, volume, ecb, table_size}
 use Rattle.mv_scriptline.specs.Words.{Read, both, led_by, three}
 use Rattle.mv_scriptline.proofs.Leading.{led}
-use Rattle.mv_scriptline.proofs.statement.table.Goals.{After-split_field-3}
-use Rattle.mv_scriptline.proofs.statement.table.Goals as goal
+use Rattle.mv_scriptline.proofs.operand.Sizes.table.Goals.{After-split_field-3}
+use Rattle.mv_scriptline.proofs.operand.Sizes.table.Goals as goal
 
 parts : (c : After-split_field-3)
-    → led_by (task c.args.sizes) (led_by latch (led_by volume (three (ecb c.args.sizes) (ecb c.args.sizes) table_size)))
+    → led_by (task c.args.self) (led_by latch (led_by volume (three (ecb c.args.self) (ecb c.args.self) table_size)))
     (fields_of c.args.words.now)
-    ≡ both (task c.args.sizes c.split_field.result.0.now) (both (latch c.split_field-2.result.0.now)
+    ≡ both (task c.args.self c.split_field.result.0.now) (both (latch c.split_field-2.result.0.now)
     (both (volume c.split_field-3.result.0.now)
-    (three (ecb c.args.sizes) (ecb c.args.sizes) table_size (fields_of c.split_field-3.result.1.now))))
+    (three (ecb c.args.self) (ecb c.args.self) table_size (fields_of c.split_field-3.result.1.now))))
 parts c =
-    let z = c.args.sizes in
+    let z = c.args.self in
     let blocks = three (ecb z) (ecb z) table_size in
     let o = c.split_field.result.0.now in
     let l = c.split_field-2.result.0.now in
