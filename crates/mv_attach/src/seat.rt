@@ -65,8 +65,8 @@ pub(crate) fn parted<S: Drop>(
 
 /// Has each task do its work, each on a thread, and returns when all have done it.
 pub(crate) fn work_all<R: Threads + Wait + Clock + Sync, W: Work + Sync>(
-    rt: &R,
     station: &Station,
+    rt: &R,
     work: &W,
     seats: &mut [Seat<W::Room>],
 )
@@ -84,7 +84,7 @@ pub(crate) fn work_all<R: Threads + Wait + Clock + Sync, W: Work + Sync>(
             × W.can_start work.now station.now number seat.now.room }
         ensures { IsOf station.entry.now seat.exit.now.task × (seat.exit.now.task.number ≡ number)
             × W.has_done work.entry.now station.entry.now number seat.entry.now.room seat.exit.now.task seat.exit.now.room }
-    { work.work(rt, station, &mut seat.task, &mut seat.room) };
+    { work.work(station, rt, &mut seat.task, &mut seat.room) };
     let threads = seats.len().max(1);
     thread::for_each_mut(rt, seats, threads, &job);
 }

@@ -26,8 +26,8 @@ pub trait Work {
     /// Does the work of the task with this number. The task has made no event yet.
     fn work<R: Wait + Clock>(
         &self,
-        rt: &R,
         station: &Station,
+        rt: &R,
         task: &mut Task,
         room: &mut Self::Room,
     )
@@ -83,6 +83,6 @@ pub fn run_tasks<R: Threads + Wait + Clock + Sync, W: Work + Sync>(
     let tasks_back = Vec::with_capacity(alloc, tasks.len())?;
     let rooms_back = Vec::with_capacity(alloc, rooms.len())?;
     let mut seats = seated(alloc, tasks, rooms)?;
-    work_all(rt, station, work, &mut seats);
+    work_all(station, rt, work, &mut seats);
     Ok(parted(seats, tasks_back, rooms_back))
 }

@@ -72,8 +72,8 @@ fn configuration(alloc: Global, pairs: u32, reads: u32) -> Result<ValidConfig, N
 
 // Writes the pair of this number, under the latch alone.
 fn write_pair<R: Wait + Clock>(
-    rt: &R,
     station: &Station,
+    rt: &R,
     task: &mut Task,
     pairs: &[Pair],
     number: usize,
@@ -102,7 +102,7 @@ fn write_pair<R: Wait + Clock>(
 }
 
 // Reads the pair, under the latch shared.
-fn read_pair<R: Wait + Clock>(rt: &R, station: &Station, task: &mut Task) -> Option<Pair>
+fn read_pair<R: Wait + Clock>(station: &Station, rt: &R, task: &mut Task) -> Option<Pair>
     requires ready { IsReading station.now task.old }
     requires bare { held task.old.log ≡ [] }
     requires left { 5 ≤ task.old.left }
@@ -128,7 +128,7 @@ fn read_pair<R: Wait + Clock>(rt: &R, station: &Station, task: &mut Task) -> Opt
 }
 
 // The writer: each pair in turn.
-fn write_all<R: Wait + Clock>(rt: &R, station: &Station, task: &mut Task, pairs: &[Pair])
+fn write_all<R: Wait + Clock>(station: &Station, rt: &R, task: &mut Task, pairs: &[Pair])
     requires ready { IsWriting station.now pairs.now task.old }
     requires bare { held task.old.log ≡ [] }
     requires left { 5 * length pairs.now ≤ task.old.left }
@@ -136,14 +136,14 @@ fn write_all<R: Wait + Clock>(rt: &R, station: &Station, task: &mut Task, pairs:
     ensures bare { held task.new.log ≡ [] }
 {
     for number in 0..pairs.len() {
-        write_pair(rt, station, task, pairs, number);
+        write_pair(station, rt, task, pairs, number);
     }
 }
 
 // A reader: this many reads.
 fn read_all<R: Wait + Clock>(
-    rt: &R,
     station: &Station,
+    rt: &R,
     task: &mut Task,
     reads: u32,
     room: &mut Vec<Pair>,
@@ -158,7 +158,7 @@ fn read_all<R: Wait + Clock>(
     ensures read { AllByRecursion (WasRead task.new.number task.new.log) room.new.items }
 {
     for made in 0..reads {
-        if let Some(pair) = read_pair(rt, station, task) {
+        if let Some(pair) = read_pair(station, rt, task) {
             room.push_reserved(pair);
         }
     }
@@ -181,15 +181,15 @@ impl Work for Sharing<'_> {
     #[tactic(auto, using(mv_ordered::proofs::Calls::new_keeps_discipline))]
     fn work<R: Wait + Clock>(
         &self,
-        rt: &R,
         station: &Station,
+        rt: &R,
         task: &mut Task,
         room: &mut Vec<Pair>,
     ) {
         if task.number() == WRITER {
-            write_all(rt, station, task, self.pairs);
+            write_all(station, rt, task, self.pairs);
         } else {
-            read_all(rt, station, task, self.reads, room);
+            read_all(station, rt, task, self.reads, room);
         }
     }
 }

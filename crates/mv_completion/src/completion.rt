@@ -37,7 +37,7 @@ impl Work for Completing {
 
     ghost has_done = { λ c b k old t new. HasDone c.0 k t.log new };
 
-    fn work<R: Wait + Clock>(&self, rt: &R, station: &Station, task: &mut Task, told: &mut u32) {
+    fn work<R: Wait + Clock>(&self, station: &Station, rt: &R, task: &mut Task, told: &mut u32) {
         if task.number() == WAITER {
             *told = station.wait_one(rt, task, EVENT);
         } else {

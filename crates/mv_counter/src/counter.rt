@@ -49,7 +49,7 @@ fn configuration(alloc: Global, times: u32) -> Result<ValidConfig, NoMemory>
 }
 
 // Adds one to the number, in a section of the latch.
-fn add_one<R: Wait + Clock>(rt: &R, station: &Station, task: &mut Task)
+fn add_one<R: Wait + Clock>(station: &Station, rt: &R, task: &mut Task)
     requires ready { IsReady station.now task.old }
     requires left { 5 ≤ task.old.left }
     ensures ready { IsReady station.now task.new }
@@ -72,14 +72,14 @@ fn add_one<R: Wait + Clock>(rt: &R, station: &Station, task: &mut Task)
 }
 
 // Adds one this many times.
-fn add_all<R: Wait + Clock>(rt: &R, station: &Station, task: &mut Task, times: u32)
+fn add_all<R: Wait + Clock>(station: &Station, rt: &R, task: &mut Task, times: u32)
     requires ready { IsReady station.now task.old }
     requires left { 5 * times ≤ task.old.left }
     ensures ready { IsReady station.now task.new }
     ensures number { task.new.number ≡ task.old.number }
 {
     for added in 0..times {
-        add_one(rt, station, task);
+        add_one(station, rt, task);
     }
 }
 
@@ -94,8 +94,8 @@ impl Work for Adding {
 
     ghost has_done = { λ a b k old t new. HasDone k t.log };
 
-    fn work<R: Wait + Clock>(&self, rt: &R, station: &Station, task: &mut Task, _room: &mut ()) {
-        add_all(rt, station, task, self.0);
+    fn work<R: Wait + Clock>(&self, station: &Station, rt: &R, task: &mut Task, _room: &mut ()) {
+        add_all(station, rt, task, self.0);
     }
 }
 

@@ -40,8 +40,8 @@ fn configuration(alloc: Global, meals: u32) -> Result<ValidConfig, NoMemory>
 
 // Takes a fork that is above each fork that the philosopher has.
 fn take_fork<R: Wait + Clock>(
-    rt: &R,
     station: &Station,
+    rt: &R,
     task: &mut Task,
     fork: u32,
 ) -> Option<LatchToken>
@@ -69,7 +69,7 @@ fn take_fork<R: Wait + Clock>(
 }
 
 // Puts a fork back.
-fn put_fork<R: Wait>(rt: &R, station: &Station, task: &mut Task, token: LatchToken)
+fn put_fork<R: Wait>(station: &Station, rt: &R, task: &mut Task, token: LatchToken)
     requires token { token.latch < 4 }
     requires ready { IsDining station.now task.old }
     requires left { 1 ≤ task.old.left }
@@ -83,7 +83,7 @@ fn put_fork<R: Wait>(rt: &R, station: &Station, task: &mut Task, token: LatchTok
 
 // Has a meal: takes both forks, the lower one first, and puts them back. An obtain is refused only if its request is purged, and no
 // philosopher purges any.
-fn eat<R: Wait + Clock>(rt: &R, station: &Station, task: &mut Task)
+fn eat<R: Wait + Clock>(station: &Station, rt: &R, task: &mut Task)
     requires ready { IsDining station.now task.old }
     requires left { 6 ≤ task.old.left }
     requires none { held task.old.log ≡ [] }
@@ -96,17 +96,17 @@ fn eat<R: Wait + Clock>(rt: &R, station: &Station, task: &mut Task)
     let right = (left + 1) % PHILOSOPHERS;
     let low = left.min(right);
     let high = left.max(right);
-    let Some(first) = take_fork(rt, station, task, low) else {
+    let Some(first) = take_fork(station, rt, task, low) else {
         return;
     };
-    if let Some(second) = take_fork(rt, station, task, high) {
-        put_fork(rt, station, task, second);
+    if let Some(second) = take_fork(station, rt, task, high) {
+        put_fork(station, rt, task, second);
     }
-    put_fork(rt, station, task, first);
+    put_fork(station, rt, task, first);
 }
 
 // Has this many meals.
-fn eat_all<R: Wait + Clock>(rt: &R, station: &Station, task: &mut Task, meals: u32)
+fn eat_all<R: Wait + Clock>(station: &Station, rt: &R, task: &mut Task, meals: u32)
     requires ready { IsDining station.now task.old }
     requires left { 6 * meals ≤ task.old.left }
     requires none { held task.old.log ≡ [] }
@@ -115,7 +115,7 @@ fn eat_all<R: Wait + Clock>(rt: &R, station: &Station, task: &mut Task, meals: u
     ensures number { task.new.number ≡ task.old.number }
 {
     for had in 0..meals {
-        eat(rt, station, task);
+        eat(station, rt, task);
     }
 }
 
@@ -130,8 +130,8 @@ impl Work for Dining {
 
     ghost has_done = { λ d b k old t new. HasDined t.log };
 
-    fn work<R: Wait + Clock>(&self, rt: &R, station: &Station, task: &mut Task, _room: &mut ()) {
-        eat_all(rt, station, task, self.0);
+    fn work<R: Wait + Clock>(&self, station: &Station, rt: &R, task: &mut Task, _room: &mut ()) {
+        eat_all(station, rt, task, self.0);
     }
 }
 

@@ -43,7 +43,7 @@ fn configuration(alloc: Global, items: u32) -> Result<ValidConfig, NoMemory>
 }
 
 // Waits for a block of the task's own, zeroes it for its next use, and returns the code with which it was posted.
-fn take<R: Wait + Clock>(rt: &R, station: &Station, task: &mut Task, ecb: u32) -> u32
+fn take<R: Wait + Clock>(station: &Station, rt: &R, task: &mut Task, ecb: u32) -> u32
     requires block { IsOwn station.now ecb task.old }
     requires ready { CanHandOver station.now task.old.number task.old }
     requires left { 3 ≤ task.old.left }
@@ -58,7 +58,7 @@ fn take<R: Wait + Clock>(rt: &R, station: &Station, task: &mut Task, ecb: u32) -
 }
 
 // Posts a block.
-fn put<R: Wait>(rt: &R, station: &Station, task: &mut Task, ecb: u32, code: u32)
+fn put<R: Wait>(station: &Station, rt: &R, task: &mut Task, ecb: u32, code: u32)
     requires block { ecb < 8 }
     requires code { code < code_limit }
     requires ready { CanHandOver station.now task.old.number task.old }
@@ -70,7 +70,7 @@ fn put<R: Wait>(rt: &R, station: &Station, task: &mut Task, ecb: u32, code: u32)
 }
 
 // Puts each item into the next slot, once that is free.
-fn produce<R: Wait + Clock>(rt: &R, station: &Station, task: &mut Task, items: &[u32])
+fn produce<R: Wait + Clock>(station: &Station, rt: &R, task: &mut Task, items: &[u32])
     requires new { IsNew station.now 0 task.old }
     requires codes { AllByRecursion (λ x. x < code_limit) items.now }
     requires left { 4 * length items.now ≤ task.old.left }
@@ -78,15 +78,15 @@ fn produce<R: Wait + Clock>(rt: &R, station: &Station, task: &mut Task, items: &
 {
     for i in 0..items.len() {
         let slot = (i % SLOTS) as u32;
-        take(rt, station, task, SLOTS as u32 + slot);
-        put(rt, station, task, slot, items[i]);
+        take(station, rt, task, SLOTS as u32 + slot);
+        put(station, rt, task, slot, items[i]);
     }
 }
 
 // Posts that each slot is free; then takes `count` items, each from the next slot, and frees that slot again.
 fn consume<R: Wait + Clock>(
-    rt: &R,
     station: &Station,
+    rt: &R,
     task: &mut Task,
     count: usize,
     taken: &mut Vec<u32>,
@@ -98,12 +98,12 @@ fn consume<R: Wait + Clock>(
     ensures took { HasTaken station.now taken.new.items task.new }
 {
     for slot in 0..SLOTS as u32 {
-        put(rt, station, task, SLOTS as u32 + slot, FREE);
+        put(station, rt, task, SLOTS as u32 + slot, FREE);
     }
     for i in 0..count {
         let slot = (i % SLOTS) as u32;
-        taken.push_reserved(take(rt, station, task, slot));
-        put(rt, station, task, SLOTS as u32 + slot, FREE);
+        taken.push_reserved(take(station, rt, task, slot));
+        put(station, rt, task, SLOTS as u32 + slot, FREE);
     }
 }
 
@@ -122,15 +122,15 @@ impl Work for Handing<'_> {
 
     fn work<R: Wait + Clock>(
         &self,
-        rt: &R,
         station: &Station,
+        rt: &R,
         task: &mut Task,
         taken: &mut Vec<u32>,
     ) {
         if task.number() == PRODUCER {
-            produce(rt, station, task, self.items);
+            produce(station, rt, task, self.items);
         } else {
-            consume(rt, station, task, self.items.len(), taken);
+            consume(station, rt, task, self.items.len(), taken);
         }
     }
 }

@@ -70,7 +70,7 @@ fn configuration(alloc: Global, tries: u32) -> Result<ValidConfig, NoMemory>
 // ---- permits
 
 // Obtains the latch exclusively. It is refused only if the request is purged, and that no task purges is known only after the run.
-fn take_latch<R: Wait + Clock>(rt: &R, station: &Station, task: &mut Task) -> Option<LatchToken>
+fn take_latch<R: Wait + Clock>(station: &Station, rt: &R, task: &mut Task) -> Option<LatchToken>
     requires ready { IsPooled station.now task.old }
     requires bare { held task.old.log ≡ [] }
     requires left { 2 ≤ task.old.left }
@@ -96,7 +96,7 @@ fn take_latch<R: Wait + Clock>(rt: &R, station: &Station, task: &mut Task) -> Op
 }
 
 // Releases it.
-fn put_latch<R: Wait>(rt: &R, station: &Station, task: &mut Task, token: LatchToken)
+fn put_latch<R: Wait>(station: &Station, rt: &R, task: &mut Task, token: LatchToken)
     requires token { token.latch ≡ 0 }
     requires has { held task.old.log ≡ (0, token.id) ∷ [] }
     requires ready { IsPooled station.now task.old }
@@ -112,7 +112,7 @@ fn put_latch<R: Wait>(rt: &R, station: &Station, task: &mut Task, token: LatchTo
 }
 
 // Counts one permit more, if one is free.
-fn count_up<R: Wait>(rt: &R, station: &Station, task: &mut Task) -> bool
+fn count_up<R: Wait>(station: &Station, rt: &R, task: &mut Task) -> bool
     requires holds { HoldsLatch 0 Exclusive task.old.number task.old.log }
     requires none { has_permit task.old.log ≡ false }
     requires ready { IsPooled station.now task.old }
@@ -133,7 +133,7 @@ fn count_up<R: Wait>(rt: &R, station: &Station, task: &mut Task) -> bool
 }
 
 // Counts one permit less. That one is out is known only after the run.
-fn count_down<R: Wait>(rt: &R, station: &Station, task: &mut Task) -> bool
+fn count_down<R: Wait>(station: &Station, rt: &R, task: &mut Task) -> bool
     requires holds { HoldsLatch 0 Exclusive task.old.number task.old.log }
     requires has { has_permit task.old.log ≡ true }
     requires ready { IsPooled station.now task.old }
@@ -154,7 +154,7 @@ fn count_down<R: Wait>(rt: &R, station: &Station, task: &mut Task) -> bool
 }
 
 // Takes a permit, if one is free.
-fn take_permit<R: Wait + Clock>(rt: &R, station: &Station, task: &mut Task) -> bool
+fn take_permit<R: Wait + Clock>(station: &Station, rt: &R, task: &mut Task) -> bool
     requires none { has_permit task.old.log ≡ false }
     requires ready { IsPooled station.now task.old }
     requires bare { held task.old.log ≡ [] }
@@ -166,16 +166,16 @@ fn take_permit<R: Wait + Clock>(rt: &R, station: &Station, task: &mut Task) -> b
     ensures ready { IsPooled station.now task.new }
     ensures number { task.new.number ≡ task.old.number }
 {
-    let Some(token) = take_latch(rt, station, task) else {
+    let Some(token) = take_latch(station, rt, task) else {
         return false;
     };
-    let got = count_up(rt, station, task);
-    put_latch(rt, station, task, token);
+    let got = count_up(station, rt, task);
+    put_latch(station, rt, task, token);
     got
 }
 
 // Gives the permit back. Returns whether that was done.
-fn give_permit<R: Wait + Clock>(rt: &R, station: &Station, task: &mut Task) -> bool
+fn give_permit<R: Wait + Clock>(station: &Station, rt: &R, task: &mut Task) -> bool
     requires has { has_permit task.old.log ≡ true }
     requires ready { IsPooled station.now task.old }
     requires bare { held task.old.log ≡ [] }
@@ -187,18 +187,18 @@ fn give_permit<R: Wait + Clock>(rt: &R, station: &Station, task: &mut Task) -> b
     ensures ready { IsPooled station.now task.new }
     ensures number { task.new.number ≡ task.old.number }
 {
-    let Some(token) = take_latch(rt, station, task) else {
+    let Some(token) = take_latch(station, rt, task) else {
         return false;
     };
-    let gave = count_down(rt, station, task);
-    put_latch(rt, station, task, token);
+    let gave = count_down(station, rt, task);
+    put_latch(station, rt, task, token);
     gave
 }
 
 // ---- calls
 
 // Posts a block.
-fn tell<R: Wait>(rt: &R, station: &Station, task: &mut Task, block: u32, code: u32)
+fn tell<R: Wait>(station: &Station, rt: &R, task: &mut Task, block: u32, code: u32)
     requires block { block < 6 }
     requires code { code < 3 }
     requires ready { IsPooled station.now task.old }
@@ -214,7 +214,7 @@ fn tell<R: Wait>(rt: &R, station: &Station, task: &mut Task, block: u32, code: u
 }
 
 // Waits until the manager lets this worker go on.
-fn await_go<R: Wait + Clock>(rt: &R, station: &Station, task: &mut Task)
+fn await_go<R: Wait + Clock>(station: &Station, rt: &R, task: &mut Task)
     requires worker { task.old.number < 3 }
     requires ready { IsPooled station.now task.old }
     requires bare { held task.old.log ≡ [] }
@@ -232,7 +232,7 @@ fn await_go<R: Wait + Clock>(rt: &R, station: &Station, task: &mut Task)
 }
 
 // Calls the manager, and waits for its answer.
-fn call<R: Wait + Clock>(rt: &R, station: &Station, task: &mut Task, code: u32)
+fn call<R: Wait + Clock>(station: &Station, rt: &R, task: &mut Task, code: u32)
     requires worker { task.old.number < 3 }
     requires code { code < 3 }
     requires ready { IsPooled station.now task.old }
@@ -246,14 +246,14 @@ fn call<R: Wait + Clock>(rt: &R, station: &Station, task: &mut Task, code: u32)
     ensures number { task.new.number ≡ task.old.number }
 {
     let worker = task.number();
-    tell(rt, station, task, worker, code);
-    await_go(rt, station, task);
+    tell(station, rt, task, worker, code);
+    await_go(station, rt, task);
 }
 
 // ---- a worker
 
 // Tries once to work a shift, and waits if no permit is free. Returns whether it worked, or nothing if the permit was not given back.
-fn try_shift<R: Wait + Clock>(rt: &R, station: &Station, task: &mut Task) -> Option<bool>
+fn try_shift<R: Wait + Clock>(station: &Station, rt: &R, task: &mut Task) -> Option<bool>
     requires worker { task.old.number < 3 }
     requires none { has_permit task.old.log ≡ false }
     requires ready { IsPooled station.now task.old }
@@ -267,22 +267,22 @@ fn try_shift<R: Wait + Clock>(rt: &R, station: &Station, task: &mut Task) -> Opt
     ensures ready { IsPooled station.now task.new }
     ensures number { task.new.number ≡ task.old.number }
 {
-    if !take_permit(rt, station, task) {
-        call(rt, station, task, WANTS);
+    if !take_permit(station, rt, task) {
+        call(station, rt, task, WANTS);
         return Some(false);
     }
     // Here the worker works.
-    if !give_permit(rt, station, task) {
+    if !give_permit(station, rt, task) {
         return None;
     }
-    call(rt, station, task, GAVE);
+    call(station, rt, task, GAVE);
     Some(true)
 }
 
 // Works `shifts` shifts by at most `tries` tries. Returns how many it worked.
 fn work_shifts<R: Wait + Clock>(
-    rt: &R,
     station: &Station,
+    rt: &R,
     task: &mut Task,
     shifts: u32,
     tries: u32,
@@ -301,17 +301,17 @@ fn work_shifts<R: Wait + Clock>(
     let mut worked = 0;
     for tried in 0..tries {
         if worked < shifts {
-            match try_shift(rt, station, task) {
+            match try_shift(station, rt, task) {
                 Some(true) => worked += 1,
                 Some(false) => {}
                 None => {
-                    tell(rt, station, task, worker, LEAVES);
+                    tell(station, rt, task, worker, LEAVES);
                     return worked;
                 }
             }
         }
     }
-    tell(rt, station, task, worker, LEAVES);
+    tell(station, rt, task, worker, LEAVES);
     worked
 }
 
@@ -330,7 +330,7 @@ fn first_call(found: &[WaitSlot; WORKERS as usize]) -> Option<(u32, u32)>
 }
 
 // Waits for the next call, and takes it.
-fn next_call<R: Wait + Clock>(rt: &R, station: &Station, task: &mut Task) -> Option<(u32, u32)>
+fn next_call<R: Wait + Clock>(station: &Station, rt: &R, task: &mut Task) -> Option<(u32, u32)>
     requires ready { IsPooled station.now task.old }
     requires bare { held task.old.log ≡ [] }
     requires left { 7 ≤ task.old.left }
@@ -351,7 +351,7 @@ fn next_call<R: Wait + Clock>(rt: &R, station: &Station, task: &mut Task) -> Opt
 }
 
 // Lets a worker go on.
-fn let_go<R: Wait>(rt: &R, station: &Station, task: &mut Task, worker: u32)
+fn let_go<R: Wait>(station: &Station, rt: &R, task: &mut Task, worker: u32)
     requires worker { worker < 3 }
     requires ready { IsPooled station.now task.old }
     requires left { 1 ≤ task.old.left }
@@ -360,7 +360,7 @@ fn let_go<R: Wait>(rt: &R, station: &Station, task: &mut Task, worker: u32)
     ensures ready { IsPooled station.now task.new }
     ensures number { task.new.number ≡ task.old.number }
 {
-    tell(rt, station, task, WORKERS + worker, 0);
+    tell(station, rt, task, WORKERS + worker, 0);
 }
 
 // Takes the first worker that waits for a permit off the list of those that do.
@@ -378,8 +378,8 @@ fn first_waiting(waiting: &mut [bool; WORKERS as usize]) -> Option<u32>
 
 // Answers a call that a permit was given back: its worker goes on, and so does one that waits for a permit.
 fn answer_gave<R: Wait>(
-    rt: &R,
     station: &Station,
+    rt: &R,
     task: &mut Task,
     waiting: &mut [bool; WORKERS as usize],
     worker: u32,
@@ -392,16 +392,16 @@ fn answer_gave<R: Wait>(
     ensures ready { IsPooled station.now task.new }
     ensures number { task.new.number ≡ task.old.number }
 {
-    let_go(rt, station, task, worker);
+    let_go(station, rt, task, worker);
     if let Some(next) = first_waiting(waiting) {
-        let_go(rt, station, task, next);
+        let_go(station, rt, task, next);
     }
 }
 
 // Answers a call for a permit: the worker tries again if one is free by now; otherwise it waits until one is given back.
 fn answer_wants<R: Wait>(
-    rt: &R,
     station: &Station,
+    rt: &R,
     task: &mut Task,
     waiting: &mut [bool; WORKERS as usize],
     worker: u32,
@@ -415,7 +415,7 @@ fn answer_wants<R: Wait>(
     ensures number { task.new.number ≡ task.old.number }
 {
     if is_free(station, task) {
-        let_go(rt, station, task, worker);
+        let_go(station, rt, task, worker);
     } else {
         waiting[worker as usize] = true;
     }
@@ -434,7 +434,7 @@ fn is_free(station: &Station, task: &mut Task) -> bool
 }
 
 // Answers calls, this many at most, until all workers have left.
-fn manage<R: Wait + Clock>(rt: &R, station: &Station, task: &mut Task, calls: u32)
+fn manage<R: Wait + Clock>(station: &Station, rt: &R, task: &mut Task, calls: u32)
     requires ready { IsPooled station.now task.old }
     requires bare { held task.old.log ≡ [] }
     requires left { 9 * calls ≤ task.old.left }
@@ -445,12 +445,12 @@ fn manage<R: Wait + Clock>(rt: &R, station: &Station, task: &mut Task, calls: u3
     let mut waiting = [false; WORKERS as usize];
     let mut staying = WORKERS;
     for made in 0..calls {
-        let Some((worker, code)) = next_call(rt, station, task) else {
+        let Some((worker, code)) = next_call(station, rt, task) else {
             return;
         };
         match code {
-            WANTS => answer_wants(rt, station, task, &mut waiting, worker),
-            GAVE => answer_gave(rt, station, task, &mut waiting, worker),
+            WANTS => answer_wants(station, rt, task, &mut waiting, worker),
+            GAVE => answer_gave(station, rt, task, &mut waiting, worker),
             _ => staying = staying.saturating_sub(1),
         }
         if staying == 0 {
@@ -476,11 +476,11 @@ impl Work for Pool {
     ghost has_done = { λ p b k old t new. HasDone k t.log new };
 
     #[tactic(auto, using(mv_ordered::proofs::Calls::new_keeps_discipline))]
-    fn work<R: Wait + Clock>(&self, rt: &R, station: &Station, task: &mut Task, shifts: &mut u32) {
+    fn work<R: Wait + Clock>(&self, station: &Station, rt: &R, task: &mut Task, shifts: &mut u32) {
         if task.number() < WORKERS {
-            *shifts = work_shifts(rt, station, task, self.shifts, self.tries);
+            *shifts = work_shifts(station, rt, task, self.shifts, self.tries);
         } else {
-            manage(rt, station, task, 3 * self.tries + 3);
+            manage(station, rt, task, 3 * self.tries + 3);
         }
     }
 }

@@ -24,12 +24,12 @@
 //!
 //! ```
 //! let mut call = a_wait(rt, rt.alloc(), station, waiter, 2, &[0, 1, 2]);
-//! post(rt, station, poster, 0, 5);
-//! assert!(rt; !is_over(rt, station, waiter, &mut call));
+//! post(station, rt, poster, 0, 5);
+//! assert!(rt; !is_over(station, rt, waiter, &mut call));
 //! assert!(rt; call.keys() == [1, 2].as_slice());
 //! assert!(rt; call.slots().is_empty() && waiter.log().len() == 3);
-//! post(rt, station, poster, 2, 7);
-//! assert!(rt; is_over(rt, station, waiter, &mut call));
+//! post(station, rt, poster, 2, 7);
+//! assert!(rt; is_over(station, rt, waiter, &mut call));
 //! let found = [WaitSlot::Complete(5), WaitSlot::Open, WaitSlot::Complete(7)];
 //! assert!(rt; call.slots() == found.as_slice() && call.keys().is_empty());
 //! ```
@@ -42,7 +42,7 @@
 //! let mut future = WaitFuture::new(station, rt, waiter, call, &sources);
 //! assert!(rt; task.poll(&mut future).is_pending() && !task.is_woken());
 //! assert!(rt; future.call().keys() == [0, 1].as_slice());
-//! post(rt, station, poster, 1, 5);
+//! post(station, rt, poster, 1, 5);
 //! future.ring(1);
 //! assert!(rt; task.is_woken());
 //! assert!(rt; task.poll(&mut future).is_ready());
@@ -59,7 +59,7 @@
 //!     return runner;
 //! }
 //! let from = runner.task.log().len();
-//! let runner = go_on(rt, station, runner);
+//! let runner = go_on(station, rt, runner);
 //! woken[number] = runner.task.log().len() > from;
 //! hear(woken, runner.task.log(), from);
 //! runner

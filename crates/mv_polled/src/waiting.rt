@@ -221,7 +221,7 @@ impl WaitCall {
     /// From `crates/mv_tests/src/tests/polls.rt`, a wait for two of three blocks that was polled after a post of the first:
     ///
     /// ```
-    /// assert!(rt; !is_over(rt, station, waiter, &mut call));
+    /// assert!(rt; !is_over(station, rt, waiter, &mut call));
     /// assert!(rt; call.keys() == [1, 2].as_slice());
     /// ```
     pub fn keys(&self) -> &[u64]
@@ -237,7 +237,7 @@ impl WaitCall {
     /// From `crates/mv_tests/src/tests/polls.rt`, the same wait after a post of the third block:
     ///
     /// ```
-    /// assert!(rt; is_over(rt, station, waiter, &mut call));
+    /// assert!(rt; is_over(station, rt, waiter, &mut call));
     /// let found = [WaitSlot::Complete(5), WaitSlot::Open, WaitSlot::Complete(7)];
     /// assert!(rt; call.slots() == found.as_slice() && call.keys().is_empty());
     /// ```

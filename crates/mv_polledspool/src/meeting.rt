@@ -84,8 +84,8 @@ impl Meeting {
     /// `Lost` if the call was refused or has an answer that the task does not foresee.
     pub(crate) fn poll<R: Wait>(
         &mut self,
-        rt: &R,
         station: &Station,
+        rt: &R,
         task: &mut Task,
     ) -> Result<Turn<Got>, Lost>
         requires task { IsOf station.now task.old }
@@ -97,10 +97,10 @@ impl Meeting {
             (λ r. IsMet station.now.config n t r task.new) (IsMeeting station.now.config n self.new t task.new) }
     {
         match &mut self.call {
-            Call::Wait => await_blocks(rt, station, task, &mut self.wait),
-            Call::Block => await_block(rt, station, task, &mut self.wait),
-            Call::Pause(call) => await_release(rt, station, task, call),
-            Call::Obtain(call) => await_grant(rt, station, task, call),
+            Call::Wait => await_blocks(station, rt, task, &mut self.wait),
+            Call::Block => await_block(station, rt, task, &mut self.wait),
+            Call::Pause(call) => await_release(station, rt, task, call),
+            Call::Obtain(call) => await_grant(station, rt, task, call),
             Call::Nothing => unreachable!(),
         }
     }
@@ -108,8 +108,8 @@ impl Meeting {
 
 // Polls a wait for several blocks.
 fn await_blocks<R: Wait>(
-    rt: &R,
     station: &Station,
+    rt: &R,
     task: &mut Task,
     call: &mut WaitCall,
 ) -> Result<Turn<Got>, Lost>
@@ -135,8 +135,8 @@ fn await_blocks<R: Wait>(
 
 // Polls a wait for one block.
 fn await_block<R: Wait>(
-    rt: &R,
     station: &Station,
+    rt: &R,
     task: &mut Task,
     call: &mut WaitCall,
 ) -> Result<Turn<Got>, Lost>
@@ -161,8 +161,8 @@ fn await_block<R: Wait>(
 
 // Polls a pause.
 fn await_release<R: Wait>(
-    rt: &R,
     station: &Station,
+    rt: &R,
     task: &mut Task,
     call: &mut PauseCall,
 ) -> Result<Turn<Got>, Lost>
@@ -180,8 +180,8 @@ fn await_release<R: Wait>(
 
 // Polls an obtain.
 fn await_grant<R: Wait>(
-    rt: &R,
     station: &Station,
+    rt: &R,
     task: &mut Task,
     call: &mut ObtainCall,
 ) -> Result<Turn<Got>, Lost>

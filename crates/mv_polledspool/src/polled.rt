@@ -113,7 +113,7 @@ impl Polled {
         ensures polled { (k : ℕ) → k < spool.now.initiators + 3 → IsPolled spool.now k self.old
             → IsPolled spool.now k self.new }
     {
-        match self.meeting.poll(rt, spool.station(), &mut self.task) {
+        match self.meeting.poll(spool.station(), rt, &mut self.task) {
             Ok(Turn::Pending) => false,
             Ok(Turn::Ready(got)) => {
                 let next = self.work.go_on(rt, spool, &mut self.task, got);

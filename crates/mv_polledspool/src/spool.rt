@@ -157,8 +157,8 @@ fn poll_all<R: Wait, O: Order>(
 
 // Polls the tasks of a station until all are finished, and closes the station.
 fn run_all<R: Wait, O: Order>(
-    rt: &R,
     station: Station,
+    rt: &R,
     deck: &Deck,
     initiators: u32,
     order: &mut O,
@@ -199,7 +199,7 @@ fn run_tasks<R: Wait, O: Order>(
     let room = room_for(alloc, initiators as usize + 3)?;
     let (station, tasks) = Station::open(alloc, config)?;
     let polled = all_polled(alloc, tasks, deck, initiators)?;
-    Ok(run_all(rt, station, deck, initiators, order, polled, room))
+    Ok(run_all(station, rt, deck, initiators, order, polled, room))
 }
 
 /// Runs a deck by a reader, a scheduler, `initiators` initiators and a writer on this one thread, and returns the results.

@@ -47,8 +47,8 @@ pub(crate) fn poll_wait<R: Wait>(
 
 /// Polls a pause, and returns the answer of its PAUSE once it has one.
 pub(crate) fn poll_pause<R: Wait>(
-    rt: &R,
     station: &Station,
+    rt: &R,
     task: &mut Task,
     call: &mut PauseCall,
 ) -> Option<Answer>

@@ -149,7 +149,7 @@ impl ScriptTask {
                 self.end_call(answer)
             }
             Stage::Pauses(call) => {
-                let Some(answer) = poll_pause(rt, station, &mut self.task, call) else {
+                let Some(answer) = poll_pause(station, rt, &mut self.task, call) else {
                     return Ok(false);
                 };
                 self.end_call(answer)
@@ -235,8 +235,8 @@ impl ScriptTask {
         self.requests.reserve(1)?;
         let mut rooms = Vec::new(alloc);
         let answer = make_call(
-            rt,
             station,
+            rt,
             &mut self.task,
             table,
             call,

@@ -72,7 +72,7 @@ fn configuration(alloc: Global, tries: u32) -> Result<ValidConfig, NoMemory>
 // ---- the latch
 
 // Obtains the latch exclusively. It is refused only if the request is purged, and that no task purges is known only after the run.
-fn take_latch<R: Wait + Clock>(rt: &R, station: &Station, task: &mut Task) -> Option<LatchToken>
+fn take_latch<R: Wait + Clock>(station: &Station, rt: &R, task: &mut Task) -> Option<LatchToken>
     requires ready { IsReady station.now task.old }
     requires bare { held task.old.log ≡ [] }
     requires left { 2 ≤ task.old.left }
@@ -92,7 +92,7 @@ fn take_latch<R: Wait + Clock>(rt: &R, station: &Station, task: &mut Task) -> Op
 }
 
 // Releases it.
-fn put_latch<R: Wait>(rt: &R, station: &Station, task: &mut Task, token: LatchToken)
+fn put_latch<R: Wait>(station: &Station, rt: &R, task: &mut Task, token: LatchToken)
     requires token { token.latch ≡ 0 }
     requires has { held task.old.log ≡ (0, token.id) ∷ [] }
     requires ready { IsReady station.now task.old }
@@ -118,7 +118,7 @@ fn look(station: &Station, task: &mut Task) -> (u32, u32)
 }
 
 // Puts an item in, behind those that are there: writes it into its slot, and counts it.
-fn put_in<R: Wait>(rt: &R, station: &Station, task: &mut Task, taken: u32, put: u32, item: u32)
+fn put_in<R: Wait>(station: &Station, rt: &R, task: &mut Task, taken: u32, put: u32, item: u32)
     requires seen { HasSeen task.old.number taken put task.old.log }
     requires free { put < taken + room }
     requires fits { put + 1 < 2 ^ 32 }
@@ -131,7 +131,7 @@ fn put_in<R: Wait>(rt: &R, station: &Station, task: &mut Task, taken: u32, put: 
 }
 
 // Takes the first item out: reads it, and counts it.
-fn take_out<R: Wait>(rt: &R, station: &Station, task: &mut Task, taken: u32, put: u32) -> u32
+fn take_out<R: Wait>(station: &Station, rt: &R, task: &mut Task, taken: u32, put: u32) -> u32
     requires seen { HasSeen task.old.number taken put task.old.log }
     requires some { taken < put }
     requires ready { IsReady station.now task.old }
@@ -144,51 +144,51 @@ fn take_out<R: Wait>(rt: &R, station: &Station, task: &mut Task, taken: u32, put
 }
 
 // Puts an item in, if there is room. Returns whether there was.
-fn put_item<R: Wait + Clock>(rt: &R, station: &Station, task: &mut Task, item: u32) -> bool
+fn put_item<R: Wait + Clock>(station: &Station, rt: &R, task: &mut Task, item: u32) -> bool
     requires ready { IsReady station.now task.old }
     requires bare { held task.old.log ≡ [] }
     requires left { 7 ≤ task.old.left }
     ensures { Did station.now 7 (if result then item ∷ [] else []) [] [] task.old task.new }
 {
-    let Some(token) = take_latch(rt, station, task) else {
+    let Some(token) = take_latch(station, rt, task) else {
         return false;
     };
     let (taken, put) = look(station, task);
     let limit = taken.saturating_add(ROOM);
     if put >= limit {
-        put_latch(rt, station, task, token);
+        put_latch(station, rt, task, token);
         return false;
     }
-    put_in(rt, station, task, taken, put, item);
-    put_latch(rt, station, task, token);
+    put_in(station, rt, task, taken, put, item);
+    put_latch(station, rt, task, token);
     true
 }
 
 // Takes an item out, if there is one.
-fn take_item<R: Wait + Clock>(rt: &R, station: &Station, task: &mut Task) -> Option<u32>
+fn take_item<R: Wait + Clock>(station: &Station, rt: &R, task: &mut Task) -> Option<u32>
     requires ready { IsReady station.now task.old }
     requires bare { held task.old.log ≡ [] }
     requires left { 7 ≤ task.old.left }
     ensures { MatchOption result (Did station.now 7 [] [] [] task.old task.new)
         (λ item. Did station.now 7 [] (item ∷ []) [] task.old task.new) }
 {
-    let Some(token) = take_latch(rt, station, task) else {
+    let Some(token) = take_latch(station, rt, task) else {
         return None;
     };
     let (taken, put) = look(station, task);
     if taken >= put {
-        put_latch(rt, station, task, token);
+        put_latch(station, rt, task, token);
         return None;
     }
-    let item = take_out(rt, station, task, taken, put);
-    put_latch(rt, station, task, token);
+    let item = take_out(station, rt, task, taken, put);
+    put_latch(station, rt, task, token);
     Some(item)
 }
 
 // ---- news
 
 // Tells two tasks that the queue has changed.
-fn tell<R: Wait>(rt: &R, station: &Station, task: &mut Task, first: u32)
+fn tell<R: Wait>(station: &Station, rt: &R, task: &mut Task, first: u32)
     requires first { first < 3 }
     requires ready { IsReady station.now task.old }
     requires left { 2 ≤ task.old.left }
@@ -200,7 +200,7 @@ fn tell<R: Wait>(rt: &R, station: &Station, task: &mut Task, first: u32)
 
 // Waits until the queue has changed since the task last waited. A change after that is not lost: it completes the block again, and the task
 // looks at the queue only after it has cleared the block.
-fn await_news<R: Wait + Clock>(rt: &R, station: &Station, task: &mut Task)
+fn await_news<R: Wait + Clock>(station: &Station, rt: &R, task: &mut Task)
     requires number { task.old.number < 4 }
     requires ready { IsReady station.now task.old }
     requires bare { held task.old.log ≡ [] }
@@ -216,8 +216,8 @@ fn await_news<R: Wait + Clock>(rt: &R, station: &Station, task: &mut Task)
 
 // Tries to put the first of these items in, and waits if there is no room. Returns the items that are still to be put in.
 fn put_next<'a, R: Wait + Clock>(
-    rt: &R,
     station: &Station,
+    rt: &R,
     task: &mut Task,
     items: &'a [u32],
 ) -> &'a [u32]
@@ -235,16 +235,16 @@ fn put_next<'a, R: Wait + Clock>(
     let Some((item, later)) = items.split_first() else {
         return items;
     };
-    if put_item(rt, station, task, *item) {
-        tell(rt, station, task, FIRST_CONSUMER);
+    if put_item(station, rt, task, *item) {
+        tell(station, rt, task, FIRST_CONSUMER);
         return later;
     }
-    await_news(rt, station, task);
+    await_news(station, rt, task);
     items
 }
 
 // A producer: puts these items in, in order, by at most `tries` tries.
-fn put_all<R: Wait + Clock>(rt: &R, station: &Station, task: &mut Task, items: &[u32], tries: u32)
+fn put_all<R: Wait + Clock>(station: &Station, rt: &R, task: &mut Task, items: &[u32], tries: u32)
     requires number { task.old.number < 4 }
     requires none { went_in task.old.log ≡ [] }
     requires ready { IsReady station.now task.old }
@@ -258,12 +258,12 @@ fn put_all<R: Wait + Clock>(rt: &R, station: &Station, task: &mut Task, items: &
 {
     let mut rest = items;
     for tried in 0..tries {
-        rest = put_next(rt, station, task, rest);
+        rest = put_next(station, rt, task, rest);
     }
 }
 
 // Tries to take an item out, and waits if there is none.
-fn take_next<R: Wait + Clock>(rt: &R, station: &Station, task: &mut Task, got: &mut Vec<u32>)
+fn take_next<R: Wait + Clock>(station: &Station, rt: &R, task: &mut Task, got: &mut Vec<u32>)
     requires number { task.old.number < 4 }
     requires space { length got.old.items < vec_capacity got.old }
     requires ready { IsReady station.now task.old }
@@ -278,18 +278,18 @@ fn take_next<R: Wait + Clock>(rt: &R, station: &Station, task: &mut Task, got: &
     ensures left { task.old.left ≤ task.new.left + 10 }
     ensures number { task.new.number ≡ task.old.number }
 {
-    let Some(item) = take_item(rt, station, task) else {
-        await_news(rt, station, task);
+    let Some(item) = take_item(station, rt, task) else {
+        await_news(station, rt, task);
         return;
     };
-    tell(rt, station, task, FIRST_PRODUCER);
+    tell(station, rt, task, FIRST_PRODUCER);
     got.push_reserved(item);
 }
 
 // A consumer: takes `wanted` items out, by at most `tries` tries.
 fn take_all<R: Wait + Clock>(
-    rt: &R,
     station: &Station,
+    rt: &R,
     task: &mut Task,
     wanted: u32,
     tries: u32,
@@ -311,7 +311,7 @@ fn take_all<R: Wait + Clock>(
         if got.len() >= wanted as usize {
             return;
         }
-        take_next(rt, station, task, got);
+        take_next(station, rt, task, got);
     }
 }
 
@@ -333,15 +333,15 @@ impl Work for Passing<'_> {
 
     fn work<R: Wait + Clock>(
         &self,
-        rt: &R,
         station: &Station,
+        rt: &R,
         task: &mut Task,
         got: &mut Vec<u32>,
     ) {
         match task.number() {
-            0 => put_all(rt, station, task, self.first, self.tries),
-            1 => put_all(rt, station, task, self.second, self.tries),
-            _ => take_all(rt, station, task, self.wanted, self.tries, got),
+            0 => put_all(station, rt, task, self.first, self.tries),
+            1 => put_all(station, rt, task, self.second, self.tries),
+            _ => take_all(station, rt, task, self.wanted, self.tries, got),
         }
     }
 }

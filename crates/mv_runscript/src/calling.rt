@@ -33,8 +33,8 @@ pub fn request_in(outcome: Result<Obtained, ObtainRefusal>) -> Option<LatchToken
 /// A WAIT takes one of the rooms. An OBTAIN appends the request that it got, or `None`, to `requests`. The call parks and wakes
 /// as its service does, and takes no memory.
 pub fn make_call<R: Wait + Clock>(
-    rt: &R,
     station: &Station,
+    rt: &R,
     task: &mut Task,
     table: &Option<ValidTable>,
     call: &Call,
@@ -62,7 +62,7 @@ pub fn make_call<R: Wait + Clock>(
             let Some(room) = rooms.pop() else {
                 unreachable!()
             };
-            wait_in(rt, station, task, *count, &ecbs.numbers, room)
+            wait_in(station, rt, task, *count, &ecbs.numbers, room)
         }
         Call::Obtain {
             latch,
@@ -74,6 +74,6 @@ pub fn make_call<R: Wait + Clock>(
             requests.push_reserved(request_in(outcome));
             obtained(outcome)
         }
-        _ => serve(rt, station, task, table, call, requests),
+        _ => serve(station, rt, task, table, call, requests),
     }
 }

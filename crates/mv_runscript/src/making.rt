@@ -31,16 +31,16 @@ impl Work for Making<'_> {
 
     ghost has_done = { λ m b k old t new. HasMade b m.table.now (slice_index_or m.tasks.now k []) k new t };
 
-    fn work<R: Wait + Clock>(&self, rt: &R, station: &Station, task: &mut Task, room: &mut Room) {
+    fn work<R: Wait + Clock>(&self, station: &Station, rt: &R, task: &mut Task, room: &mut Room) {
         let list = &self.tasks[task.number() as usize];
-        make_all(rt, station, task, self.table, &list.calls, room);
+        make_all(station, rt, task, self.table, &list.calls, room);
     }
 }
 
 // Makes these calls in order, and keeps the answer of each.
 fn make_all<R: Wait + Clock>(
-    rt: &R,
     station: &Station,
+    rt: &R,
     task: &mut Task,
     table: &Option<ValidTable>,
     calls: &[Call],
@@ -55,8 +55,8 @@ fn make_all<R: Wait + Clock>(
 {
     for call in calls {
         let answer = make_call(
-            rt,
             station,
+            rt,
             task,
             table,
             call,

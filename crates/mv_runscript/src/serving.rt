@@ -27,8 +27,8 @@ use std::time::Clock;
 
 /// Makes a WAIT, with room for what it finds, and returns its answer.
 pub(crate) fn wait_in<R: Wait + Clock>(
-    rt: &R,
     station: &Station,
+    rt: &R,
     task: &mut Task,
     count: u32,
     ecbs: &[u32],
@@ -47,8 +47,8 @@ pub(crate) fn wait_in<R: Wait + Clock>(
 
 /// Makes a call other than WAIT and OBTAIN, of a task whose OBTAINs got these requests, and returns its answer.
 pub(crate) fn serve<R: Wait + Clock>(
-    rt: &R,
     station: &Station,
+    rt: &R,
     task: &mut Task,
     table: &Option<ValidTable>,
     call: &Call,
@@ -88,26 +88,26 @@ pub(crate) fn serve<R: Wait + Clock>(
         } => transferred(transfer(station, rt, task, *current, *target, *code)),
         Call::Dealloc(token) => deallocated(deallocate(station, rt, task, *token)),
         Call::TestElement(element) => Answer::State(test_element(station, task, *element)),
-        Call::Check(obtain) => check(rt, station, task, requests, *obtain),
+        Call::Check(obtain) => check(station, rt, task, requests, *obtain),
         Call::Free {
             obtain,
             conditional,
-        } => free(rt, station, task, requests, *obtain, *conditional),
+        } => free(station, rt, task, requests, *obtain, *conditional),
         Call::Purge(requestor) => purged(purge(station, rt, task, *requestor)),
         Call::EndTask {
             requestor,
             mother,
             code,
         } => purged(end_of_task(station, rt, task, *requestor, *mother, *code)),
-        Call::PostEvent { index, code } => event_posted(rt, station, task, table, *index, *code),
-        Call::NextEvent(position) => event_taken(rt, station, task, table, *position),
+        Call::PostEvent { index, code } => event_posted(station, rt, task, table, *index, *code),
+        Call::NextEvent(position) => event_taken(station, rt, task, table, *position),
     }
 }
 
 /// Makes an EVPOST of an event of the script's table.
 fn event_posted<R: Wait + Clock>(
-    rt: &R,
     station: &Station,
+    rt: &R,
     task: &mut Task,
     table: &Option<ValidTable>,
     index: u32,
@@ -127,8 +127,8 @@ fn event_posted<R: Wait + Clock>(
 
 /// Makes an EVNEXT of a position of the script's table.
 fn event_taken<R: Wait + Clock>(
-    rt: &R,
     station: &Station,
+    rt: &R,
     task: &mut Task,
     table: &Option<ValidTable>,
     position: u32,
@@ -146,8 +146,8 @@ fn event_taken<R: Wait + Clock>(
 
 /// Makes a CHECK of the request that this OBTAIN of the task got, if it got one.
 fn check<R: Wait>(
-    rt: &R,
     station: &Station,
+    rt: &R,
     task: &mut Task,
     requests: &[Option<LatchToken>],
     obtain: u32,
@@ -167,8 +167,8 @@ fn check<R: Wait>(
 
 /// Makes a FREE of the request that this OBTAIN of the task got, if it got one.
 fn free<R: Wait>(
-    rt: &R,
     station: &Station,
+    rt: &R,
     task: &mut Task,
     requests: &[Option<LatchToken>],
     obtain: u32,

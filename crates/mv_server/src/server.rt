@@ -62,7 +62,7 @@ fn pool_config(alloc: Global, requests: u32) -> Result<ValidConfig, NoMemory>
 
 // The work of a worker: it posts that it is idle, with the generation of its next pause, pauses, and answers the request that it
 // is given, until it is given the stop.
-fn work<R: Wait + Clock>(rt: &R, station: &Station, task: &mut Task, requests: &[u32])
+fn work<R: Wait + Clock>(station: &Station, rt: &R, task: &mut Task, requests: &[u32])
     requires ready { CanServe station.now requests.now task.old }
     requires new { task.old.log ≡ [] }
     requires number { task.old.number < workers }
@@ -93,8 +93,8 @@ fn work<R: Wait + Clock>(rt: &R, station: &Station, task: &mut Task, requests: &
 
 // Waits until a worker is idle, and hands this code to the first worker that accepts it.
 fn hand_out<R: Wait + Clock>(
-    rt: &R,
     station: &Station,
+    rt: &R,
     task: &mut Task,
     requests: &[u32],
     code: u32,
@@ -131,8 +131,8 @@ fn hand_out<R: Wait + Clock>(
 
 // Waits for the block of a request, and returns the code with which it was posted.
 fn await_answer<R: Wait + Clock>(
-    rt: &R,
     station: &Station,
+    rt: &R,
     task: &mut Task,
     requests: &[u32],
     block: u32,
@@ -149,8 +149,8 @@ fn await_answer<R: Wait + Clock>(
 
 // The work of the server: it hands out each request, stops each worker, and waits for each answer, in order.
 fn serve<R: Wait + Clock>(
-    rt: &R,
     station: &Station,
+    rt: &R,
     task: &mut Task,
     requests: &[u32],
     answers: &mut Vec<u32>,
@@ -162,13 +162,13 @@ fn serve<R: Wait + Clock>(
 {
     let count = requests.len() as u32;
     for request in 0..count {
-        hand_out(rt, station, task, requests, request + 1);
+        hand_out(station, rt, task, requests, request + 1);
     }
     for worker in 0..WORKERS {
-        hand_out(rt, station, task, requests, STOP);
+        hand_out(station, rt, task, requests, STOP);
     }
     for r in 0..count {
-        let answer = await_answer(rt, station, task, requests, WORKERS + r);
+        let answer = await_answer(station, rt, task, requests, WORKERS + r);
         answers.push_reserved(answer);
     }
 }
@@ -189,15 +189,15 @@ impl Work for Pool<'_> {
 
     fn work<R: Wait + Clock>(
         &self,
-        rt: &R,
         station: &Station,
+        rt: &R,
         task: &mut Task,
         answers: &mut Vec<u32>,
     ) {
         if task.number() == WORKERS {
-            serve(rt, station, task, self.requests, answers);
+            serve(station, rt, task, self.requests, answers);
         } else {
-            work(rt, station, task, self.requests);
+            work(station, rt, task, self.requests);
         }
     }
 }

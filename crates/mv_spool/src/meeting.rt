@@ -18,8 +18,8 @@ use std::time::Clock;
 ///
 /// `Lost` if the call was refused or had a reply that the task does not foresee.
 pub(crate) fn meet<R: Wait + Clock>(
-    rt: &R,
     station: &Station,
+    rt: &R,
     task: &mut Task,
     need: Need,
 ) -> Result<Got, Lost>

@@ -31,8 +31,8 @@ impl<G: Gate + Sync> Work for SpoolTasks<'_, G> {
 
     fn work<R: Wait + Clock>(
         &self,
-        rt: &R,
         station: &Station,
+        rt: &R,
         task: &mut Task,
         room: &mut SpoolWork,
     ) {
@@ -46,7 +46,7 @@ impl<G: Gate + Sync> Work for SpoolTasks<'_, G> {
             let Some(need) = needed else {
                 return;
             };
-            let Ok(got) = meet(rt, station, task, need) else {
+            let Ok(got) = meet(station, rt, task, need) else {
                 return;
             };
             next = room.go_on(rt, &spool, task, got);

@@ -115,21 +115,21 @@ impl<'a> Model for Worker<'a> {
 }
 
 // Stops the test if there is no such block.
-fn assert_is_block(rt: &impl Abort, station: &Station, ecb: u32)
+fn assert_is_block(station: &Station, rt: &impl Abort, ecb: u32)
     ensures { ecb < length station.now.config.owners }
 {
     assert!(rt; station.config().has_ecb(ecb));
 }
 
 // Stops the test if the task cannot wait for this block and clear it.
-fn assert_may_wait(rt: &impl Abort, station: &Station, task: &Task, ecb: u32)
+fn assert_may_wait(station: &Station, rt: &impl Abort, task: &Task, ecb: u32)
     requires { IsOf station.now task.now }
     ensures exists { ecb < length station.now.config.owners }
     ensures own { owner_of station.now.config ecb ≡ task.now.number }
     ensures plain { (kept_of task.now.number task.now.log).extended ecb ≡ false }
     ensures left { 3 ≤ task.now.left }
 {
-    assert_is_block(rt, station, ecb);
+    assert_is_block(station, rt, ecb);
     assert!(rt; station.config().ecb_owner(ecb) == task.number());
     assert!(rt; !task.extended(ecb));
     assert!(rt; task.left() >= 3);
@@ -163,7 +163,7 @@ impl<'a> Worker<'a> {
         ensures { self.new ≡ self.old }
     {
         let station = self.station;
-        assert_is_block(rt, station, ecb);
+        assert_is_block(station, rt, ecb);
         assert!(rt; station.config().reach(ecb) <= self.task.left());
         station.post(rt, &mut self.task, ecb, CODE)
     }
@@ -173,7 +173,7 @@ impl<'a> Worker<'a> {
         requires { bit < 64 }
     {
         let station = self.station;
-        assert_is_block(rt, station, ecb);
+        assert_is_block(station, rt, ecb);
         (station.look(&mut self.task, Object::Ecb(ecb)) >> bit) % 2 == 1
     }
 
@@ -195,7 +195,7 @@ impl<'a> Worker<'a> {
         ensures { self.new ≡ self.old }
     {
         let station = self.station;
-        assert_may_wait(rt, station, &self.task, ecb);
+        assert_may_wait(station, rt, &self.task, ecb);
         let found = station.wait_one(rt, &mut self.task, ecb);
         let cleared = station.clear(rt, &mut self.task, ecb);
         assert!(rt; found == code && cleared == Ok(COMPLETE | code));

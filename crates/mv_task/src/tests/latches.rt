@@ -56,7 +56,7 @@ fn ask<R: Abort + Wait + Clock>(
     ensures { worker.new ≡ worker.old }
 {
     let station = worker.station;
-    assert_is_block(rt, station, 0);
+    assert_is_block(station, rt, 0);
     assert!(rt; worker.task.left() >= 2);
     let mode = Mode::Exclusive;
     obtain(station, rt, &mut worker.task, latch, requestor, mode, form)
@@ -204,8 +204,8 @@ fn a_task_that_parked_for_a_latch_is_woken_at_its_grant(rt: HostRuntime) {
 
 // Takes latch 0 and gives it back, `times` times.
 fn take_often<R: Abort + Wait + Clock>(
-    rt: &R,
     station: &Station,
+    rt: &R,
     task: Task,
     requestor: u64,
     form: LatchForm,
@@ -237,8 +237,8 @@ fn try_once<R: Abort + Wait + Clock>(rt: &R, worker: &mut Worker<'_>, requestor:
 
 // Tries to take latch 0 `times` times.
 fn try_often<R: Abort + Wait + Clock>(
-    rt: &R,
     station: &Station,
+    rt: &R,
     task: Task,
     requestor: u64,
     times: u32,
@@ -275,8 +275,8 @@ fn two_threads_contend_for_one_latch(rt: HostRuntime) {
     let (station, first, second) = open_two(&rt, rt.alloc(), 0, 2100, 2100);
     let (first, second) = join(
         &rt,
-        || try_often(&rt, &station, first, 1, 1000),
-        || try_often(&rt, &station, second, 2, 1000),
+        || try_often(&station, &rt, first, 1, 1000),
+        || try_often(&station, &rt, second, 2, 1000),
     );
     let entries = first.log().len() + second.log().len();
     assert!(rt; entries > 2000);
@@ -300,8 +300,8 @@ fn contend<R: Abort + Wait + Clock + Threads + Sync>(
     let (station, first, second) = open_two(rt, alloc, 1, budget, budget);
     let (first, second) = join(
         rt,
-        || take_often(rt, &station, first, 1, LatchForm::Waiting, times),
-        || take_often(rt, &station, second, 2, form, times),
+        || take_often(&station, rt, first, 1, LatchForm::Waiting, times),
+        || take_often(&station, rt, second, 2, form, times),
     );
     (station, first, second)
 }
@@ -318,7 +318,7 @@ fn one_task_takes_a_latch_beside_one_that_is_posted_for_it(rt: HostRuntime) {
 #[test]
 fn a_free_latch_is_taken_and_given_back(rt: HostRuntime) {
     let (station, task, other) = open_two(&rt, rt.alloc(), 0, 50_010, 0);
-    let task = take_often(&rt, &station, task, 1, LatchForm::Waiting, 25_000);
+    let task = take_often(&station, &rt, task, 1, LatchForm::Waiting, 25_000);
     assert!(rt; task.log().len() == 50_000);
     end(station, task, other);
 }

@@ -43,8 +43,8 @@ fn open_two(rt: &impl Abort, alloc: Global, budget: u32) -> (Station, Task, Task
 // A worker whose task has allocated its first element, which is this one.
 #[tactic(auto, using(mv_wait::proofs::Compose::served))]
 fn begin<'a, R: Abort + Wait>(
-    rt: &R,
     station: &'a Station,
+    rt: &R,
     mut task: Task,
     element: u32,
 ) -> Worker<'a>
@@ -76,7 +76,7 @@ fn given(element: u32, generation: u32) -> Given
 }
 
 // Stops the test if there is no such element.
-fn assert_is_element(rt: &impl Abort, station: &Station, element: u32)
+fn assert_is_element(station: &Station, rt: &impl Abort, element: u32)
     ensures { element < element_count station.now.config }
 {
     let config = station.config().config();
@@ -91,7 +91,7 @@ fn take<R: Abort + Wait + Clock>(rt: &R, worker: &mut Worker<'_>, own: u32, gene
     requires { generation < highest_generation }
 {
     let station = worker.station;
-    assert_is_element(rt, station, own);
+    assert_is_element(station, rt, own);
     assert!(rt; worker.task.left() >= 2);
     let paused = pause(station, rt, &mut worker.task, token(own, generation));
     assert!(rt; paused == Ok(given(own, generation)));
@@ -106,7 +106,7 @@ fn hand<R: Abort + Wait>(
     generation: u32,
 ) -> Result<ReleaseAnswer, ReleaseRefusal> {
     let station = worker.station;
-    assert_is_element(rt, station, other);
+    assert_is_element(station, rt, other);
     assert!(rt; worker.task.left() > 0);
     release(
         station,
@@ -133,8 +133,8 @@ fn assert_has_no_pause(rt: &impl Abort, element: u32, word: u64)
 
 // Releases a token by one exchange.
 fn exchange(
-    rt: &impl Abort,
     station: &Station,
+    rt: &impl Abort,
     task: &mut Task,
     token: Token,
     expected: u64,
@@ -146,7 +146,7 @@ fn exchange(
     ensures task { IsOf station.now task.new }
     ensures rest { IsAtRest task.new.log }
 {
-    assert_is_element(rt, station, token.element);
+    assert_is_element(station, rt, token.element);
     assert_has_no_pause(rt, token.element, expected);
     assert!(rt; task.left() > 0);
     try_release(station, task, token, expected, code)
@@ -165,7 +165,7 @@ fn assert_exchange(
 {
     let station = worker.station;
     let token = token(0, generation);
-    let found = exchange(rt, station, &mut worker.task, token, expected, code);
+    let found = exchange(station, rt, &mut worker.task, token, expected, code);
     assert!(rt; found == answer);
 }
 
@@ -181,7 +181,7 @@ const PRERELEASED: u64 = 33_554_437;
 #[test]
 fn an_exchange_is_refused_by_the_state_that_is_expected(rt: HostRuntime) {
     let (station, task, other) = open_two(&rt, rt.alloc(), 20);
-    let mut worker = begin(&rt, &station, task, 0);
+    let mut worker = begin(&station, &rt, task, 0);
     let (early, already) = (Ok(ReleaseAnswer::Early), Err(TryReleaseRefusal::Already));
     let spent = Err(TryReleaseRefusal::Spent(0));
     assert_exchange(&rt, &mut worker, 0, PLACE + RESET, 5, early);
@@ -196,7 +196,7 @@ fn an_exchange_is_refused_by_the_state_that_is_expected(rt: HostRuntime) {
 // Whether a task pauses in an element.
 fn is_paused<R: Abort>(rt: &R, worker: &mut Worker<'_>, element: u32) -> bool {
     let station = worker.station;
-    assert_is_element(rt, station, element);
+    assert_is_element(station, rt, element);
     let word = station.look(&mut worker.task, Object::Element(element));
     match unpack(Object::Element(element), word) {
         Some((_, WordState::Element(state))) => state.phase == Phase::Paused,
@@ -224,8 +224,8 @@ fn release_the_paused<R: Abort + Wait>(rt: &R, worker: &mut Worker<'_>) {
 #[test]
 fn a_pause_that_parked_is_woken(rt: HostRuntime) {
     let (station, first, second) = open_two(&rt, rt.alloc(), 20);
-    let mut first = begin(&rt, &station, first, 0);
-    let mut second = begin(&rt, &station, second, 2);
+    let mut first = begin(&station, &rt, first, 0);
+    let mut second = begin(&station, &rt, second, 2);
     join(
         &rt,
         || take(&rt, &mut first, 0, 0),
@@ -265,7 +265,7 @@ fn release_by_exchange<R: Abort + Wait>(rt: &R, mut worker: Worker<'_>) -> Task 
     await_pause(rt, &mut worker, 0);
     let station = worker.station;
     let mut task = worker.back();
-    assert_is_element(rt, station, 0);
+    assert_is_element(station, rt, 0);
     assert!(rt; task.left() > 0);
     assert!(rt; release_paused(station, &mut task, 0));
     task
@@ -274,8 +274,8 @@ fn release_by_exchange<R: Abort + Wait>(rt: &R, mut worker: Worker<'_>) -> Task 
 #[test]
 fn a_call_made_of_events_wakes_whom_it_releases(rt: HostRuntime) {
     let (station, first, second) = open_two(&rt, rt.alloc(), 20);
-    let mut first = begin(&rt, &station, first, 0);
-    let second = begin(&rt, &station, second, 2);
+    let mut first = begin(&station, &rt, first, 0);
+    let second = begin(&station, &rt, second, 2);
     let (_, second) = join(
         &rt,
         || take(&rt, &mut first, 0, 0),
@@ -304,8 +304,8 @@ fn hand_back<R: Abort + Wait + Clock>(rt: &R, worker: &mut Worker<'_>) {
 #[test]
 fn two_threads_release_in_turn(rt: HostRuntime) {
     let (station, first, second) = open_two(&rt, rt.alloc(), 3 * ROUNDS + 1);
-    let mut first = begin(&rt, &station, first, 0);
-    let mut second = begin(&rt, &station, second, 2);
+    let mut first = begin(&station, &rt, first, 0);
+    let mut second = begin(&station, &rt, second, 2);
     join(
         &rt,
         || hand_over(&rt, &mut first),
@@ -324,8 +324,8 @@ fn hand_and_take<R: Abort + Wait + Clock>(rt: &R, worker: &mut Worker<'_>, own: 
 {
     await_pause(rt, worker, other.element);
     let station = worker.station;
-    assert_is_element(rt, station, own.element);
-    assert_is_element(rt, station, other.element);
+    assert_is_element(station, rt, own.element);
+    assert_is_element(station, rt, other.element);
     assert!(rt; worker.task.left() >= 3);
     let answer = transfer(station, rt, &mut worker.task, Some(own), other, CODE);
     assert!(rt; answer == Ok(Some(given(own.element, own.generation))));
@@ -353,8 +353,8 @@ fn transfer_back<R: Abort + Wait + Clock>(rt: &R, worker: &mut Worker<'_>) {
 #[test]
 fn a_transfer_wakes_whom_it_releases(rt: HostRuntime) {
     let (station, first, second) = open_two(&rt, rt.alloc(), 3 * TRANSFERS + 4);
-    let mut first = begin(&rt, &station, first, 0);
-    let mut second = begin(&rt, &station, second, 2);
+    let mut first = begin(&station, &rt, first, 0);
+    let mut second = begin(&station, &rt, second, 2);
     join(
         &rt,
         || transfer_over(&rt, &mut first),

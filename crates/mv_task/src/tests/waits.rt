@@ -45,7 +45,7 @@ fn open_chain(rt: &impl Abort, alloc: Global, exits: u32) -> (Station, Task, Tas
 #[tactic(auto, using(mv_wait::proofs::Compose::served))]
 fn extend<R: Abort + Wait>(rt: &R, worker: &mut Worker<'_>, ecb: u32, exit: u32) {
     let station = worker.station;
-    assert_is_block(rt, station, ecb);
+    assert_is_block(station, rt, ecb);
     assert!(rt; worker.task.left() > 0);
     assert!(rt; station.extend(rt, &mut worker.task, ecb, exit).is_ok());
 }
@@ -132,7 +132,7 @@ fn clear_own<R: Abort + Wait>(rt: &R, worker: &mut Worker<'_>) -> u32
     ensures { worker.new ≡ worker.old }
 {
     let station = worker.station;
-    assert_is_block(rt, station, 0);
+    assert_is_block(station, rt, 0);
     assert!(rt; worker.task.left() > 0);
     let Ok(word) = station.clear(rt, &mut worker.task, 0) else {
         panic!(rt; "the block is another's")
@@ -218,7 +218,7 @@ fn test_once(rt: &impl Abort, worker: &mut Worker<'_>) -> u32
     ensures { worker.new ≡ worker.old }
 {
     let station = worker.station;
-    assert_is_block(rt, station, 0);
+    assert_is_block(station, rt, 0);
     assert!(rt; worker.task.left() > 0);
     station.test_ecb(&mut worker.task, 0)
 }
@@ -235,7 +235,7 @@ fn act<R: Abort + Wait>(rt: &R, worker: &mut Worker<'_>, deed: Deed)
 }
 
 // Does a deed `times` times.
-fn act_often<R: Abort + Wait>(rt: &R, station: &Station, task: Task, deed: Deed, times: u32) -> Task
+fn act_often<R: Abort + Wait>(station: &Station, rt: &R, task: Task, deed: Deed, times: u32) -> Task
     requires task { IsOf station.now task }
     requires rest { IsAtRest task.log }
     ensures { IsOf station.now result × (result.number ≡ task.number) }
@@ -249,8 +249,8 @@ fn act_often<R: Abort + Wait>(rt: &R, station: &Station, task: Task, deed: Deed,
 
 // Posts the block, while another thread tests it.
 fn post_beside_tests<R: Abort + Wait + Threads + Sync>(
-    rt: &R,
     station: &Station,
+    rt: &R,
     poster: Task,
     tester: Task,
 ) -> (Task, Task)
@@ -261,8 +261,8 @@ fn post_beside_tests<R: Abort + Wait + Threads + Sync>(
 {
     join(
         rt,
-        || act_often(rt, station, poster, Deed::Post, 10_000),
-        || act_often(rt, station, tester, Deed::Test, 10_000),
+        || act_often(station, rt, poster, Deed::Post, 10_000),
+        || act_often(station, rt, tester, Deed::Test, 10_000),
     )
 }
 
@@ -294,8 +294,8 @@ fn one_clears_one_posts_and_one_tests(rt: HostRuntime) {
     let (station, owner, poster, tester) = open_three(&rt, rt.alloc(), 10_000);
     let (owner, (poster, tester)) = join(
         &rt,
-        || act_often(&rt, &station, owner, Deed::Clear, 10_000),
-        || post_beside_tests(&rt, &station, poster, tester),
+        || act_often(&station, &rt, owner, Deed::Clear, 10_000),
+        || post_beside_tests(&station, &rt, poster, tester),
     );
     assert!(rt; judge(&rt, rt.alloc(), station, owner, poster, tester) == 30_000);
 }
@@ -308,7 +308,7 @@ fn first_blocks(rt: &impl Abort, alloc: Global, station: &Station, blocks: u32) 
 {
     let mut ecbs = Vec::new(alloc);
     for ecb in 0..blocks {
-        assert_is_block(rt, station, ecb);
+        assert_is_block(station, rt, ecb);
         let Ok(()) = ecbs.push(ecb) else {
             panic!(rt; "no memory for the blocks")
         };
@@ -319,8 +319,8 @@ fn first_blocks(rt: &impl Abort, alloc: Global, station: &Station, blocks: u32) 
 // Waits until all of these blocks are complete.
 #[tactic(auto, using(mv_wait::proofs::Compose::served))]
 fn wait_for<R: Abort + Wait + Clock>(
-    rt: &R,
     station: &Station,
+    rt: &R,
     task: &mut Task,
     ecbs: &[u32],
     out: &mut [WaitSlot],
@@ -348,7 +348,7 @@ fn wait_for_all<R: Abort + Wait + Clock>(
     let station = worker.station;
     let ecbs = first_blocks(rt, alloc, station, blocks);
     let mut out = vec![in alloc; WaitSlot::Open; ecbs.len()].expect(rt, "room for slots");
-    wait_for(rt, station, &mut worker.task, &ecbs, &mut out);
+    wait_for(station, rt, &mut worker.task, &ecbs, &mut out);
 }
 
 // Posts each of the first `blocks` blocks.

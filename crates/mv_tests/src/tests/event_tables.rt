@@ -58,7 +58,7 @@ fn open(rt: &impl Abort, alloc: Global) -> (Station, Task)
 fn end(_station: Station, _task: Task) {}
 
 // The table, checked against a station's configuration.
-fn checked(rt: &impl Abort, station: &Station) -> ValidTable
+fn checked(station: &Station, rt: &impl Abort) -> ValidTable
     ensures { IsSoundTable station.now.config result }
 {
     match TABLE.check(station.config()) {
@@ -71,8 +71,8 @@ fn checked(rt: &impl Abort, station: &Station) -> ValidTable
 
 #[tactic(auto, using(mv_wait::proofs::Compose::served))]
 fn post<R: Abort + Wait + Clock>(
-    rt: &R,
     station: &Station,
+    rt: &R,
     task: &mut Task,
     table: &ValidTable,
     index: u32,
@@ -93,8 +93,8 @@ fn post<R: Abort + Wait + Clock>(
 
 #[tactic(auto, using(mv_wait::proofs::Compose::served))]
 fn next<R: Abort + Wait + Clock>(
-    rt: &R,
     station: &Station,
+    rt: &R,
     task: &mut Task,
     table: &ValidTable,
     position: u32,
@@ -122,8 +122,8 @@ fn complete(index: u32, code: u32) -> Event {
 // Posts two events, and one of them again, and takes both in the order in which they completed.
 #[tactic(auto, using(mv_wait::proofs::Compose::served))]
 fn take_in_order<R: Abort + Wait + Clock>(
-    rt: &R,
     station: &Station,
+    rt: &R,
     task: &mut Task,
     table: &ValidTable,
 )
@@ -144,35 +144,35 @@ fn take_in_order<R: Abort + Wait + Clock>(
 #[test]
 fn events_are_taken_in_the_order_of_completion(rt: HostRuntime) {
     let (station, mut task) = open(&rt, rt.alloc());
-    let table = checked(&rt, &station);
+    let table = checked(&station, &rt);
     assert!(rt; table.table().size == 3);
-    take_in_order(&rt, &station, &mut task, &table);
+    take_in_order(&station, &rt, &mut task, &table);
     end(station, task);
 }
 
 // Writes the table's volume, and posts a slot with a code that is not an event's index.
 #[tactic(auto, using(mv_wait::proofs::Compose::served))]
-fn break_a_table<R: Abort + Wait + Clock>(rt: &R, station: &Station, task: &mut Task)
+fn break_a_table<R: Abort + Wait + Clock>(station: &Station, rt: &R, task: &mut Task)
     requires task { IsOf station.now task.old }
     requires rest { IsAtRest task.old.log }
     requires volumes { station.now.config.volumes ≡ 1 }
     requires blocks { length station.now.config.owners ≡ 6 }
 {
-    let table = checked(rt, station);
+    let table = checked(station, rt);
     assert!(rt; task.left() > 0);
     station.write_volume(rt, task, 0, 3);
-    let posted = post(rt, station, task, &table, 1, 5);
+    let posted = post(station, rt, task, &table, 1, 5);
     assert!(rt; posted == Err(PostEventRefusal::Broken(3)));
     assert!(rt; station.config().reach(3) <= task.left());
     station.post(rt, task, 3, 40);
-    let next = next(rt, station, task, &table, 0);
+    let next = next(station, rt, task, &table, 0);
     assert!(rt; next == Err(NextRefusal::Strange(40)));
 }
 
 #[test]
 fn what_others_did_to_the_table_is_told(rt: HostRuntime) {
     let (station, mut task) = open(&rt, rt.alloc());
-    break_a_table(&rt, &station, &mut task);
+    break_a_table(&station, &rt, &mut task);
     end(station, task);
 }
 

@@ -99,7 +99,7 @@ fn assert_made<R: Abort>(rt: &R, task: &Task, made: &[(Op, Option<u64>)]) {
 
 // Posts a block, for a task at rest that is asserted to have the event for it.
 #[tactic(auto, using(mv_wait::proofs::Compose::served))]
-pub(crate) fn post<R: Abort + Wait>(rt: &R, station: &Station, task: &mut Task, ecb: u32, code: u32)
+pub(crate) fn post<R: Abort + Wait>(station: &Station, rt: &R, task: &mut Task, ecb: u32, code: u32)
     requires task { IsOf station.now task.old }
     requires rest { IsAtRest task.old.log }
     requires block { ecb < length station.now.config.owners }
@@ -136,8 +136,8 @@ pub(crate) fn a_wait(
 
 // Polls a wait, and returns whether it is over.
 pub(crate) fn is_over<R: Wait>(
-    rt: &R,
     station: &Station,
+    rt: &R,
     task: &mut Task,
     call: &mut WaitCall,
 ) -> bool
@@ -155,8 +155,8 @@ pub(crate) fn is_over<R: Wait>(
 
 // A wait for two of three blocks, of which one is posted before its first poll and one after it.
 fn wait_for_two<R: Abort + Wait + AllocGlobal>(
-    rt: &R,
     station: &Station,
+    rt: &R,
     waiter: &mut Task,
     poster: &mut Task,
 )
@@ -167,12 +167,12 @@ fn wait_for_two<R: Abort + Wait + AllocGlobal>(
 {
     assert!(rt; waiter.left() >= 6);
     let mut call = a_wait(rt, rt.alloc(), station, waiter, 2, &[0, 1, 2]);
-    post(rt, station, poster, 0, 5);
-    assert!(rt; !is_over(rt, station, waiter, &mut call));
+    post(station, rt, poster, 0, 5);
+    assert!(rt; !is_over(station, rt, waiter, &mut call));
     assert!(rt; call.keys() == [1, 2].as_slice());
     assert!(rt; call.slots().is_empty() && waiter.log().len() == 3);
-    post(rt, station, poster, 2, 7);
-    assert!(rt; is_over(rt, station, waiter, &mut call));
+    post(station, rt, poster, 2, 7);
+    assert!(rt; is_over(station, rt, waiter, &mut call));
     let found = [WaitSlot::Complete(5), WaitSlot::Open, WaitSlot::Complete(7)];
     assert!(rt; call.slots() == found.as_slice() && call.keys().is_empty());
 }
@@ -193,7 +193,7 @@ fn assert_waited<R: Abort>(rt: &R, waiter: &Task, poster: &Task) {
 fn a_wait_for_two_of_three(rt: HostRuntime) {
     let owners = vec![in rt.alloc(); 7; 3].expect(&rt, "room for owners");
     let (station, tasks, mut waiter, mut poster) = open_two(&rt, rt.alloc(), owners);
-    wait_for_two(&rt, &station, &mut waiter, &mut poster);
+    wait_for_two(&station, &rt, &mut waiter, &mut poster);
     assert_waited(&rt, &waiter, &poster);
     end(station, tasks, waiter, poster);
 }
@@ -211,7 +211,7 @@ pub(crate) fn token(element: u32, generation: u32) -> Token
 
 // A pause that the first task, at rest, may poll: it has allocated its element.
 #[tactic(auto, using(mv_wait::proofs::Compose::served))]
-fn a_pause<R: Abort + Wait>(rt: &R, station: &Station, task: &mut Task) -> PauseCall
+fn a_pause<R: Abort + Wait>(station: &Station, rt: &R, task: &mut Task) -> PauseCall
     requires task { IsOf station.now task.old }
     requires rest { IsAtRest task.old.log }
     requires elements { element_count station.now.config ≡ 8 }
@@ -226,8 +226,8 @@ fn a_pause<R: Abort + Wait>(rt: &R, station: &Station, task: &mut Task) -> Pause
 
 // Polls a pause, and returns what it was given once it is over.
 pub(crate) fn given<R: Abort + Wait>(
-    rt: &R,
     station: &Station,
+    rt: &R,
     task: &mut Task,
     call: &mut PauseCall,
 ) -> Option<Given>
@@ -246,8 +246,8 @@ pub(crate) fn given<R: Abort + Wait>(
 // Releases a token with a code.
 #[tactic(auto, using(mv_wait::proofs::Compose::served))]
 pub(crate) fn release_to<R: Abort + Wait>(
-    rt: &R,
     station: &Station,
+    rt: &R,
     task: &mut Task,
     token: Token,
     code: u32,
@@ -264,18 +264,18 @@ pub(crate) fn release_to<R: Abort + Wait>(
 }
 
 // A pause whose token is released after its first poll.
-fn pause_for_nine<R: Abort + Wait>(rt: &R, station: &Station, first: &mut Task, second: &mut Task)
+fn pause_for_nine<R: Abort + Wait>(station: &Station, rt: &R, first: &mut Task, second: &mut Task)
     requires first { IsOf station.now first.old }
     requires second { IsOf station.now second.old }
     requires rest { IsAtRest first.old.log × IsAtRest second.old.log }
     requires elements { element_count station.now.config ≡ 8 }
 {
-    let mut call = a_pause(rt, station, first);
-    assert!(rt; given(rt, station, first, &mut call).is_none());
+    let mut call = a_pause(station, rt, first);
+    assert!(rt; given(station, rt, first, &mut call).is_none());
     assert!(rt; call.key() == ELEMENT);
-    release_to(rt, station, second, token(0, 0), 9);
+    release_to(station, rt, second, token(0, 0), 9);
     let next = token(0, 1);
-    assert!(rt; given(rt, station, first, &mut call) == Some(Given { code: 9, next }));
+    assert!(rt; given(station, rt, first, &mut call) == Some(Given { code: 9, next }));
 }
 
 // The entries that the two tasks made of this.
@@ -293,7 +293,7 @@ fn assert_paused<R: Abort>(rt: &R, first: &Task, second: &Task) {
 #[test]
 fn a_pause_goes_on_once_it_is_released(rt: HostRuntime) {
     let (station, mut first, mut second) = open_first(&rt, rt.alloc());
-    pause_for_nine(&rt, &station, &mut first, &mut second);
+    pause_for_nine(&station, &rt, &mut first, &mut second);
     assert_paused(&rt, &first, &second);
     end(station, Vec::new(rt.alloc()), first, second);
 }
@@ -312,8 +312,8 @@ fn an_obtain(station: &Station, task: &Task) -> ObtainCall
 
 // Polls a request, and returns its token once it is granted.
 fn granted<R: Abort + Wait>(
-    rt: &R,
     station: &Station,
+    rt: &R,
     task: &mut Task,
     call: &mut ObtainCall,
 ) -> Option<LatchToken>
@@ -332,8 +332,8 @@ fn granted<R: Abort + Wait>(
 
 // An obtain by one task while another holds the latch, which gives it back after two polls.
 fn obtain_behind<R: Abort + Wait>(
-    rt: &R,
     station: &Station,
+    rt: &R,
     first: &mut Task,
     second: &mut Task,
     mut holding: ObtainCall,
@@ -345,15 +345,15 @@ fn obtain_behind<R: Abort + Wait>(
     requires holding { (t0 : CallerFace) × IsObtainAt station.now.config holding t0 first.old }
     requires waiting { (t0 : CallerFace) × IsObtainAt station.now.config waiting t0 second.old }
 {
-    let Some(held) = granted(rt, station, first, &mut holding) else {
+    let Some(held) = granted(station, rt, first, &mut holding) else {
         panic!(rt; "the latch is not free")
     };
-    assert!(rt; granted(rt, station, second, &mut waiting).is_none());
-    assert!(rt; granted(rt, station, second, &mut waiting).is_none());
+    assert!(rt; granted(station, rt, second, &mut waiting).is_none());
+    assert!(rt; granted(station, rt, second, &mut waiting).is_none());
     assert!(rt; second.log().len() == 1);
     assert!(rt; held.latch == 0 && first.left() >= station.config().release_cost());
     assert!(rt; release_latch(station, rt, first, held, false).is_ok());
-    assert!(rt; granted(rt, station, second, &mut waiting).is_some());
+    assert!(rt; granted(station, rt, second, &mut waiting).is_some());
     assert!(rt; second.log().len() == 2);
 }
 
@@ -363,7 +363,7 @@ fn an_obtain_goes_on_once_it_is_granted(rt: HostRuntime) {
     assert!(rt; first.left() >= 2 && second.left() >= 2);
     let holding = an_obtain(&station, &first);
     let waiting = an_obtain(&station, &second);
-    obtain_behind(&rt, &station, &mut first, &mut second, holding, waiting);
+    obtain_behind(&station, &rt, &mut first, &mut second, holding, waiting);
     end(station, tasks, first, second);
 }
 
@@ -371,7 +371,7 @@ fn an_obtain_goes_on_once_it_is_granted(rt: HostRuntime) {
 
 // Two tasks poll the future of a wait for block 0, one after the other. Another key wakes neither, and its own key wakes the
 // second.
-fn ring_a_wait<R>(rt: &R, station: &Station, waiter: &mut Task)
+fn ring_a_wait<R>(station: &Station, rt: &R, waiter: &mut Task)
 where
     R: Abort + Wait + RandomSource + AllocGlobal,
     requires waiter { IsOf station.now waiter.old }
@@ -397,12 +397,12 @@ where
 fn a_future_of_a_wait_registers_and_does_not_yield(rt: HostRuntime) {
     let owners = vec![in rt.alloc(); 7; 1].expect(&rt, "room for an owner");
     let (station, tasks, mut waiter, other) = open_two(&rt, rt.alloc(), owners);
-    ring_a_wait(&rt, &station, &mut waiter);
+    ring_a_wait(&station, &rt, &mut waiter);
     end(station, tasks, waiter, other);
 }
 
 // Polls the future of a pause, and rings another key, and then its own.
-fn ring_a_pause<R>(rt: &R, station: &Station, first: &mut Task, call: PauseCall)
+fn ring_a_pause<R>(station: &Station, rt: &R, first: &mut Task, call: PauseCall)
 where
     R: Abort + Wait + RandomSource + AllocGlobal,
     requires first { IsOf station.now first.old }
@@ -422,14 +422,14 @@ where
 #[test]
 fn a_future_of_a_pause_registers_and_does_not_yield(rt: HostRuntime) {
     let (station, mut first, second) = open_first(&rt, rt.alloc());
-    let call = a_pause(&rt, &station, &mut first);
-    ring_a_pause(&rt, &station, &mut first, call);
+    let call = a_pause(&station, &rt, &mut first);
+    ring_a_pause(&station, &rt, &mut first, call);
     end(station, Vec::new(rt.alloc()), first, second);
 }
 
 // The future of a wait for block 0 is over at its first poll. An executor that needed a ring to poll it again would sleep for
 // ever.
-fn end_at_once<R>(rt: &R, station: &Station, waiter: &mut Task)
+fn end_at_once<R>(station: &Station, rt: &R, waiter: &mut Task)
 where
     R: Abort + Wait + RandomSource + AllocGlobal,
     requires waiter { IsOf station.now waiter.old }
@@ -448,13 +448,13 @@ where
 fn a_block_that_was_posted_ends_a_wait_at_once(rt: HostRuntime) {
     let owners = vec![in rt.alloc(); 7; 1].expect(&rt, "room for an owner");
     let (station, tasks, mut waiter, mut poster) = open_two(&rt, rt.alloc(), owners);
-    post(&rt, &station, &mut poster, 0, 5);
-    end_at_once(&rt, &station, &mut waiter);
+    post(&station, &rt, &mut poster, 0, 5);
+    end_at_once(&station, &rt, &mut waiter);
     end(station, tasks, waiter, poster);
 }
 
 // Polls the future of a wait for one of two blocks: it registers with both and does not yield, and is over once one is posted.
-fn poll_one_of_two<R>(rt: &R, station: &Station, waiter: &mut Task, poster: &mut Task)
+fn poll_one_of_two<R>(station: &Station, rt: &R, waiter: &mut Task, poster: &mut Task)
 where
     R: Abort + Wait + RandomSource + AllocGlobal,
     requires waiter { IsOf station.now waiter.old }
@@ -469,7 +469,7 @@ where
     let mut future = WaitFuture::new(station, rt, waiter, call, &sources);
     assert!(rt; task.poll(&mut future).is_pending() && !task.is_woken());
     assert!(rt; future.call().keys() == [0, 1].as_slice());
-    post(rt, station, poster, 1, 5);
+    post(station, rt, poster, 1, 5);
     future.ring(1);
     assert!(rt; task.is_woken());
     assert!(rt; task.poll(&mut future).is_ready());
@@ -481,12 +481,12 @@ where
 fn a_future_of_a_wait_for_one_of_two_is_over_by_the_second(rt: HostRuntime) {
     let owners = vec![in rt.alloc(); 7; 2].expect(&rt, "room for owners");
     let (station, tasks, mut waiter, mut poster) = open_two(&rt, rt.alloc(), owners);
-    poll_one_of_two(&rt, &station, &mut waiter, &mut poster);
+    poll_one_of_two(&station, &rt, &mut waiter, &mut poster);
     end(station, tasks, waiter, poster);
 }
 
 // Polls the future of a wait for two of three blocks, of which first the first and then the last is posted.
-fn poll_two_of_three<R>(rt: &R, station: &Station, waiter: &mut Task, poster: &mut Task)
+fn poll_two_of_three<R>(station: &Station, rt: &R, waiter: &mut Task, poster: &mut Task)
 where
     R: Abort + Wait + RandomSource + AllocGlobal,
     requires waiter { IsOf station.now waiter.old }
@@ -500,11 +500,11 @@ where
     let sources = [Source::new(), Source::new(), Source::new()];
     let mut future = WaitFuture::new(station, rt, waiter, call, &sources);
     assert!(rt; task.poll(&mut future).is_pending());
-    post(rt, station, poster, 0, 5);
+    post(station, rt, poster, 0, 5);
     future.ring(0);
     assert!(rt; task.is_woken() && task.poll(&mut future).is_pending());
     assert!(rt; future.call().keys() == [1, 2].as_slice() && !task.is_woken());
-    post(rt, station, poster, 2, 7);
+    post(station, rt, poster, 2, 7);
     future.ring(2);
     assert!(rt; task.is_woken() && task.poll(&mut future).is_ready());
     let found = [WaitSlot::Complete(5), WaitSlot::Open, WaitSlot::Complete(7)];
@@ -515,7 +515,7 @@ where
 fn a_future_of_a_wait_for_two_of_three(rt: HostRuntime) {
     let owners = vec![in rt.alloc(); 7; 3].expect(&rt, "room for owners");
     let (station, tasks, mut waiter, mut poster) = open_two(&rt, rt.alloc(), owners);
-    poll_two_of_three(&rt, &station, &mut waiter, &mut poster);
+    poll_two_of_three(&station, &rt, &mut waiter, &mut poster);
     assert_waited(&rt, &waiter, &poster);
     end(station, tasks, waiter, poster);
 }

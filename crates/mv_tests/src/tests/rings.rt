@@ -74,7 +74,7 @@ fn pausing(station: &Station, task: Task, generation: u32) -> Runner
 
 // After its wait a task passes the post on, and the last task begins the releases.
 #[tactic(auto, using(mv_wait::proofs::Compose::served))]
-fn behind_wait<R: Abort + Wait>(rt: &R, station: &Station, mut task: Task) -> Runner
+fn behind_wait<R: Abort + Wait>(station: &Station, rt: &R, mut task: Task) -> Runner
     requires task { IsOf station.now task }
     requires rest { IsAtRest task.log }
     requires blocks { length station.now.config.owners ≡ 8 }
@@ -84,16 +84,16 @@ fn behind_wait<R: Abort + Wait>(rt: &R, station: &Station, mut task: Task) -> Ru
     let own = task.number();
     assert!(rt; own <= LAST);
     if own < LAST {
-        post(rt, station, &mut task, own + 1, 0);
+        post(station, rt, &mut task, own + 1, 0);
     } else {
-        release_to(rt, station, &mut task, token(0, 0), 0);
+        release_to(station, rt, &mut task, token(0, 0), 0);
     }
     assert!(rt; task.left() >= 2);
     pausing(station, task, 0)
 }
 
 // After its pause a task passes the release on, and pauses again if another lap follows.
-fn behind_pause<R: Abort + Wait>(rt: &R, station: &Station, mut task: Task, lap: u32) -> Runner
+fn behind_pause<R: Abort + Wait>(station: &Station, rt: &R, mut task: Task, lap: u32) -> Runner
     requires task { IsOf station.now task }
     requires rest { IsAtRest task.log }
     requires elements { element_count station.now.config ≡ 8 }
@@ -102,9 +102,9 @@ fn behind_pause<R: Abort + Wait>(rt: &R, station: &Station, mut task: Task, lap:
     let own = task.number();
     assert!(rt; own <= LAST && lap < LAPS);
     if own < LAST {
-        release_to(rt, station, &mut task, token(own + 1, lap), lap);
+        release_to(station, rt, &mut task, token(own + 1, lap), lap);
     } else {
-        release_to(rt, station, &mut task, token(0, lap + 1), lap + 1);
+        release_to(station, rt, &mut task, token(0, lap + 1), lap + 1);
     }
     if lap + 1 < LAPS {
         assert!(rt; task.left() >= 2);
@@ -119,8 +119,8 @@ fn behind_pause<R: Abort + Wait>(rt: &R, station: &Station, mut task: Task, lap:
 
 // Polls the wait of a task, and goes on with the task if the wait is over.
 fn poll_wait<R: Abort + Wait>(
-    rt: &R,
     station: &Station,
+    rt: &R,
     mut task: Task,
     mut call: WaitCall,
 ) -> Runner
@@ -130,8 +130,8 @@ fn poll_wait<R: Abort + Wait>(
     requires elements { element_count station.now.config ≡ 8 }
     ensures { MayGoOn station.now result.task result.wait result.pause }
 {
-    if is_over(rt, station, &mut task, &mut call) {
-        return behind_wait(rt, station, task);
+    if is_over(station, rt, &mut task, &mut call) {
+        return behind_wait(station, rt, task);
     }
     Runner {
         task,
@@ -142,8 +142,8 @@ fn poll_wait<R: Abort + Wait>(
 
 // Polls the pause of a task, and goes on with the task if the pause is over.
 fn poll_pause<R: Abort + Wait>(
-    rt: &R,
     station: &Station,
+    rt: &R,
     mut task: Task,
     mut call: PauseCall,
 ) -> Runner
@@ -152,8 +152,8 @@ fn poll_pause<R: Abort + Wait>(
     requires elements { element_count station.now.config ≡ 8 }
     ensures { MayGoOn station.now result.task result.wait result.pause }
 {
-    if let Some(given) = given(rt, station, &mut task, &mut call) {
-        return behind_pause(rt, station, task, given.code);
+    if let Some(given) = given(station, rt, &mut task, &mut call) {
+        return behind_pause(station, rt, task, given.code);
     }
     Runner {
         task,
@@ -163,7 +163,7 @@ fn poll_pause<R: Abort + Wait>(
 }
 
 // Polls the call in which a task waits, and goes on with the task if that is over.
-fn go_on<R: Abort + Wait>(rt: &R, station: &Station, runner: Runner) -> Runner
+fn go_on<R: Abort + Wait>(station: &Station, rt: &R, runner: Runner) -> Runner
     requires runner { MayGoOn station.now runner.task runner.wait runner.pause }
     requires blocks { length station.now.config.owners ≡ 8 }
     requires elements { element_count station.now.config ≡ 8 }
@@ -174,12 +174,12 @@ fn go_on<R: Abort + Wait>(rt: &R, station: &Station, runner: Runner) -> Runner
             task,
             wait: Some(call),
             ..
-        } => poll_wait(rt, station, task, call),
+        } => poll_wait(station, rt, task, call),
         Runner {
             task,
             pause: Some(call),
             ..
-        } => poll_pause(rt, station, task, call),
+        } => poll_pause(station, rt, task, call),
         done => done,
     }
 }
@@ -195,7 +195,7 @@ fn begin<R: Abort + Wait>(rt: &R, alloc: Global, station: &Station, mut task: Ta
     assert!(rt; task.left() > 0);
     assert!(rt; allocate(station, rt, &mut task).is_ok());
     if task.number() == LAST {
-        post(rt, station, &mut task, 0, 0);
+        post(station, rt, &mut task, 0, 0);
     }
     assert!(rt; task.number() <= LAST && task.left() >= 2);
     waiting(rt, alloc, station, task)
@@ -243,7 +243,7 @@ fn hear(woken: &mut [bool; 8], log: &OpenLog, from: usize) {
 }
 
 // Polls a task if it was marked.
-fn turn<R: Abort + Wait>(rt: &R, station: &Station, runner: Runner, woken: &mut [bool; 8]) -> Runner
+fn turn<R: Abort + Wait>(station: &Station, rt: &R, runner: Runner, woken: &mut [bool; 8]) -> Runner
     requires runner { MayGoOn station.now runner.task runner.wait runner.pause }
     requires blocks { length station.now.config.owners ≡ 8 }
     requires elements { element_count station.now.config ≡ 8 }
@@ -254,7 +254,7 @@ fn turn<R: Abort + Wait>(rt: &R, station: &Station, runner: Runner, woken: &mut 
         return runner;
     }
     let from = runner.task.log().len();
-    let runner = go_on(rt, station, runner);
+    let runner = go_on(station, rt, runner);
     woken[number] = runner.task.log().len() > from;
     hear(woken, runner.task.log(), from);
     runner
@@ -262,8 +262,8 @@ fn turn<R: Abort + Wait>(rt: &R, station: &Station, runner: Runner, woken: &mut 
 
 // Polls one task after the other, if it was marked.
 fn run<R: Abort + Wait>(
-    rt: &R,
     station: &Station,
+    rt: &R,
     mut runners: VecDeque<Runner>,
 ) -> VecDeque<Runner>
     requires runners { AllByRecursion (λ r. MayGoOn station.now r.task r.wait r.pause) runners.items }
@@ -276,7 +276,7 @@ fn run<R: Abort + Wait>(
         let Some(runner) = runners.pop_front() else {
             panic!(rt; "a task is lost")
         };
-        add(rt, &mut runners, turn(rt, station, runner, &mut woken));
+        add(rt, &mut runners, turn(station, rt, runner, &mut woken));
     }
     runners
 }
@@ -338,7 +338,7 @@ fn go_round<R: Abort + Wait>(
     ensures { AreInOrder station.now 0 result.items × (length result.items ≡ 8) }
 {
     let runners = begin_all(rt, alloc, station, tasks);
-    let runners = run(rt, station, runners);
+    let runners = run(station, rt, runners);
     tasks_of(rt, alloc, station, runners)
 }
 
