@@ -87,7 +87,8 @@ pub(crate) const NO_ENTRY: &[u8] =
 
 pub(crate) const BAD_DIGITS: &[u8] = b"a number with a leading zero or beyond its range";
 
-pub(crate) const BAD_CONFIG: &[u8] = b"the lines above EVENTS state an invalid configuration";
+pub(crate) const BAD_CONFIG: &[u8] =
+    b"the lines above EVENTS state an invalid configuration; there are 1 to 16 callers with a BUDGET each, 1 to 16 elements, 1 to 8 volumes and latches, a quota of 1 to 16 and a second one no higher; an ECB names a caller, an EXIT 1 to 8 blocks above its source, and the budgets are at most 524287 in all";
 
 pub(crate) const WRONG_COUNT: &[u8] = b"END does not have the number of the events above it";
 

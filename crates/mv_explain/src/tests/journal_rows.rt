@@ -26,7 +26,7 @@ LATCHES 1
 QUOTA 1 0
 EVENTS
 --
-journal, line 7, kind 3: the lines above EVENTS state an invalid configuration
+journal, line 7, kind 3: the lines above EVENTS state an invalid configuration; there are 1 to 16 callers with a BUDGET each, 1 to 16 elements, 1 to 8 volumes and latches, a quota of 1 to 16 and a second one no higher; an ECB names a caller, an EXIT 1 to 8 blocks above its source, and the budgets are at most 524287 in all
   | EVENTS
 ==
 JOURNAL 1
