@@ -151,7 +151,8 @@ pub(crate) const CALLS: &[u8] = b", calls: ";
 
 pub(crate) const RUN_DECK: &[u8] = b"run it: tongsthyme spool I < FILE, for I initiators\n";
 
-pub(crate) const RUN_SCRIPT: &[u8] = b"run it: tongsthyme script < FILE\n";
+pub(crate) const RUN_SCRIPT: &[u8] =
+    b"run it: tongsthyme script < FILE, or, if it waits for ever: tongsthyme explain --run 0 < FILE\n";
 
 /// The sentence of a kind of fault of decks, by its number.
 pub(crate) fn deck_sentence(kind: u32) -> &'static [u8]

@@ -96,7 +96,7 @@ END
 a script without fault
 task 0, calls: 2
 task 1, calls: 1
-run it: tongsthyme script < FILE
+run it: tongsthyme script < FILE, or, if it waits for ever: tongsthyme explain --run 0 < FILE
 ==
 
 SCRIPT 1
@@ -105,7 +105,7 @@ END
 --
 a script without fault
 task 0, calls: 0
-run it: tongsthyme script < FILE
+run it: tongsthyme script < FILE, or, if it waits for ever: tongsthyme explain --run 0 < FILE
 ==
 SCRIPT 1\r
 TASK\r
@@ -113,7 +113,7 @@ END\r
 --
 a script without fault
 task 0, calls: 0
-run it: tongsthyme script < FILE
+run it: tongsthyme script < FILE, or, if it waits for ever: tongsthyme explain --run 0 < FILE
 ";
 
 pub(crate) const LONG: &str = "a script of more than 1048576 bytes, the most that is read\n";
