@@ -13,7 +13,6 @@ use crate::task::ScriptTask;
 use mv_calls::ValidTable;
 use mv_io::NoMemory;
 use mv_machine::{Entry, Listed, State, ValidConfig};
-use mv_polledspool::{Order, RoundOrder};
 use mv_script::{AnswerList, CallList, Script, copy_config};
 use mv_wait::{Station, Task};
 use std::alloc::Global;
@@ -35,9 +34,9 @@ pub struct RunSoFar {
 
 /// Runs a script on this thread until no task goes on, and returns the events and the answers.
 ///
-/// The k-th poll, counted from 0, is that of task `((seed + k) mod 2^32) mod n` of the n tasks: it makes its calls until one waits for
-/// what has not happened. After n polls in a row by which no task got further the run ends. A task stops for good before a TRANSFER that
-/// pauses, an EVPOST or an EVNEXT, since these are not polled.
+/// The first poll is that of task `seed mod n` of the n tasks, and each later one that of the next task; after the last task comes task 0.
+/// A task that is polled makes its calls until one waits for what has not happened. It stops for good before a TRANSFER that pauses, an
+/// EVPOST or an EVNEXT, since these are not polled. After n polls in a row by which no task got further the run ends.
 ///
 /// # Errors
 ///
@@ -115,21 +114,21 @@ fn poll_all<R: Wait + Clock>(
     ensures count { IfOk result (λ polled. length polled.items ≡ length lists.now) }
     ensures tasks { IfOk result (λ polled. AreTasksAt station.now table.now lists.now polled.items) }
 {
-    let count = tasks.len() as u32;
-    let mut order = RoundOrder::new(seed);
+    let count = tasks.len();
+    let mut place = seed as usize % count;
     // How many polls in a row found no task that goes on.
     let mut quiet = 0;
     for _ in rt.forever() {
         if quiet >= count {
             break;
         }
-        let place = order.pick(count) as usize;
         let list = &lists[place];
         if tasks[place].poll(rt, alloc, station, table, &list.calls)? {
             quiet = 0;
         } else {
             quiet += 1;
         }
+        place = (place + 1) % count;
     }
     Ok(tasks)
 }

@@ -10,7 +10,7 @@ use std::process::Abort;
 use std::sync::Wait;
 use std::time::Clock;
 
-// The answers of a script in the round order of seed 0, and what its tasks wait for.
+// The answers of a script in the round order of this seed, and what its tasks wait for.
 fn texts_of<X: Abort + AllocGlobal + Wait + Clock>(
     rt: &X,
     text: &[u8],
@@ -149,4 +149,58 @@ fn a_task_is_finished_or_waits_or_stops(rt: HostRuntime) {
     assert!(rt; script.tasks.len() == 2);
     assert!(rt; task_standing(&script, &run, 0) == Standing::Stopped);
     assert!(rt; task_standing(&script, &run, 1) == Standing::Finished);
+}
+
+// Task 6 posts block 5, and each other task waits for its block and posts the one below.
+const CHAIN: &[u8] = b"\
+SCRIPT 7
+ECB 0
+ECB 1
+ECB 2
+ECB 3
+ECB 4
+ECB 5
+TASK
+READ 0
+WAIT 1 0
+TASK
+READ 0
+WAIT 1 1
+POST 0 7
+TASK
+READ 0
+WAIT 1 2
+POST 1 7
+TASK
+READ 0
+WAIT 1 3
+POST 2 7
+TASK
+READ 0
+WAIT 1 4
+POST 3 7
+TASK
+READ 0
+WAIT 1 5
+POST 4 7
+TASK
+READ 0
+POST 5 7
+END
+";
+
+// The polls of these runs pass the highest number of a `u32`, and 2^32 is no multiple of 7.
+#[test]
+fn no_task_is_left_out_at_the_highest_seeds(rt: HostRuntime) {
+    let Ok(script) = read_script(rt.alloc(), CHAIN) else {
+        panic!(rt; "no script")
+    };
+    assert!(rt; script.tasks.len() == 7);
+    for back in 0..21 {
+        let seed = u32::MAX - back;
+        let run = run_so_far(&rt, rt.alloc(), &script, seed).expect(&rt, "memory for a run");
+        for task in 0..7 {
+            assert!(rt; task_standing(&script, &run, task) == Standing::Finished);
+        }
+    }
 }
