@@ -10,7 +10,7 @@ pub mod Begins
 pub mod Halves
 -- what a task has done, in the history of all tasks
 pub mod Histories
--- run_so_far
+-- one run
 pub mod Tasks
 -- the text of what tasks wait for
 pub mod Texts

@@ -1,5 +1,5 @@
 -- What the tasks of a script have done, while some of them may have calls left.
-use Rattle.std.specs.Prelude.{◌≡◌, ℕ, ◌<◌, ◌≤◌, List, [], ◌++◌, All, length, take, slice_get, slice_index_or, Option, Some, None}
+use Rattle.std.specs.Prelude.{◌≡◌, ℕ, ◌<◌, ◌≤◌, false, List, [], ◌++◌, All, length, take, slice_get, slice_index_or, Option, Some, None}
 use Rattle.std.specs.Prelude.{option_and_then}
 use Rattle.std.specs.List.{AllByRecursion}
 use Rattle.mv_calls.specs.Keeping.{Kept, kept_of, nothing_kept}
@@ -13,6 +13,7 @@ use Rattle.mv_machine.specs.Orderly.{IsOrderly}
 use Rattle.mv_config.specs.Setup.{Setup}
 use Rattle.mv_machine.specs.State.{IsOpenedWith, system_of}
 use Rattle.mv_machine.specs.declared.entry.Entry.{Entry}
+use Rattle.mv_pollscript.specs.Standing.{can_go_on, standing_in}
 use Rattle.mv_pollscript.specs.declared.run.RunSoFar.{RunSoFar}
 use Rattle.mv_script.specs.Run.{word_in}
 use Rattle.mv_script.specs.Script.{ScriptData}
@@ -56,3 +57,8 @@ pub record IsRunSoFar (script : ScriptData) (r : RunSoFar) : Type 0 where
   pub tasks : (k : ℕ) → k < length script.tasks → HasGotTo script r.journal.items k (slice_index_or r.answers.items k [])
   pub few : length r.journal.items ≤ events_limit
   pub places : All (λ e. e.place ≤ highest_place) r.journal.items
+
+-- No task can go on in the state that the run left: each has made all of its calls, waits in its next call, or stops before it.
+abbrev pub IsQuiescent : ScriptData → RunSoFar → Type 0
+IsQuiescent script r =
+    (k : ℕ) → k < length script.tasks → can_go_on (standing_in (system_of r.state) script.tasks r.answers.items k) ≡ false

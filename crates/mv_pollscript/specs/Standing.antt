@@ -53,6 +53,13 @@ waits_in s k (call.Pause token) = is_paused_in s token.element
 waits_in s k (call.Obtain latch requestor mode form) = waits_at k (list_of s.latches.state latch)
 waits_in s k _ = false
 
+-- whether a task stops before this call, which is not polled: a TRANSFER that pauses, an EVPOST or an EVNEXT
+abbrev pub stops_before : Call → Bool
+stops_before (call.Transfer (Some current) target code) = true
+stops_before (call.PostEvent index code) = true
+stops_before (call.NextEvent position) = true
+stops_before _ = false
+
 -- ---- tasks
 
 -- the call of task k after those that have an answer, if there is one
@@ -62,4 +69,14 @@ next_call lists answers k = slice_get (slice_index_or lists k []) (length (slice
 -- how far task k has got, with this next call
 abbrev pub standing_of : System → ℕ → Option Call → Standing
 standing_of s k None = standing.Finished
-standing_of s k (Some d) = if waits_in s k d then standing.Waits else standing.Stopped
+standing_of s k (Some d) =
+    if waits_in s k d then standing.Waits else if stops_before d then standing.Stopped else standing.CanGoOn
+
+-- how far task k has got
+abbrev pub standing_in : System → List (List Call) → List (List Answer) → ℕ → Standing
+standing_in s lists answers k = standing_of s k (next_call lists answers k)
+
+-- whether a task that has got so far can go on
+abbrev pub can_go_on : Standing → Bool
+can_go_on standing.CanGoOn = true
+can_go_on _ = false

@@ -1,6 +1,6 @@
 -- A task of a script between two polls. Here c is a configuration, d the call after those that the task has made, if there is one,
 -- and t the task after those; u is the task now.
-use Rattle.std.specs.Prelude.{◌≡◌, ℕ, ◌<◌, ◌≤◌, false, List, [], length, take, drop, count_by, slice_get, slice_index_or}
+use Rattle.std.specs.Prelude.{◌≡◌, ℕ, ◌<◌, ◌≤◌, true, false, List, [], length, take, drop, count_by, slice_get, slice_index_or}
 use Rattle.std.specs.Prelude.{Option, Some, None}
 use Rattle.mv_board.specs.Faces.{BoardFace, CallerFace, IsFresh, IsOf}
 use Rattle.mv_calls.specs.Rest.{IsAtRest}
@@ -10,6 +10,7 @@ use Rattle.mv_config.specs.Setup.{Setup}
 use Rattle.mv_polled.specs.Obtaining.{IsObtainAt, new_obtain}
 use Rattle.mv_polled.specs.Pausing.{IsPauseAt, new_pause}
 use Rattle.mv_polled.specs.Waiting.{IsWaitAt, new_wait}
+use Rattle.mv_pollscript.specs.Standing.{stops_before}
 use Rattle.mv_pollscript.specs.declared.task.ScriptTask.{ScriptTask}
 use Rattle.mv_pollscript.specs.declared.task.Stage.{Stage}
 use Rattle.mv_pollscript.specs.declared.task.Stage.TheVariants as stage
@@ -25,7 +26,7 @@ IsStageFor (Some (stage.Waits w)) d = (d ≡ call.Wait w.count w.ecbs) × (w ≡
 IsStageFor (Some (stage.Pauses p)) d = (d ≡ call.Pause p.token) × (p ≡ new_pause p.token)
 IsStageFor (Some (stage.Obtains q)) d =
     (d ≡ call.Obtain q.latch q.requestor q.mode Waiting) × (q ≡ new_obtain q.latch q.requestor q.mode)
-IsStageFor (Some stage.Halted) d = Unit {0}
+IsStageFor (Some stage.Halted) d = stops_before d ≡ true
 IsStageFor (Some stage.Between) d = ⊥
 IsStageFor (Some stage.Finished) d = ⊥
 IsStageFor None d = is_wait d ≡ false

@@ -10,7 +10,7 @@ use Rattle.mv_pollscript.specs.declared.finding.Place.{Place}
 use Rattle.mv_pollscript.specs.declared.sentences.TheConstants.{FOR_BLOCK, FOR_ELEMENT, FOR_LATCH, HOLDS, NOBODY_POSTS, NOBODY_RELEASES}
 use Rattle.mv_pollscript.specs.declared.sentences.TheConstants.{NOT_MADE, STOPS, TASK, WAITS, WHICH_TASK, WOULD_POST, WOULD_RELEASE}
 use Rattle.mv_pollscript.specs.Finding.{first_call}
-use Rattle.mv_pollscript.specs.Standing.{is_complete_in, next_call, waits_in}
+use Rattle.mv_pollscript.specs.Standing.{is_complete_in, next_call, stops_before, waits_in}
 use Rattle.mv_script.specs.declared.answer.Answer.{Answer}
 use Rattle.mv_scriptline.specs.declared.call.Call.{Call}
 use Rattle.mv_scriptline.specs.declared.call.Call.TheVariants as call
@@ -68,12 +68,12 @@ call_text c s lists answers at _ = []
 unfoldable pub stopped_text : Place → List ℕ
 stopped_text at = (TASK.now ++ decimal at.task) ++ (STOPS.now ++ decimal at.call) ++ NOT_MADE.now
 
--- what task k waits for, or where it stops, with this next call
+-- What task k waits for, or where it stops, with this next call. Nothing is said of a task that can go on.
 abbrev pub next_text : Setup → System → List (List Call) → List (List Answer) → ℕ → Option Call → List ℕ
 next_text c s lists answers k None = []
 next_text c s lists answers k (Some d) =
     let at : Place = record { task = k; call = length (slice_index_or answers k []) + 1 } in
-    if waits_in s k d then call_text c s lists answers at d else stopped_text at
+    if waits_in s k d then call_text c s lists answers at d else if stops_before d then stopped_text at else []
 
 -- the same, with the call after those that have an answer
 abbrev pub task_text : Setup → System → List (List Call) → List (List Answer) → ℕ → List ℕ

@@ -3,12 +3,14 @@
 
 mod finding;
 mod polls;
+mod quiescence;
 mod run;
 mod sentences;
 mod standing;
 mod task;
 mod text;
 
-pub use run::{RunSoFar, run_so_far};
+pub use quiescence::run_so_far;
+pub use run::RunSoFar;
 pub use standing::{Standing, task_standing};
 pub use text::write_waits;

@@ -1,4 +1,4 @@
-//! A run of a script on this thread, until no task goes on. Clauses cite `specs/SoFar.antt` and `specs/Task.antt`.
+//! One run of a script on this thread, until no task goes on. Clauses cite `specs/SoFar.antt` and `specs/Task.antt`.
 
 ghost use Rattle.std.specs.Prelude.{◌≡◌, length, map, IfOk};
 ghost use Rattle.std.specs.List.{AllByRecursion};
@@ -32,16 +32,12 @@ pub struct RunSoFar {
     pub answers: Vec<AnswerList>,
 }
 
-/// Runs a script on this thread until no task goes on, and returns the events and the answers.
-///
-/// The first poll is that of task `seed mod n` of the n tasks, and each later one that of the next task; after the last task comes task 0.
-/// A task that is polled makes its calls until one waits for what has not happened. It stops for good before a TRANSFER that pauses, an
-/// EVPOST or an EVNEXT, since these are not polled. After n polls in a row by which no task got further the run ends.
+/// Runs a script on this thread once, in the order that `run_so_far` describes, until no task goes on.
 ///
 /// # Errors
 ///
 /// `NoMemory` if memory runs out; then nothing is said of what was done.
-pub fn run_so_far<R: Wait + Clock>(
+pub(crate) fn run_once<R: Wait + Clock>(
     rt: &R,
     alloc: Global,
     script: &Script,

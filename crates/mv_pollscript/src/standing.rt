@@ -6,8 +6,8 @@ ghost use Rattle.mv_latch.specs.Latch.{shared_front};
 ghost use Rattle.mv_latch.specs.LatchSet.{list_of};
 ghost use Rattle.mv_machine.specs.State.{IsOpenedWith, system_of};
 ghost use Rattle.mv_pollscript.specs.SoFar.{IsRunSoFar};
-ghost use Rattle.mv_pollscript.specs.Standing.{is_complete_in as complete_in, is_paused_in as paused_in, is_waiter as waiter, standing_of};
-ghost use Rattle.mv_pollscript.specs.Standing.{next_call, waits_at as is_waiting_at, waits_in as is_waiting_in};
+ghost use Rattle.mv_pollscript.specs.Standing.{is_complete_in as complete_in, is_paused_in as paused_in, is_waiter as waiter, standing_in};
+ghost use Rattle.mv_pollscript.specs.Standing.{stops_before as is_stop, waits_at as is_waiting_at, waits_in as is_waiting_in};
 ghost use Rattle.mv_script.specs.Script.{script_data};
 
 use crate::run::RunSoFar;
@@ -23,8 +23,10 @@ pub enum Standing {
     Finished,
     /// Its next call waits for what has not happened.
     Waits,
-    /// It has not made its next call, which waits for nothing or is not polled.
+    /// Its next call is one that is not polled: a TRANSFER that pauses, an EVPOST or an EVNEXT.
     Stopped,
+    /// It can make its next call, which waits for nothing.
+    CanGoOn,
 }
 
 /// Returns whether the machine has this block, and it is complete.
@@ -111,21 +113,37 @@ pub(crate) fn waits_in(config: &ValidConfig, state: &State, task: u32, call: &Ca
     }
 }
 
+/// Returns whether a task stops before this call, which is not polled: a TRANSFER that pauses, an EVPOST or an EVNEXT.
+pub(crate) fn stops_before(call: &Call) -> bool
+    ensures { result ≡ is_stop call.now }
+{
+    matches!(
+        call,
+        Call::Transfer {
+            current: Some(_),
+            ..
+        } | Call::PostEvent { .. }
+            | Call::NextEvent(_)
+    )
+}
+
 /// Returns how far a task has got, by the state that the run has left.
 pub fn task_standing(script: &Script, run: &RunSoFar, task: u32) -> Standing
     requires run { IsRunSoFar (script_data script.now) run.now }
     requires task { task < length script.now.tasks.items }
-    ensures { result ≡ standing_of (system_of run.now.state) task
-        (next_call script.now.tasks.items run.now.answers.items task) }
+    ensures { result ≡ standing_in (system_of run.now.state) script.now.tasks.items run.now.answers.items task }
 {
     let calls = &script.tasks[task as usize].calls;
     let made = run.answers[task as usize].answers.len();
     if made >= calls.len() {
         return Standing::Finished;
     }
-    if waits_in(&run.config, &run.state, task, &calls[made]) {
+    let call = &calls[made];
+    if waits_in(&run.config, &run.state, task, call) {
         Standing::Waits
-    } else {
+    } else if stops_before(call) {
         Standing::Stopped
+    } else {
+        Standing::CanGoOn
     }
 }

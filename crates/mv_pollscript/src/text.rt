@@ -14,7 +14,7 @@ use crate::sentences::{
     FOR_BLOCK, FOR_ELEMENT, FOR_LATCH, HOLDS, NOBODY_POSTS, NOBODY_RELEASES, NOT_MADE, STOPS, TASK,
     WAITS, WHICH_TASK, WOULD_POST, WOULD_RELEASE,
 };
-use crate::standing::{is_complete_in, waits_in};
+use crate::standing::{is_complete_in, stops_before, waits_in};
 use mv_io::NoMemory;
 use mv_latch::Request;
 use mv_line::push_number;
@@ -212,7 +212,7 @@ fn push_stopped(out: &mut Vec<u8>, at: Place) -> Result<(), NoMemory>
     Ok(())
 }
 
-// Says what a task waits for, or where it stops, if it has calls left.
+// Says what a task waits for, or where it stops; nothing of a task that has made all of its calls, or can go on.
 fn push_task(out: &mut Vec<u8>, script: &Script, run: &RunSoFar, task: u32) -> Result<(), NoMemory>
     requires run { IsRunSoFar (script_data script.now) run.now }
     requires few { length script.now.tasks.items < 2 ^ 32 }
@@ -229,10 +229,13 @@ fn push_task(out: &mut Vec<u8>, script: &Script, run: &RunSoFar, task: u32) -> R
         task,
         call: made as u64 + 1,
     };
-    if waits_in(&run.config, &run.state, task, &calls[made]) {
-        push_call(out, script, run, at, &calls[made])
-    } else {
+    let call = &calls[made];
+    if waits_in(&run.config, &run.state, task, call) {
+        push_call(out, script, run, at, call)
+    } else if stops_before(call) {
         push_stopped(out, at)
+    } else {
+        Ok(())
     }
 }
 
@@ -253,7 +256,8 @@ fn push_tasks(out: &mut Vec<u8>, script: &Script, run: &RunSoFar, from: u32) -> 
 }
 
 /// Returns a line for each task that has calls left, in the order of their numbers: what its next call waits for and which call that is
-/// left would end this, or that the call is not made here. A WAIT has a line for each of its blocks that is open.
+/// left would end this, or that the call is not made here. A WAIT has a line for each of its blocks that is open. A task that can go on
+/// has no line; a run of `run_so_far` leaves none.
 ///
 /// # Errors
 ///

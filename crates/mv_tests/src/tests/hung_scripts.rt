@@ -3,7 +3,7 @@
 
 ghost use Rattle.std.specs.Prelude.{◌<◌, ◌^◌, ◌-◌, length};
 
-use mv_pollscript::{Standing, run_so_far, task_standing, write_waits};
+use mv_pollscript::{RunSoFar, Standing, run_so_far, task_standing, write_waits};
 use mv_runscript::write_answer_lists;
 use mv_script::read_script;
 use std::process::Abort;
@@ -151,6 +151,37 @@ fn a_task_is_finished_or_waits_or_stops(rt: HostRuntime) {
     assert!(rt; task_standing(&script, &run, 1) == Standing::Finished);
 }
 
+// Whether the first event of a run is one of this task. If each task begins with a READ of one volume, this is the task that was polled
+// first: the task of the seed in the first run, and the one after it in a second run.
+fn begins_with(run: &RunSoFar, task: u32) -> bool {
+    matches!(run.journal.first(), Some(entry) if entry.caller == task)
+}
+
+// Both tasks wait for ever.
+const STUCK: &[u8] = b"\
+SCRIPT 2
+ECB 0
+ECB 1
+TASK
+READ 0
+WAIT 1 0
+TASK
+READ 0
+WAIT 1 1
+END
+";
+
+#[test]
+fn the_first_run_is_returned(rt: HostRuntime) {
+    let Ok(script) = read_script(rt.alloc(), STUCK) else {
+        panic!(rt; "no script")
+    };
+    for seed in 0..4 {
+        let run = run_so_far(&rt, rt.alloc(), &script, seed).expect(&rt, "memory for a run");
+        assert!(rt; begins_with(&run, seed % 2));
+    }
+}
+
 // Task 6 posts block 5, and each other task waits for its block and posts the one below.
 const CHAIN: &[u8] = b"\
 SCRIPT 7
@@ -199,6 +230,7 @@ fn no_task_is_left_out_at_the_highest_seeds(rt: HostRuntime) {
     for back in 0..21 {
         let seed = u32::MAX - back;
         let run = run_so_far(&rt, rt.alloc(), &script, seed).expect(&rt, "memory for a run");
+        assert!(rt; begins_with(&run, seed % 7));
         for task in 0..7 {
             assert!(rt; task_standing(&script, &run, task) == Standing::Finished);
         }
