@@ -6,7 +6,7 @@ use Rattle.mv_entrytext.specs.Journal.{journal_text}
 use Rattle.mv_config.specs.Setup.{Setup}
 use Rattle.mv_machine.specs.State.{system_of}
 use Rattle.mv_machine.specs.System.{System}
-use Rattle.mv_pollscript.specs.SoFar.{IsRunSoFar}
+use Rattle.mv_pollscript.specs.SoFar.{IsQuiescent, IsRunSoFar}
 use Rattle.mv_pollscript.specs.Text.{waits_text}
 use Rattle.mv_pollscript.specs.declared.run.RunSoFar.{RunSoFar}
 use Rattle.mv_script.specs.AnswerText.{answers_text}
@@ -55,16 +55,17 @@ pub run_unwritten : (s : ExplainStatus) (input r j : Option (List ℕ)) → exte
 run_unwritten s input r j none = subst (λ e. WroteOf IsRunExplained e input r r j j) (sym none) (refl, refl)
 
 -- texts that show a run's own configuration and state are those of the run
-pub run_texts : (script : ScriptData) (run : RunSoFar) (report journal : List ℕ) → IsRunSoFar script run
+pub run_texts : (script : ScriptData) (run : RunSoFar) (report journal : List ℕ) → IsRunSoFar script run → IsQuiescent script run
     → report ≡ answers_text run.answers.items ++ waits_text run.config (system_of run.state) script.tasks run.answers.items
     → journal ≡ journal_text run.config run.journal.items → AreTextsOf script report journal
-run_texts script run report journal so_far shown told =
+run_texts script run report journal so_far quiescent shown told =
     let answers = run.answers.items in
     let by_config = ap (λ (c : Setup). answers_text answers ++ waits_text c (system_of run.state) script.tasks answers) so_far.config in
     let by_state = ap (λ (s : System). answers_text answers ++ waits_text script.setup s script.tasks answers) so_far.state in
     record {
       run = run;
       so_far = so_far;
+      quiescent = quiescent;
       report_is = shown ∙ (by_config ∙ by_state);
       journal_is = told ∙ ap (λ (c : Setup). journal_text c run.journal.items) so_far.config;
     }

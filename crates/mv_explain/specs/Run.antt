@@ -6,7 +6,7 @@ use Rattle.mv_entrytext.specs.Journal.{journal_text}
 use Rattle.mv_io.specs.Sink.{Appends, AppendsFront}
 use Rattle.mv_line.specs.declared.fault.TextFault.{TextFault}
 use Rattle.mv_machine.specs.Legal.{after}
-use Rattle.mv_pollscript.specs.SoFar.{IsRunSoFar}
+use Rattle.mv_pollscript.specs.SoFar.{IsQuiescent, IsRunSoFar}
 use Rattle.mv_pollscript.specs.Text.{waits_text}
 use Rattle.mv_pollscript.specs.declared.run.RunSoFar.{RunSoFar}
 use Rattle.mv_script.specs.AnswerText.{answers_text}
@@ -19,11 +19,12 @@ use Rattle.mv_explain.specs.declared.status.ExplainStatus.TheVariants.{Done, Too
 abbrev pub script_limit : ℕ
 script_limit = 1_048_576
 
--- The texts are those of a run of the script as far as its tasks went on: its answers so far, what each task with calls left waits for
--- in the state that the run left, and its journal so far.
+-- The texts are those of a run of the script as far as its tasks went on, after which no task could go on: its answers so far, what each
+-- task with calls left waits for in the state that the run left, and its journal so far.
 pub record AreTextsOf (script : ScriptData) (report journal : List ℕ) : Type 0 where
   pub run : RunSoFar
   pub so_far : IsRunSoFar script run
+  pub quiescent : IsQuiescent script run
   pub report_is : report ≡ answers_text run.answers.items
       ++ waits_text script.setup (after script.setup run.journal.items) script.tasks run.answers.items
   pub journal_is : journal ≡ journal_text script.setup run.journal.items

@@ -117,7 +117,8 @@ fn write_both<R: Sink, K: Sink>(report: &mut R, journal: &mut K, texts: &Texts) 
     ExplainStatus::Done
 }
 
-/// Runs the script of the input, of at most 1,048,576 bytes, on this thread until no task goes on, in the round order of the seed.
+/// Runs the script of the input, of at most 1,048,576 bytes, on this thread until no task can go on, as `run_so_far` of mv_pollscript does
+/// with this seed.
 ///
 /// The report gains the answers of the calls so far, and a line for each task that has calls left, of what it waits for; the journal gains
 /// the journal so far. If the script has a fault, the report gains what `explain` says of it, and the journal nothing. Any other ending

@@ -11,7 +11,8 @@ returns g c =
     let run = c.in_ok-run.run' in
     let answers = c.in_ok-report.ensures.text ∙ ap answers_text c.deref.ensures.value in
     let waits = c.deref-2.ensures.value ∙ c.in_ok-waits.ensures in
-    run_texts (script_data c.args.script.now) run c.extend_from_slice.new.self.items c.in_ok-journal.journal.items c.in_ok-run.ensures
+    run_texts (script_data c.args.script.now) run c.extend_from_slice.new.self.items c.in_ok-journal.journal.items c.in_ok-run.ensures.so_far
+    c.in_ok-run.ensures.quiescent
     (c.in_ok-extend_from_slice.ensures.items ∙ (ap (λ (x : List ℕ). x ++ c.deref-2.result.now) answers
     ∙ ap (λ (x : List ℕ). answers_text run.answers.items ++ x) waits))
     (c.in_ok-journal.ensures.text ∙ ap (journal_text run.config) c.deref-3.ensures.value)
