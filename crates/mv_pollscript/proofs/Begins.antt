@@ -1,5 +1,5 @@
 -- A task that begins its next call, which waits.
-use Rattle.std.proofs.Common.{◌≡◌, ℕ, ◌*◌, ◌+◌, ◌<◌, ◌≤◌, List, [], ◌∷◌, length, take, drop, Option, Some, refl, sym, ap, ◌∙◌, subst, arith}
+use Rattle.std.proofs.Common.{◌≡◌, ℕ, ◌<◌, ◌≤◌, List, [], length, take, Option, Some, refl, sym, ap, ◌∙◌, subst, arith}
 use Rattle.std.specs.Prelude.{count_by, slice_get}
 use Rattle.mv_board.specs.Faces.{BoardFace, CallerFace}
 use Rattle.mv_calls.specs.Rest.{IsAtRest}
@@ -13,7 +13,7 @@ use Rattle.mv_polled.specs.Waiting.{IsWaitAt, MayWait, WaitFace, new_wait}
 use Rattle.mv_runscript.specs.Making.{AreGoodIn, AreSoundIn, IsForScripts}
 use Rattle.mv_runscript.proofs.Scripts.{sound_at}
 use Rattle.mv_runscript.proofs.Steps.{cost_more}
-use Rattle.mv_script.specs.Costs.{cost, costs_of}
+use Rattle.mv_script.specs.Costs.{cost}
 use Rattle.mv_script.specs.Fault.{obtain_meant}
 use Rattle.mv_script.specs.Script.{is_obtain}
 use Rattle.mv_script.specs.Sound.{IfThere}

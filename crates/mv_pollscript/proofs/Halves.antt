@@ -1,6 +1,5 @@
 -- The first half of a call that waits: the events that its task has made of it, which are the first of the call's program.
-use Rattle.std.proofs.Common.{◌≡◌, ℕ, false, List, [], ◌∷◌, ◌++◌, length, Option, Some, None, refl, sym, ap, subst}
-use Rattle.std.specs.Prelude.{slice_get}
+use Rattle.std.proofs.Common.{◌≡◌, List, [], ◌∷◌, Option, Some, None, refl, sym, subst}
 use Rattle.mv_board.specs.Faces.{CallerFace}
 use Rattle.mv_calls.specs.Keeping.{Kept, kept_after, kept_of}
 use Rattle.mv_calls.specs.LatchCalls.{obtained}
@@ -19,10 +18,10 @@ use Rattle.mv_config.specs.Setup.{Setup}
 use Rattle.mv_machine.specs.declared.entry.Object.TheVariants.{Element, Latches}
 use Rattle.mv_machine.specs.declared.entry.Op.TheVariants as op_on
 use Rattle.mv_machine.specs.declared.entry.Reply.TheVariants as reply_of
-use Rattle.mv_polled.specs.Obtaining.{IsObtainAt, IsObtaining, ObtainFace}
-use Rattle.mv_polled.specs.Pausing.{IsPauseAt, IsPausing, PauseFace}
+use Rattle.mv_polled.specs.Obtaining.{IsObtaining, ObtainFace}
+use Rattle.mv_polled.specs.Pausing.{IsPausing, PauseFace}
 use Rattle.mv_polled.specs.Turn.{AtStage}
-use Rattle.mv_polled.specs.Waiting.{IsWaitAt, IsWaiting, WaitFace}
+use Rattle.mv_polled.specs.Waiting.{IsWaiting, WaitFace}
 use Rattle.mv_polled.specs.declared.turn.Stage.{Stage as CallStage}
 use Rattle.mv_polled.specs.declared.turn.Stage.TheVariants.{Waits, New, Over}
 use Rattle.mv_script.specs.Tasks.{Past}

@@ -1,5 +1,5 @@
 -- What a task has done, in the history of all tasks.
-use Rattle.std.proofs.Common.{◌≡◌, ℕ, ◌+◌, ◌<◌, List, [], ◌∷◌, ◌++◌, length, take, Option, refl, sym, ap, ◌∙◌, subst, arith}
+use Rattle.std.proofs.Common.{◌≡◌, ℕ, ◌+◌, List, [], ◌++◌, length, take, Option, refl, sym, ap, ◌∙◌, subst, arith}
 use Rattle.std.specs.Prelude.{slice_get}
 use Rattle.mv_board.specs.Faces.{BoardFace, CallerFace, IsIn}
 use Rattle.mv_calls.specs.Keeping.{kept_of, nothing_kept}
@@ -15,7 +15,7 @@ use Rattle.mv_runscript.specs.Making.{past_with}
 use Rattle.mv_runscript.specs.Rooms.{script_with}
 use Rattle.mv_runscript.proofs.Paths.{path_served}
 use Rattle.mv_script.specs.Costs.{costs_of}
-use Rattle.mv_script.specs.Tasks.{Past, calls_at, made_all, named_table, no_past}
+use Rattle.mv_script.specs.Tasks.{calls_at, made_all, named_table, no_past}
 use Rattle.mv_scriptline.specs.declared.call.Call.{Call}
 use Rattle.mv_wait.specs.Run.{Went}
 use Rattle.mv_wait.proofs.Runs.{served_runs, went_then}

@@ -1,8 +1,8 @@
 -- One more call of a task, and the beginning of one that waits.
-use Rattle.std.proofs.Common.{◌≡◌, ℕ, ◌+◌, ◌<◌, ◌≤◌, List, [], ◌∷◌, ◌++◌, length, take, drop, Option, Some, None, refl, sym, ap, ◌∙◌}
+use Rattle.std.proofs.Common.{◌≡◌, ℕ, ◌+◌, ◌≤◌, List, [], ◌∷◌, ◌++◌, length, take, drop, Option, Some, refl, sym, ap, ◌∙◌}
 use Rattle.std.proofs.Common.{subst, arith, length-append}
 use Rattle.std.specs.Prelude.{count_by, slice_get}
-use Rattle.mv_board.specs.Faces.{BoardFace, CallerFace}
+use Rattle.mv_board.specs.Faces.{BoardFace}
 use Rattle.mv_calls.specs.declared.table.Table.{Table}
 use Rattle.mv_latchset.specs.declared.token.LatchToken.{LatchToken}
 use Rattle.mv_script.specs.Costs.{costs_of}

@@ -30,14 +30,12 @@ use Rattle.mv_script.specs.declared.answer.Answer.{Answer}
 use Rattle.mv_scriptline.specs.declared.call.Call.{Call}
 use Rattle.mv_wait.proofs.Parts.{fresh_at, one_of, still_of}
 use Rattle.mv_wait.proofs.Runs.{same_then}
-use Rattle.mv_wait.specs.Run.{Went}
 use Rattle.mv_runscript.proofs.Paths.{path_went}
 use Rattle.mv_runscript.proofs.Scripts.{task_count}
 use Rattle.mv_pollscript.specs.SoFar.{HasGotTo, IsRunSoFar}
 use Rattle.mv_pollscript.specs.Task.{AreTasksAt, IsNewTask, IsTaskAt, Stands}
 use Rattle.mv_pollscript.specs.declared.run.RunSoFar.{RunSoFar}
 use Rattle.mv_pollscript.specs.declared.task.ScriptTask.{ScriptTask}
-use Rattle.mv_pollscript.specs.declared.task.Stage.TheVariants as stage
 use Rattle.mv_pollscript.proofs.Halves.{half}
 use Rattle.mv_pollscript.proofs.Histories.{got_to, new_at_rest}
 

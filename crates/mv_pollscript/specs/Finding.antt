@@ -1,6 +1,5 @@
 -- Which call that is left would end a wait.
-use Rattle.std.specs.Prelude.{ℕ, Bool, false, ◌+◌, ◌==◌, nat_lt, List, [], ◌∷◌, drop, length, option_map, Option, Some, None}
-use Rattle.std.specs.Prelude.{if◌then◌else◌}
+use Rattle.std.specs.Prelude.{ℕ, Bool, false, ◌+◌, ◌==◌, List, [], ◌∷◌, drop, length, option_map, Option, Some, None}
 use Rattle.std.specs.List.{position}
 use Rattle.mv_latch.specs.declared.request.LatchForm.TheVariants.{Posted}
 use Rattle.mv_pollscript.specs.declared.finding.Deed.{Deed}

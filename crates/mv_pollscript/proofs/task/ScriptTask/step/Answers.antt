@@ -4,7 +4,7 @@ use Rattle.mv_calls.specs.Services as service
 use Rattle.mv_polled.specs.Obtaining.{IsObtained}
 use Rattle.mv_runscript.specs.Served.{MakesService}
 use Rattle.mv_pollscript.specs.declared.task.Stage.TheVariants as stage
-use Rattle.mv_pollscript.proofs.Polled.{obtain_again, obtain_ends, obtain_left, on_ok_all, pause_ends, pause_left, stands_in, wait_ends, wait_left}
+use Rattle.mv_pollscript.proofs.Polled.{obtain_again, obtain_ends, obtain_left, on_ok_all, pause_ends, stands_in, wait_ends}
 use Rattle.mv_pollscript.proofs.Tasks.{own_task}
 use Rattle.mv_pollscript.proofs.task.ScriptTask.step.Goals as goal
 
