@@ -1,6 +1,5 @@
-//! Each kind of fault through the whole command, with its exact text; and what is said of texts without fault.
-//!
-//! A row is an input, a line `--` and the whole report on the input. A line `==` is between two rows.
+//! Each kind of fault through the whole command, with its exact text; and what is said of texts without fault. A row of a table is
+//! an input and the whole report on it. The tables are read by `tables.rt`.
 
 use super::*;
 use mv_io::{MemSink, MemSource};
@@ -10,6 +9,9 @@ use std::process::Abort;
 mod deck_rows;
 mod journal_rows;
 mod script_rows;
+mod tables;
+
+use tables::rows;
 
 fn source<X: Abort + AllocGlobal>(rt: &X, bytes: &[u8], fail: &[u64]) -> MemSource {
     match MemSource::new(rt.alloc(), bytes, 4096, fail) {
@@ -44,18 +46,11 @@ fn assert_explained<X: Abort + AllocGlobal>(rt: &X, bytes: &[u8], expected: &str
     assert_exit(rt, status, 0, expected);
 }
 
-// The parts of a text before and after the first place of a piece. The text has the piece.
-fn parted<'a, X: Abort>(rt: &X, text: &'a str, piece: &str) -> (&'a str, &'a str) {
-    let Some(parts) = text.split_once(piece) else {
-        panic!(rt; "{text} has no {piece}")
-    };
-    parts
-}
-
-fn assert_rows<X: Abort + AllocGlobal>(rt: &X, rows: &str) {
-    for row in rows.split("==\n") {
-        let (input, expected) = parted(rt, row, "--\n");
-        assert_explained(rt, input.as_bytes(), expected);
+fn assert_rows<X: Abort + AllocGlobal>(rt: &X, table: &str) {
+    for row in rows(rt, table, "input | report") {
+        let input = row.field(rt, "input");
+        let report = row.field(rt, "report");
+        assert_explained(rt, input.as_bytes(), &report);
     }
 }
 

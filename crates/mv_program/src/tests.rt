@@ -1,9 +1,5 @@
 //! Whole runs over memory: rows of decks, journals and words, and what remains of each input and output if a stream fails.
-//! Expected values are worked out by hand.
-//!
-//! A row is a run, a line `--`, its outcome, and, if a journal is written, another line `--` and a piece of the journal. The
-//! run is its words, in a line, and its input. The outcome is its exit, in a line, and the report or, if the exit is not 0, the
-//! note. A line `==` separates two rows.
+//! Expected values are worked out by hand. The tables are read by `tables.rt`.
 
 use super::*;
 use mv_io::{MemSink, MemSource, read_limited};
@@ -24,6 +20,9 @@ mod polled_runs;
 mod refused_lists;
 mod scheduled_scripts;
 mod script_rows;
+mod tables;
+
+use tables::{Row, made, rows};
 
 // One job ends, one abends, and one is not run, since it waited for the second to end well.
 const PAYROLL: &str = "\
@@ -56,220 +55,94 @@ VOLUMES 0 0 0 0 0 0 0 0
 
 // Jobs that wait for one another, that print, count and scan, abend and end with return codes; and a deck without jobs.
 const DECKS: &str = "\
-spool 8
-//
---
-0
-JOBS 0 ENDED 0 ABENDED 0 NOT RUN 0
-VOLUMES 0 0 0 0 0 0 0 0
---
-CALLERS 11
-==
-spool 1
-//PAYROLL JOB
-// PRINT PAY RUN 7
-// PRINT DONE
-//BACKUP JOB
-// PRINT COPYING
-// ABEND U0012
-//
---
-0
-JOB PAYROLL ENDED
-| PAY RUN 7
-| DONE
-JOB BACKUP ABENDED U0012
-| COPYING
-JOBS 2 ENDED 1 ABENDED 1 NOT RUN 0
-VOLUMES 0 0 0 0 0 0 0 0
---
- E3 1 POST 16777228 = WOKE 2
-==
-spool 1
-//A JOB
-// USE 0 S
-//
---
-0
-JOB A ENDED
-JOBS 1 ENDED 1 ABENDED 0 NOT RUN 0
-VOLUMES 0 0 0 0 0 0 0 0
---
- L 0 OBTAIN 0 1 S W = GRANTED 0
-==
-spool 1
-//ADD JOB
-// USE 0 X
-// COUNT 0 5
-// ABEND S0C4
-//NEXT JOB
-// USE 0 X
-// COUNT 0 7
-// FREE 0
-//
---
-0
-JOB ADD ABENDED S0C4
-JOB NEXT ENDED
-JOBS 2 ENDED 1 ABENDED 1 NOT RUN 0
-VOLUMES 12 0 0 0 0 0 0 0
---
- = PURGED 1 0
-==
-spool 2
-//A JOB
-// USE 1 X
-// COUNT 1 9999
-// SCAN 1
-// FREE 1
-//B JOB
-// USE 1 S
-// SCAN 1
-//
---
-0
-JOB A ENDED
-| SCAN 1 STEADY
-JOB B ENDED
-| SCAN 1 STEADY
-JOBS 2 ENDED 2 ABENDED 0 NOT RUN 0
-VOLUMES 0 9999 0 0 0 0 0 0
---
- WRITE 9999 = STORED
-==
-spool 1
-// DECK 2
-//A JOB
-// ABEND U0000
-//$Z9 JOB
-// ABEND U4095
-//B JOB
-// RETURN 4095
-//C JOB
-// ABEND SFFF
-//
---
-0
-JOB A ABENDED U0000
-JOB $Z9 ABENDED U4095
-JOB B ENDED RC 4095
-JOB C ABENDED SFFF
-JOBS 4 ENDED 1 ABENDED 3 NOT RUN 0
-VOLUMES 0 0 0 0 0 0 0 0
---
-EVENTS
-==
-spool 1
-// DECK 2
-//LOAD JOB
-// PRINT ROWS 9
-// RETURN 4
-//REPORT JOB AFTER=LOAD:4
-// PRINT OK
-//CLEAN JOB AFTER=LOAD,REPORT:8
-// PRINT CLEANED
-//
---
-0
-JOB LOAD ENDED RC 4
-| ROWS 9
-JOB REPORT ENDED
-| OK
-JOB CLEAN NOT RUN
-JOBS 3 ENDED 2 ABENDED 0 NOT RUN 1
-VOLUMES 0 0 0 0 0 0 0 0
---
- POST 33554432 = ";
+    | command | input \
+      | exit | output \
+      | journal |
+    | spool 8 | //; \
+      | 0 | JOBS 0 ENDED 0 ABENDED 0 NOT RUN 0;VOLUMES 0 0 0 0 0 0 0 0; \
+      | CALLERS 11; |
+    | spool 1 | //PAYROLL JOB;// PRINT PAY RUN 7;// PRINT DONE;//BACKUP JOB;// PRINT COPYING;// ABEND U0012;//; \
+      | 0 | JOB PAYROLL ENDED;\\| PAY RUN 7;\\| DONE;JOB BACKUP ABENDED U0012;\\| COPYING;JOBS 2 ENDED 1 ABENDED 1 NOT RUN 0;\
+        VOLUMES 0 0 0 0 0 0 0 0; \
+      |  E3 1 POST 16777228 = WOKE 2; |
+    | spool 1 | //A JOB;// USE 0 S;//; \
+      | 0 | JOB A ENDED;JOBS 1 ENDED 1 ABENDED 0 NOT RUN 0;VOLUMES 0 0 0 0 0 0 0 0; \
+      |  L 0 OBTAIN 0 1 S W = GRANTED 0; |
+    | spool 1 | //ADD JOB;// USE 0 X;// COUNT 0 5;// ABEND S0C4;//NEXT JOB;// USE 0 X;// COUNT 0 7;// FREE 0;//; \
+      | 0 | JOB ADD ABENDED S0C4;JOB NEXT ENDED;JOBS 2 ENDED 1 ABENDED 1 NOT RUN 0;VOLUMES 12 0 0 0 0 0 0 0; \
+      |  = PURGED 1 0; |
+    | spool 2 | //A JOB;// USE 1 X;// COUNT 1 9999;// SCAN 1;// FREE 1;//B JOB;// USE 1 S;// SCAN 1;//; \
+      | 0 | JOB A ENDED;\\| SCAN 1 STEADY;JOB B ENDED;\\| SCAN 1 STEADY;JOBS 2 ENDED 2 ABENDED 0 NOT RUN 0;\
+        VOLUMES 0 9999 0 0 0 0 0 0; \
+      |  WRITE 9999 = STORED; |
+    | spool 1 | // DECK 2;//A JOB;// ABEND U0000;//$Z9 JOB;// ABEND U4095;//B JOB;// RETURN 4095;//C JOB;// ABEND SFFF;//; \
+      | 0 | JOB A ABENDED U0000;JOB $Z9 ABENDED U4095;JOB B ENDED RC 4095;JOB C ABENDED SFFF;\
+        JOBS 4 ENDED 1 ABENDED 3 NOT RUN 0;VOLUMES 0 0 0 0 0 0 0 0; \
+      | EVENTS; |
+    | spool 1 | // DECK 2;//LOAD JOB;// PRINT ROWS 9;// RETURN 4;//REPORT JOB AFTER=LOAD:4;// PRINT OK;\
+        //CLEAN JOB AFTER=LOAD,REPORT:8;// PRINT CLEANED;//; \
+      | 0 | JOB LOAD ENDED RC 4;\\| ROWS 9;JOB REPORT ENDED;\\| OK;JOB CLEAN NOT RUN;JOBS 3 ENDED 2 ABENDED 0 NOT RUN 1;\
+        VOLUMES 0 0 0 0 0 0 0 0; \
+      |  POST 33554432 =  |
+";
 
 const FAULTY_DECKS: &str = "\
-spool 1
-//A JOB
-// USE 3 X
-// USE 1 S
-//
---
-3
-DECK LINE 3 KIND 9
-==
-spool 1
---
-3
-DECK LINE 1 KIND 12
+    | command | input | exit | output | journal |
+    | spool 1 | //A JOB;// USE 3 X;// USE 1 S;//; | 3 | DECK LINE 3 KIND 9; |  |
+    | spool 1 |  | 3 | DECK LINE 1 KIND 12; |  |
 ";
 
 const LOADS: &str = "\
-load 1 1
-//
---
-0
-LOAD 1 1
-JOBS 1 ENDED 1 ABENDED 0 NOT RUN 0
-VOLUMES 1 0 0 0 0 0 0 0
---
-EVENTS
-==
-load 7 2
-//
---
-0
-LOAD 7 2
-JOBS 7 ENDED 6 ABENDED 1 NOT RUN 0
-VOLUMES 1 2 3 4 5 6 7 0
---
-EVENTS
-==
-load 40 3
-//
---
-0
-LOAD 40 3
-JOBS 40 ENDED 34 ABENDED 5 NOT RUN 1
-VOLUMES 31 27 23 19 15 20 25 24
---
-EVENTS
-==
-load 2000 8
-//
---
-0
-LOAD 2000 8
-JOBS 2000 ENDED 1658 ABENDED 285 NOT RUN 57
-VOLUMES 1213 1223 1213 1214 1215 1205 1215 1210
---
-EVENTS
+    | command | input \
+      | exit | output \
+      | journal |
+    | load 1 1 | //; \
+      | 0 | LOAD 1 1;JOBS 1 ENDED 1 ABENDED 0 NOT RUN 0;VOLUMES 1 0 0 0 0 0 0 0; \
+      | EVENTS; |
+    | load 7 2 | //; \
+      | 0 | LOAD 7 2;JOBS 7 ENDED 6 ABENDED 1 NOT RUN 0;VOLUMES 1 2 3 4 5 6 7 0; \
+      | EVENTS; |
+    | load 40 3 | //; \
+      | 0 | LOAD 40 3;JOBS 40 ENDED 34 ABENDED 5 NOT RUN 1;VOLUMES 31 27 23 19 15 20 25 24; \
+      | EVENTS; |
+    | load 2000 8 | //; \
+      | 0 | LOAD 2000 8;JOBS 2000 ENDED 1658 ABENDED 285 NOT RUN 57;VOLUMES 1213 1223 1213 1214 1215 1205 1215 1210; \
+      | EVENTS; |
 ";
 
 // No word at all, and words that do not state a command.
-const NO_COMMANDS: &str = "
-spool
-spool 1 1
-spool 0
-spool 9
-spool 01
-SPOOL 1
-replay x
-REPLAY
-convert x
-CONVERT
-script x
-SCRIPT
-load
-load 1
-load 0 1
-load 2001 1
-load 01 1
-load 1 9
-load 1 0
-load 1 1 1
-polled
-polled 1
-polled 0 0
-polled 9 0
-polled 1 10000
-polled 1 00
-polled 1 -1
-polled 1 0 0
-POLLED 1 0
+const NO_COMMANDS: &str = "\
+    | command |
+    |  |
+    | spool |
+    | spool 1 1 |
+    | spool 0 |
+    | spool 9 |
+    | spool 01 |
+    | SPOOL 1 |
+    | replay x |
+    | REPLAY |
+    | convert x |
+    | CONVERT |
+    | script x |
+    | SCRIPT |
+    | load |
+    | load 1 |
+    | load 0 1 |
+    | load 2001 1 |
+    | load 01 1 |
+    | load 1 9 |
+    | load 1 0 |
+    | load 1 1 1 |
+    | polled |
+    | polled 1 |
+    | polled 0 0 |
+    | polled 9 0 |
+    | polled 1 10000 |
+    | polled 1 00 |
+    | polled 1 -1 |
+    | polled 1 0 0 |
+    | POLLED 1 0 |
 ";
 
 const USAGE: &str = "USAGE: spool I, script, replay, convert, load N I, polled I S\n";
@@ -487,14 +360,6 @@ fn assert_left<X: Abort + AllocGlobal>(rt: &X, input: &mut MemSource, expected: 
     assert_text(rt, &left, expected, "what is left");
 }
 
-// Returns the parts of a text before and after a piece, which the text has.
-fn parted<'a, X: Abort>(rt: &X, text: &'a str, piece: &str) -> (&'a str, &'a str) {
-    let Some(parts) = text.split_once(piece) else {
-        panic!(rt; "{text} has no {piece}")
-    };
-    parts
-}
-
 fn number_of<X: Abort>(rt: &X, text: &str) -> u8 {
     let Ok(number) = text.parse::<u8>() else {
         panic!(rt; "{text} is no number")
@@ -502,23 +367,21 @@ fn number_of<X: Abort>(rt: &X, text: &str) -> u8 {
     number
 }
 
-// Returns a text, and stops the test if there was no memory for it.
-fn made<X: Abort>(rt: &X, text: Result<String, AllocError>) -> String {
-    match text {
-        Ok(text) => text,
-        Err(_) => panic!(rt; "no memory for a text"),
+// Asserts each row of a table of runs. `output` is the report or, if the exit is not 0, the note; `journal` is a piece of the
+// journal, and is empty if none is written.
+fn assert_rows<X: Abort + AllocGlobal + Threads + Wait + Clock + Sync>(rt: &X, table: &str) {
+    for row in rows(rt, table, "command | input | exit | output | journal") {
+        assert_row(rt, row);
     }
 }
 
-// Asserts each row of a table.
-fn assert_rows<X: Abort + AllocGlobal + Threads + Wait + Clock + Sync>(rt: &X, rows: &str) {
-    for row in rows.split("==\n") {
-        let (run, comes_to) = parted(rt, row, "--\n");
-        let (words, input) = parted(rt, run, "\n");
-        let (outcome, piece) = comes_to.split_once("--\n").unwrap_or((comes_to, ""));
-        let (exit, told) = parted(rt, outcome, "\n");
-        assert_run(rt, words, input, number_of(rt, exit), told, piece);
-    }
+fn assert_row<X: Abort + AllocGlobal + Threads + Wait + Clock + Sync>(rt: &X, row: Row<'_>) {
+    let command = row.field(rt, "command");
+    let input = row.field(rt, "input");
+    let exit = number_of(rt, &row.field(rt, "exit"));
+    let output = row.field(rt, "output");
+    let journal = row.field(rt, "journal");
+    assert_run(rt, &command, &input, exit, &output, &journal);
 }
 
 // A kind of text: the words of a command that reads it, its name in notes of faults, and the exit of a fault.
@@ -546,27 +409,28 @@ const JOURNAL: Format = Format {
     exit: 11,
 };
 
-// Asserts the first fault of a text. The row is the fault's line and kind, with a space after each, and the text; `0 0` means
-// no fault. The text is put between `front` and `behind`.
+// Asserts the first fault of the text in a row, put between `front` and `behind`. The row has the fault's line and kind; kind 0
+// means no fault.
 fn assert_fault<X: Abort + AllocGlobal + Threads + Wait + Clock + Sync>(
     rt: &X,
     format: &Format,
     front: &str,
-    row: &str,
+    row: Row<'_>,
     behind: &str,
 ) {
-    let (line, told) = parted(rt, row, " ");
-    let (kind, text) = parted(rt, told, " ");
+    let line = row.field(rt, "line");
+    let kind = row.field(rt, "kind");
+    let text = row.field(rt, "text");
     let text = made(rt, format!(in rt.alloc(); "{front}{text}{behind}"));
-    if number_of(rt, kind) == 0 {
-        assert_no_fault(rt, format, &text, row);
+    if number_of(rt, &kind) == 0 {
+        assert_no_fault(rt, format, &text, row.fields);
     } else {
         let name = format.name;
         let note = made(
             rt,
             format!(in rt.alloc(); "{name} LINE {line} KIND {kind}\n"),
         );
-        assert_told(rt, format, &text, &note, row);
+        assert_told(rt, format, &text, &note, row.fields);
     }
 }
 
@@ -598,19 +462,16 @@ fn assert_told<X: Abort + AllocGlobal + Threads + Wait + Clock + Sync>(
     assert_text(rt, on.journal.bytes(), "", row);
 }
 
-// Asserts the faults of texts by such rows, separated by semicolons, so that a test with many rows is as short to prove as one
-// with one row. A row that begins with `#` says what the rows after it have in common.
+// Asserts the fault in each row of a table.
 fn assert_faults<X: Abort + AllocGlobal + Threads + Wait + Clock + Sync>(
     rt: &X,
     format: &Format,
     front: &str,
-    rows: &str,
+    table: &str,
     behind: &str,
 ) {
-    for row in rows.split(';') {
-        if !row.starts_with('#') {
-            assert_fault(rt, format, front, row, behind);
-        }
+    for row in rows(rt, table, "line | kind | text") {
+        assert_fault(rt, format, front, row, behind);
     }
 }
 
@@ -644,8 +505,9 @@ fn loads(rt: HostRuntime) {
 
 #[test]
 fn words_that_are_no_command(rt: HostRuntime) {
-    for words in NO_COMMANDS.lines() {
-        assert_run(&rt, words, PAYROLL, 2, USAGE, "");
+    for row in rows(&rt, NO_COMMANDS, "command") {
+        let command = row.field(&rt, "command");
+        assert_run(&rt, &command, PAYROLL, 2, USAGE, "");
     }
 }
 

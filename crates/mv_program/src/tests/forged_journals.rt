@@ -72,54 +72,61 @@ END 2
 ";
 
 const FORGED_POSTS: &str = "\
-10 ILLEGAL AT LINE 12|POST 16777228 = POSTED|POST 16777228 = WOKE 0
-11 JOURNAL LINE 13 KIND 2|END 2|END 02
+    | exit | note | event | forged |
+    | 10 | ILLEGAL AT LINE 12 | POST 16777228 = POSTED | POST 16777228 = WOKE 0 |
+    | 11 | JOURNAL LINE 13 KIND 2 | END 2 | END 02 |
 ";
 
 // Forgeries of the second journal: its task opens its element in another call, or its pause is given another code.
 const FORGED_PAUSE: &str = "\
-10 ILLEGAL AT LINE 14|2.0 P2 0|2.1 P2 0
-10 ILLEGAL AT LINE 20|GIVEN 0 1|GIVEN 5 1
+    | exit | note | event | forged |
+    | 10 | ILLEGAL AT LINE 14 | 2.0 P2 0 | 2.1 P2 0 |
+    | 10 | ILLEGAL AT LINE 20 | GIVEN 0 1 | GIVEN 5 1 |
 ";
 
 // The forgery of the pause alone, which is on this line in version 1 too.
-const FORGED_GIFT: &str = "10 ILLEGAL AT LINE 20|GIVEN 0 1|GIVEN 5 1\n";
+const FORGED_GIFT: &str = "\
+    | exit | note | event | forged |
+    | 10 | ILLEGAL AT LINE 20 | GIVEN 0 1 | GIVEN 5 1 |
+";
 
 // Forgeries of each event of the first journal: its place is one higher, or its reply is another; and at the end a number with
-// a leading zero. Each row begins with the line at which it is refused.
+// a leading zero.
 const FORGERIES: &str = "\
-10 ILLEGAL AT LINE 12|E0 0 POST 7 = POSTED|E0 1 POST 7 = POSTED
-10 ILLEGAL AT LINE 13|E2 0 POST 9 = POSTED|E2 1 POST 9 = POSTED
-10 ILLEGAL AT LINE 14|E0 1 ARM = COMPLETE 7|E0 2 ARM = COMPLETE 7
-10 ILLEGAL AT LINE 15|E1 0 ARM = ARMED|E1 1 ARM = ARMED
-10 ILLEGAL AT LINE 16|E2 1 ARM = COMPLETE 9|E2 2 ARM = COMPLETE 9
-10 ILLEGAL AT LINE 17|E0 2 SETTLE = COMPLETE 7|E0 3 SETTLE = COMPLETE 7
-10 ILLEGAL AT LINE 18|E1 1 SETTLE = OPEN|E1 2 SETTLE = OPEN
-10 ILLEGAL AT LINE 19|E2 2 SETTLE = COMPLETE 9|E2 3 SETTLE = COMPLETE 9
-10 ILLEGAL AT LINE 20|E1 2 TEST = WORD 0|E1 3 TEST = WORD 0
-10 ILLEGAL AT LINE 12|E0 0 POST 7 = POSTED|E0 0 POST 7 = WORD 1
-10 ILLEGAL AT LINE 13|E2 0 POST 9 = POSTED|E2 0 POST 9 = WORD 1
-10 ILLEGAL AT LINE 14|E0 1 ARM = COMPLETE 7|E0 1 ARM = WORD 1
-10 ILLEGAL AT LINE 15|E1 0 ARM = ARMED|E1 0 ARM = WORD 1
-10 ILLEGAL AT LINE 16|E2 1 ARM = COMPLETE 9|E2 1 ARM = WORD 1
-10 ILLEGAL AT LINE 17|E0 2 SETTLE = COMPLETE 7|E0 2 SETTLE = WORD 1
-10 ILLEGAL AT LINE 18|E1 1 SETTLE = OPEN|E1 1 SETTLE = WORD 1
-10 ILLEGAL AT LINE 19|E2 2 SETTLE = COMPLETE 9|E2 2 SETTLE = WORD 1
-10 ILLEGAL AT LINE 20|E1 2 TEST = WORD 0|E1 2 TEST = WORD 1
-11 JOURNAL LINE 21 KIND 2|END 9|END 09
+    | exit | note | event | forged |
+    | 10 | ILLEGAL AT LINE 12 | E0 0 POST 7 = POSTED | E0 1 POST 7 = POSTED |
+    | 10 | ILLEGAL AT LINE 13 | E2 0 POST 9 = POSTED | E2 1 POST 9 = POSTED |
+    | 10 | ILLEGAL AT LINE 14 | E0 1 ARM = COMPLETE 7 | E0 2 ARM = COMPLETE 7 |
+    | 10 | ILLEGAL AT LINE 15 | E1 0 ARM = ARMED | E1 1 ARM = ARMED |
+    | 10 | ILLEGAL AT LINE 16 | E2 1 ARM = COMPLETE 9 | E2 2 ARM = COMPLETE 9 |
+    | 10 | ILLEGAL AT LINE 17 | E0 2 SETTLE = COMPLETE 7 | E0 3 SETTLE = COMPLETE 7 |
+    | 10 | ILLEGAL AT LINE 18 | E1 1 SETTLE = OPEN | E1 2 SETTLE = OPEN |
+    | 10 | ILLEGAL AT LINE 19 | E2 2 SETTLE = COMPLETE 9 | E2 3 SETTLE = COMPLETE 9 |
+    | 10 | ILLEGAL AT LINE 20 | E1 2 TEST = WORD 0 | E1 3 TEST = WORD 0 |
+    | 10 | ILLEGAL AT LINE 12 | E0 0 POST 7 = POSTED | E0 0 POST 7 = WORD 1 |
+    | 10 | ILLEGAL AT LINE 13 | E2 0 POST 9 = POSTED | E2 0 POST 9 = WORD 1 |
+    | 10 | ILLEGAL AT LINE 14 | E0 1 ARM = COMPLETE 7 | E0 1 ARM = WORD 1 |
+    | 10 | ILLEGAL AT LINE 15 | E1 0 ARM = ARMED | E1 0 ARM = WORD 1 |
+    | 10 | ILLEGAL AT LINE 16 | E2 1 ARM = COMPLETE 9 | E2 1 ARM = WORD 1 |
+    | 10 | ILLEGAL AT LINE 17 | E0 2 SETTLE = COMPLETE 7 | E0 2 SETTLE = WORD 1 |
+    | 10 | ILLEGAL AT LINE 18 | E1 1 SETTLE = OPEN | E1 1 SETTLE = WORD 1 |
+    | 10 | ILLEGAL AT LINE 19 | E2 2 SETTLE = COMPLETE 9 | E2 2 SETTLE = WORD 1 |
+    | 10 | ILLEGAL AT LINE 20 | E1 2 TEST = WORD 0 | E1 2 TEST = WORD 1 |
+    | 11 | JOURNAL LINE 21 KIND 2 | END 9 | END 09 |
 ";
 
 // Forgeries of the call number of each event of the first journal: it is one higher.
 const MISNUMBERED: &str = "\
-10 ILLEGAL AT LINE 12|0.0 E0 0|0.1 E0 0
-10 ILLEGAL AT LINE 13|0.1 E2 0|0.2 E2 0
-10 ILLEGAL AT LINE 14|0.2 E0 1|0.3 E0 1
-10 ILLEGAL AT LINE 15|0.2 E1 0|0.3 E1 0
-10 ILLEGAL AT LINE 16|0.2 E2 1|0.3 E2 1
-10 ILLEGAL AT LINE 17|0.2 E0 2|0.3 E0 2
-10 ILLEGAL AT LINE 18|0.2 E1 1|0.3 E1 1
-10 ILLEGAL AT LINE 19|0.2 E2 2|0.3 E2 2
-10 ILLEGAL AT LINE 20|0.3 E1 2|0.4 E1 2
+    | exit | note | event | forged |
+    | 10 | ILLEGAL AT LINE 12 | 0.0 E0 0 | 0.1 E0 0 |
+    | 10 | ILLEGAL AT LINE 13 | 0.1 E2 0 | 0.2 E2 0 |
+    | 10 | ILLEGAL AT LINE 14 | 0.2 E0 1 | 0.3 E0 1 |
+    | 10 | ILLEGAL AT LINE 15 | 0.2 E1 0 | 0.3 E1 0 |
+    | 10 | ILLEGAL AT LINE 16 | 0.2 E2 1 | 0.3 E2 1 |
+    | 10 | ILLEGAL AT LINE 17 | 0.2 E0 2 | 0.3 E0 2 |
+    | 10 | ILLEGAL AT LINE 18 | 0.2 E1 1 | 0.3 E1 1 |
+    | 10 | ILLEGAL AT LINE 19 | 0.2 E2 2 | 0.3 E2 2 |
+    | 10 | ILLEGAL AT LINE 20 | 0.3 E1 2 | 0.4 E1 2 |
 ";
 
 // Returns a journal in version 1, without call numbers.
@@ -149,13 +156,26 @@ pub(crate) fn assert_forged<X: Abort + AllocGlobal + Threads + Wait + Clock + Sy
     journal: &str,
     forgeries: &str,
 ) {
-    for row in forgeries.lines() {
-        let (refused, said) = parted(rt, row, "|");
-        let (event, other) = parted(rt, said, "|");
-        let (exit, note) = parted(rt, refused, " ");
-        let forged = made(rt, journal.replace(rt.alloc(), event, other));
-        assert_refused(rt, &forged, number_of(rt, exit), note);
+    for row in rows(rt, forgeries, "exit | note | event | forged") {
+        assert_forgery(rt, journal, row);
     }
+}
+
+// Asserts that the journal is refused with this exit and this note if an event, or a part of one, is forged.
+fn assert_forgery<X: Abort + AllocGlobal + Threads + Wait + Clock + Sync>(
+    rt: &X,
+    journal: &str,
+    row: Row<'_>,
+) {
+    let event = row.field(rt, "event");
+    let forged = row.field(rt, "forged");
+    let text = made(
+        rt,
+        journal.replace(rt.alloc(), event.as_str(), forged.as_str()),
+    );
+    let exit = number_of(rt, &row.field(rt, "exit"));
+    let note = row.field(rt, "note");
+    assert_refused(rt, &text, exit, &note);
 }
 
 #[test]

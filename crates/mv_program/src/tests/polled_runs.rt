@@ -60,10 +60,15 @@ END 9
 ";
 
 // Asserts rows of decks, polled from seed 5.
-fn assert_polled<X: Abort + AllocGlobal + Threads + Wait + Clock + Sync>(rt: &X, rows: &str) {
-    let mut text = made(rt, rows.replace(rt.alloc(), "spool 1\n", "polled 1 5\n"));
-    text = made(rt, text.replace(rt.alloc(), "spool 2\n", "polled 2 5\n"));
-    text = made(rt, text.replace(rt.alloc(), "spool 8\n", "polled 8 5\n"));
+fn assert_polled<X: Abort + AllocGlobal + Threads + Wait + Clock + Sync>(rt: &X, table: &str) {
+    let mut text = made(rt, String::from_str(rt.alloc(), table));
+    for (on_threads, by_polls) in [
+        ("| spool 1 |", "| polled 1 5 |"),
+        ("| spool 2 |", "| polled 2 5 |"),
+        ("| spool 8 |", "| polled 8 5 |"),
+    ] {
+        text = made(rt, text.replace(rt.alloc(), on_threads, by_polls));
+    }
     assert_rows(rt, &text);
 }
 
