@@ -1,0 +1,4 @@
+-- run_round
+mod OneRound
+-- restore
+mod Writes
