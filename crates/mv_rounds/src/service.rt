@@ -72,6 +72,21 @@ pub trait Service {
 /// # Errors
 ///
 /// `NoMemory` if memory runs out in a round; no further round begins.
+///
+/// # Examples
+///
+/// From `crates/mv_server/src/rounds.rt`, whose service has the requests that are left and the answers so far:
+///
+/// ```
+/// let mut service = Requests {
+///     all: requests,
+///     rest: requests,
+///     round,
+///     answers: Vec::new(alloc),
+/// };
+/// run_rounds(rt, alloc, &mut service)?;
+/// Ok(service.answers)
+/// ```
 pub fn run_rounds<R: Threads + Wait + Clock + Sync, S: Service>(
     rt: &R,
     alloc: Global,

@@ -9,3 +9,5 @@ mod Waits
 -- serve, worked, serve_all
 mod Answers
 mod Closing
+-- begin, end
+mod PoolRounds

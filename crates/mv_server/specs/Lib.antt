@@ -2,3 +2,5 @@
 pub mod Pool
 -- what each task of the pool guarantees
 pub mod Right
+-- what is kept from one round to the next
+pub mod Rounds

@@ -46,7 +46,7 @@ pub fn answer_to(weeks: u32) -> u32
 
 // The workers are the callers from 0 on, and the server, which owns all blocks, is the last one.
 #[tactic(auto, using(crate::proofs::Pool::owners_exist, crate::proofs::Pool::budgets_fit))]
-fn pool_config(alloc: Global, requests: u32) -> Result<ValidConfig, NoMemory>
+pub(crate) fn pool_config(alloc: Global, requests: u32) -> Result<ValidConfig, NoMemory>
     requires few { requests ≤ requests_limit }
     ensures { IfOk result (λ config. config ≡ pool_setup requests) }
 {
@@ -176,8 +176,8 @@ fn serve<R: Wait + Clock>(
 // The work of all tasks: the workers answer, and the server, which is the task after them, hands out these requests and collects
 // the answers.
 #[derive(Drop)]
-struct Pool<'a> {
-    requests: &'a [u32],
+pub(crate) struct Pool<'a> {
+    pub requests: &'a [u32],
 }
 
 impl Work for Pool<'_> {
@@ -203,7 +203,7 @@ impl Work for Pool<'_> {
 }
 
 // An empty list for each task, with room for all answers; only the server fills its list.
-fn rooms_for(alloc: Global, requests: usize) -> Result<Vec<Vec<u32>>, NoMemory>
+pub(crate) fn rooms_for(alloc: Global, requests: usize) -> Result<Vec<Vec<u32>>, NoMemory>
     ensures count { IfOk result (λ rooms. length rooms.items ≡ workers + 1) }
     ensures room { IfOk result (λ rooms. AllByRecursion (HasRoom requests) rooms.items) }
 {
