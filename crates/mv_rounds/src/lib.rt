@@ -2,12 +2,12 @@
 //! numbers of the volumes from one round to the next.
 #![tactic(auto)]
 
-mod judging;
+mod judgement;
 mod round;
 mod service;
 mod volumes;
 
-pub use judging::judge;
+pub use judgement::judge;
 pub use round::{ClosedRound, Round};
 pub use service::{Service, run_rounds};
 pub use volumes::restore;

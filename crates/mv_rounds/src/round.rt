@@ -3,7 +3,7 @@
 ghost use Rattle.std.specs.Prelude.{◌≡◌, IfOk};
 ghost use Rattle.mv_rounds.specs.Round.{CanRun, IsRound};
 
-use crate::judging::judge;
+use crate::judgement::judge;
 use mv_attach::{Work, run_tasks};
 use mv_wait::{Closed, Listed, NoMemory, Station, ValidConfig};
 use std::alloc::Global;

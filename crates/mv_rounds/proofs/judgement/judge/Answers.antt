@@ -1,7 +1,7 @@
 use Rattle.std.proofs.Common.{◌≤◌, sym, ◌∙◌, subst}
 use Rattle.std.specs.Prelude.{All}
 use Rattle.mv_wait.specs.Prelude.{highest_place}
-use Rattle.mv_rounds.proofs.judging.judge.Goals as goal
+use Rattle.mv_rounds.proofs.judgement.judge.Goals as goal
 
 pub replay-requires : goal.replay-requires
 replay-requires c = record {
