@@ -11,3 +11,6 @@ pub use judgement::judge;
 pub use round::{ClosedRound, Round};
 pub use service::{Service, run_rounds};
 pub use volumes::restore;
+
+#[cfg(test)]
+mod tests;
